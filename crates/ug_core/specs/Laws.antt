@@ -19,6 +19,7 @@ use Rattle.ug_kernel.specs.Kernel.{Kernel, IsKernel}
 use Rattle.ug_kernel.specs.Quiet.{Quiet}
 use Rattle.ug_kernel.specs.Along.{Made, answered, Along, failures, AreNumbered, Rises}
 use Rattle.ug_kernel.specs.Tree.{Runs}
+use Rattle.ug_kernel.specs.declared.sysfs.Sysfs
 use Rattle.ug_audit.specs.declared.entry.Entry.{Entry}
 use Rattle.ug_audit.specs.declared.entry.Entry.TheVariants as entry
 use Rattle.ug_proto.specs.declared.reply.Reply.TheVariants as replies
@@ -30,9 +31,9 @@ use Rattle.ug_proto.specs.Requests.{request_read}
 use Rattle.ug_rule.specs.Faults.{kind_number}
 use Rattle.ug_rule.specs.Rules.{rule_read}
 use Rattle.ug_rule.specs.declared.fault.Fault.{Fault}
-use Rattle.ug_store.specs.Disk.{Disk}
 use Rattle.ug_store.specs.DiskCalls.{DiskCall, DiskTold}
 use Rattle.ug_store.specs.Store.{RunsDisk, TellsSaveFault}
+use Rattle.ug_store.specs.declared.disk.RuleDisk
 use Rattle.ug_table.specs.State.{State, Kept, with_kept}
 use Rattle.ug_table.specs.Laws.{Stand, Swept}
 use Rattle.ug_table.specs.Orders.{with_verdict, verdict_entry, ProbedOne, GoesAsOrder, OrderedOne}
@@ -332,49 +333,60 @@ abbrev pub TellsTried : Option Saved → ℕ → ℕ → Type 0
 TellsTried None before after = after ≡ before
 TellsTried (Some saved) before after = (before ≤ after) × TellsSaveFault saved before after
 
--- An event: on the disk a pending save, and what became of it; on the kernel, where the numbering of calls begins anew, and on the disk the
--- order from the state behind that; and on the kernel the sweep from the state behind the order. What a crash may leave of the rule file is
--- kept, and what was written to it can be read again.
-pub record HandlesEvent {S T : Type 0} (begins : S → S → Type 0) (gives : S → (call : Call) → Answer call → S → Type 0) (told : S → Option Kernel) (calls faults : S → ℕ) (keeps : T → (call : DiskCall) → DiskTold call → T → Type 0) (told_disk : T → Option Disk) (disk_faults : T → ℕ) (event : Event) (s : S) (o : T) (d : DaemonState) (t : S) (p : T) (e : DaemonState) : Type 0 where
-  pub tried : Option Saved
-  pub disk_tried : T
-  pub tries : RunsDisk keeps o (trying d) tried disk_tried
-  pub counted : TellsTried tried (disk_faults o) (disk_faults disk_tried)
-  pub start : S
-  pub begun_there : begins s start
-  pub became : Stored
-  pub middle : S
-  pub answered : DaemonState
-  pub answers : RunsAnswer gives keeps event start disk_tried (ready event tried d) became middle p answered
-  pub answers_law : Answers told event s (ready event tried d) became middle answered
-  pub written : WritesEvent event d became
-  pub saveable : IsSaveable d.sweep.judge.rules
-  pub saveable_after : IsSaveable e.sweep.judge.rules
-  pub counted_store : TellsStored became (disk_faults disk_tried) (disk_faults p)
-  pub runs : Runs gives middle (handling answered) e t
-  pub law : Handles told middle answered t e
-  pub faults_told : TellsEvent gives calls faults event start (ready event tried d) became middle answered t e
-  pub once : NamesOnceIn told middle answered t e
-  pub file : KeepsFile told_disk event tried became o d p e
+module _ {S T : Type 0} (sysfs : Sysfs.Ghosts S) (disk : RuleDisk.Ghosts T) where
+  open sysfs use {begins, gives, told, calls, faults}
+  open disk use {keeps, told as disk_told, faults as disk_faults}
 
--- An event with something between its stages, on the kernel's object, which that relation tells: behind the pending save, and behind the
--- order. The stages are those of an event, and what a crash may leave of the rule file is kept.
-pub record PassesEvent {S T : Type 0} (goes : S → T → S → Type 0) (begins : S → S → Type 0) (gives : S → (call : Call) → Answer call → S → Type 0) (keeps : T → (call : DiskCall) → DiskTold call → T → Type 0) (told_disk : T → Option Disk) (event : Event) (s : S) (o : T) (d : DaemonState) (t : S) (p : T) (e : DaemonState) : Type 0 where
-  pub tried : Option Saved
-  pub disk_tried : T
-  pub tries : RunsDisk keeps o (trying d) tried disk_tried
-  pub start : S
-  pub begun_there : begins s start
-  pub started : S
-  pub passes : goes start disk_tried started
-  pub became : Stored
-  pub middle : S
-  pub answered : DaemonState
-  pub answers : RunsAnswer gives keeps event started disk_tried (ready event tried d) became middle p answered
-  pub resumed : S
-  pub passes_on : goes middle p resumed
-  pub runs : Runs gives resumed (handling answered) e t
-  pub written : WritesEvent event d became
-  pub saveable : IsSaveable d.sweep.judge.rules
-  pub saveable_after : IsSaveable e.sweep.judge.rules
-  pub file : KeepsFile told_disk event tried became o d p e
+  -- An event: on the disk a pending save, and what became of it; on the kernel, where the
+  -- numbering of calls begins anew, and on the disk the order from the state behind that; and on
+  -- the kernel the sweep from the state behind the order. What a crash may leave of the rule file
+  -- is kept, and what was written to it can be read again.
+  pub record HandlesEvent (event : Event) (s : S) (o : T) (d : DaemonState)
+      (t : S) (p : T) (e : DaemonState) : Type 0 where
+    pub tried : Option Saved
+    pub disk_tried : T
+    pub tries : RunsDisk keeps o (trying d) tried disk_tried
+    pub counted : TellsTried tried (disk_faults o) (disk_faults disk_tried)
+    pub start : S
+    pub begun_there : begins s start
+    pub became : Stored
+    pub middle : S
+    pub answered : DaemonState
+    pub answers : RunsAnswer gives keeps event start disk_tried (ready event tried d)
+        became middle p answered
+    pub answers_law : Answers told event s (ready event tried d) became middle answered
+    pub written : WritesEvent event d became
+    pub saveable : IsSaveable d.sweep.judge.rules
+    pub saveable_after : IsSaveable e.sweep.judge.rules
+    pub counted_store : TellsStored became (disk_faults disk_tried) (disk_faults p)
+    pub runs : Runs gives middle (handling answered) e t
+    pub law : Handles told middle answered t e
+    pub faults_told : TellsEvent gives calls faults event start (ready event tried d)
+        became middle answered t e
+    pub once : NamesOnceIn told middle answered t e
+    pub file : KeepsFile disk_told event tried became o d p e
+
+  -- An event with something between its stages, on the kernel's object, which that relation tells:
+  -- behind the pending save, and behind the order. The stages are those of an event, and what a
+  -- crash may leave of the rule file is kept.
+  pub record PassesEvent (goes : S → T → S → Type 0) (event : Event) (s : S) (o : T)
+      (d : DaemonState) (t : S) (p : T) (e : DaemonState) : Type 0 where
+    pub tried : Option Saved
+    pub disk_tried : T
+    pub tries : RunsDisk keeps o (trying d) tried disk_tried
+    pub start : S
+    pub begun_there : begins s start
+    pub started : S
+    pub passes : goes start disk_tried started
+    pub became : Stored
+    pub middle : S
+    pub answered : DaemonState
+    pub answers : RunsAnswer gives keeps event started disk_tried (ready event tried d)
+        became middle p answered
+    pub resumed : S
+    pub passes_on : goes middle p resumed
+    pub runs : Runs gives resumed (handling answered) e t
+    pub written : WritesEvent event d became
+    pub saveable : IsSaveable d.sweep.judge.rules
+    pub saveable_after : IsSaveable e.sweep.judge.rules
+    pub file : KeepsFile disk_told event tried became o d p e

@@ -98,7 +98,7 @@ impl<'z, R: Rng> Daemon<'z, R> {
         panel: &mut Panel,
     )
         requires { IsTrue (has_numbers (daemon_of self.old) (Y.faults sysfs.old) (D.faults disk.old)) }
-        ensures handles { HandlesEvent Y.begins Y.gives Y.told Y.calls Y.faults D.keeps D.told D.faults
+        ensures handles { HandlesEvent Y.Sysfs D.RuleDisk
             event.now sysfs.old disk.old (daemon_of self.old) sysfs.new disk.new (daemon_of self.new) }
         ensures number { self.new.report.event ≡ self.old.next_event }
         ensures noted { NotesEntries self.new.report.entries.entries
@@ -129,7 +129,7 @@ impl<'z, R: Rng> Daemon<'z, R> {
         between: &mut B,
     )
         requires { IsTrue (has_numbers (daemon_of self.old) (Y.faults sysfs.old) (D.faults disk.old)) }
-        ensures passes { PassesEvent B.goes Y.begins Y.gives D.keeps D.told
+        ensures passes { PassesEvent Y.Sysfs D.RuleDisk B.goes
             event.now sysfs.old disk.old (daemon_of self.old) sysfs.new disk.new (daemon_of self.new) }
         ensures number { self.new.report.event ≡ self.old.next_event }
         ensures noted { NotesEntries self.new.report.entries.entries

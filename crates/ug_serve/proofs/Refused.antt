@@ -9,9 +9,9 @@ use Rattle.ug_types.specs.Principals.{Named, principal_of}
 use Rattle.ug_acl.specs.Acls.{Addition}
 use Rattle.ug_acl.specs.Pairs.{Pair}
 use Rattle.ug_acl.specs.Texts.{access_read}
-use Rattle.ug_types.specs.declared.verdict.Moment.{Moment}
 use Rattle.ug_types.specs.declared.rule.Rule.{Rule}
-use Rattle.ug_types.specs.Waits.{Waited}
+use Rattle.ug_types.specs.declared.waiter.Waiter
+use Rattle.ug_types.specs.declared.clock.Clock
 use Rattle.ug_rule.specs.Files.{file_read}
 use Rattle.ug_print.specs.RuleTexts.{rules_text_of}
 use Rattle.ug_conf.specs.Files.{FileStep, Read_at, Listed_at, Tree, text_at, names_at, conf_limit, Says, SaysText, SaysNames}
@@ -21,14 +21,14 @@ use Rattle.ug_conf.specs.declared.files.FileRead.TheVariants as file
 use Rattle.ug_conf.specs.declared.files.FolderRead.{FolderRead}
 use Rattle.ug_conf.specs.declared.files.FolderRead.TheVariants as found
 use Rattle.ug_conf.specs.declared.settings.Settings.{Settings}
-use Rattle.ug_store.specs.DiskCalls.{DiskCall, DiskTold, file_limit}
+use Rattle.ug_store.specs.DiskCalls.{file_limit}
 use Rattle.ug_store.specs.Disk.{Disk}
 use Rattle.ug_store.specs.Store.{RecoversFrom}
 use Rattle.ug_store.specs.declared.store.RecoverFault.{RecoverFault}
 use Rattle.ug_store.specs.declared.store.RecoverFault.TheVariants as recover
+use Rattle.ug_store.specs.declared.disk.RuleDisk
 use Rattle.ug_policy.specs.Rules.{Rules}
-use Rattle.ug_kernel.specs.Calls.{Call, Answer}
-use Rattle.ug_kernel.specs.Kernel.{Kernel}
+use Rattle.ug_kernel.specs.declared.sysfs.Sysfs
 use Rattle.ug_audit.specs.declared.entry.Entry.{Entry}
 use Rattle.ug_audit.specs.declared.entry.ConfigPart.TheVariants as part
 use Rattle.ug_core.specs.Event.{DaemonState}
@@ -40,7 +40,7 @@ use Rattle.ug_serve.specs.Causes.{refused_whole, refusal_of_rules, start_status}
 use Rattle.ug_serve.specs.Opening.{outset_of, SettingsIn, SettingsOf, Started, with_cause, Opens, Unread, Access_unread, Unaimed, From_rules}
 use Rattle.ug_serve.specs.Refusals.{settings_read, settings_of_text, refusal_of_grants, refusal_of_file, refusal_of_named, refusal_of_name, refusal_of_files, refusal_of_folder, refusal_of_read, refusal_of_rules_text, first_refusal, refusal_behind, refusal_of_texts, IsStatusFor, IsStatusByTexts}
 use Rattle.ug_serve.specs.declared.access.Access.{Access}
-use Rattle.ug_links.specs.declared.step.LinkStep.{LinkStep}
+use Rattle.ug_links.specs.declared.links.Links
 use Rattle.ug_serve.specs.Serving.{Objects, objects, first_world, ServesStarted, Listens_not, Listens, Serves, Bad_words, No_room, Not_started, Served}
 use Rattle.ug_serve.specs.Turns.{TurnEvent, Turned, turns_events, Core, TurnWorld, Turns, ServesTurns}
 use Rattle.ug_serve.proofs.Running.{AreHandled, turns_handled, cuts_turns}
@@ -259,9 +259,11 @@ status_for (Some c) why.Memory h = inr (inr (inl refl))
 status_for None why.DiskFailed h = λ e. omega (arith, e)
 status_for (Some c) why.DiskFailed h = inr (inr (inr (inl refl)))
 
-module _ {F Y D N W C : Type 0} (reads : F → FileStep → F → Type 0) (begins : Y → Y → Type 0) (gives : Y → (call : Call) → Answer call → Y → Type 0) (told : Y → Option Kernel) (calls faults : Y → ℕ)
-    (keeps : D → (call : DiskCall) → DiskTold call → D → Type 0) (disk_told : D → Option Disk) (disk_faults : D → ℕ) (aimed : D → List ℕ → Type 0) (links : N → LinkStep → N → Type 0) (waits : W → Waited → W → Type 0) (clocks : C → Moment → C → Type 0)
+module _ {F Y D N W C : Type 0} (reads : F → FileStep → F → Type 0) (sysfs : Sysfs.Ghosts Y)
+    (disk : RuleDisk.Ghosts D) (net : Links.Ghosts N) (wait : Waiter.Ghosts W) (ticks : Clock.Ghosts C)
     (files_told : F → Option Tree) (files_tell : (s : F) (step : FileStep) (t : F) (tree : Tree) → reads s step t → files_told t ≡ Some tree → (files_told s ≡ Some tree) × Says tree step) where
+  open disk use {told as disk_told}
+
   -- what is added tells no more than what was read
   added_told : (folder : List ℕ) (texts : Option NotStarted) (who : Named) (grants : Result (List Pair) NotStarted) (acl : List Addition) (r : Result (List Addition) NotStarted) → Told texts grants → AddsGrants reads folder who grants acl r → Told texts r
   added_told folder texts who (Ok pairs) acl (Ok more) told h = told
@@ -324,7 +326,7 @@ module _ {F Y D N W C : Type 0} (reads : F → FileStep → F → Type 0) (begin
       (back.0, users_told (refusal_of_folder tree at (names_at tree at)) users o.granted r (read.1 back.1) o.adds)
 
   opens_told : (path : List ℕ) (clock : ℕ → ℕ) (words : Stream) (f : F) (d : D) (entries : List Entry) (result : Result Started NotStarted) (g : F) (e : D) (tree : Tree) (n : Disk)
-      → Opens reads keeps disk_told disk_faults aimed path clock words f d entries result g e → files_told g ≡ Some tree → disk_told e ≡ Some n
+      → Opens reads disk path clock words f d entries result g e → files_told g ≡ Some tree → disk_told e ≡ Some n
       → (m : Disk) × (disk_told d ≡ Some m) × Told (refusal_of_texts tree m.text path) result
   opens_told path clock words f d _ _ _ _ tree n (Unread cause g r) is on =
       let says = files_tell f (Read_at path r.answer) g tree r.read is in
@@ -346,27 +348,27 @@ module _ {F Y D N W C : Type 0} (reads : F → FileStep → F → Type 0) (begin
       let back = starts.loads.law n on in
       let rules = from_told (refusal_of_rules_text back.0.text) (outset_of settings opened.acl clock words) opened.principals starts.loaded result (after_told back.0.text starts.loads.read starts.loaded back.2.file starts.loads.starts) starts.starts in (
         back.0,
-        sym aim.disk.same ∙ back.1,
+        sym aim.same_disk.same ∙ back.1,
         subst (λ (x : Result Settings NotStarted). Told (refusal_behind tree back.0.text x) (with_cause opened.principals result)) (sym read)
             (subst (λ (x : Option NotStarted). Told (first_refusal x (refusal_of_rules_text back.0.text)) (with_cause opened.principals result)) (sym access.1) rules),
       )
 
-  handled_disk : (c : Core Y D) (xs : List TurnEvent) (d : Core Y D) (n : Disk) → AreHandled begins gives told calls faults keeps disk_told disk_faults c xs d → disk_told d.disk ≡ Some n → (m : Disk) × (disk_told c.disk ≡ Some m)
+  handled_disk : (c : Core Y D) (xs : List TurnEvent) (d : Core Y D) (n : Disk) → AreHandled sysfs disk c xs d → disk_told d.disk ≡ Some n → (m : Disk) × (disk_told c.disk ≡ Some m)
   handled_disk c [] d n h is = (n, ap (λ (x : Core Y D). disk_told x.disk) (sym h) ∙ is)
   handled_disk c (x ∷ xs) d n h is =
       let later = handled_disk h.0 xs d n h.2 is in
       let now = h.1.handled.file later.0 later.1 in
       (now.0, now.1)
 
-  turns_disk : (s : TurnWorld Y D N W C) (turns : List Turned) (t : TurnWorld Y D N W C) (n : Disk) → Turns begins gives told calls faults keeps disk_told disk_faults links waits clocks s turns t → disk_told t.core.disk ≡ Some n → (m : Disk) × (disk_told s.core.disk ≡ Some m)
-  turns_disk s turns t n h is = handled_disk s.core (turns_events turns) t.core n (turns_handled begins gives told calls faults keeps disk_told disk_faults links waits clocks s turns t h) is
+  turns_disk : (s : TurnWorld Y D N W C) (turns : List Turned) (t : TurnWorld Y D N W C) (n : Disk) → Turns sysfs disk net wait ticks s turns t → disk_told t.core.disk ≡ Some n → (m : Disk) × (disk_told s.core.disk ≡ Some m)
+  turns_disk s turns t n h is = handled_disk s.core (turns_events turns) t.core n (turns_handled sysfs disk net wait ticks s turns t h) is
 
-  serves_disk : (k : ℕ) (s : TurnWorld Y D N W C) (made : List Turned) (ended : TurnEnd) (t : TurnWorld Y D N W C) (n : Disk) → ServesTurns begins gives told calls faults keeps disk_told disk_faults links waits clocks k s made ended t → disk_told t.core.disk ≡ Some n → (m : Disk) × (disk_told s.core.disk ≡ Some m)
+  serves_disk : (k : ℕ) (s : TurnWorld Y D N W C) (made : List Turned) (ended : TurnEnd) (t : TurnWorld Y D N W C) (n : Disk) → ServesTurns sysfs disk net wait ticks k s made ended t → disk_told t.core.disk ≡ Some n → (m : Disk) × (disk_told s.core.disk ≡ Some m)
   serves_disk k s made end.Done t n h is = turns_disk s made t n h.2 is
-  serves_disk k s made end.Numbers t n h is = turns_disk s made t n (cuts_turns begins gives told calls faults keeps disk_told disk_faults links waits clocks k s made t h) is
+  serves_disk k s made end.Numbers t n h is = turns_disk s made t n (cuts_turns sysfs disk net wait ticks k s made t h) is
   serves_disk k s made end.WaitFailed t n h is = turns_disk s made h.0 n h.1.2 (ap (λ (x : TurnWorld Y D N W C). disk_told x.core.disk) (sym h.2.same) ∙ is)
 
-  started_disk : (k : ℕ) (c : Started) (s : Objects Y D N W C) (made : List Turned) (status : ℕ) (t : Objects Y D N W C) (n : Disk) → ServesStarted begins gives told calls faults keeps disk_told disk_faults links waits clocks k c s made status t → disk_told t.disk ≡ Some n → (m : Disk) × (disk_told s.disk ≡ Some m)
+  started_disk : (k : ℕ) (c : Started) (s : Objects Y D N W C) (made : List Turned) (status : ℕ) (t : Objects Y D N W C) (n : Disk) → ServesStarted sysfs disk net wait ticks k c s made status t → disk_told t.disk ≡ Some n → (m : Disk) × (disk_told s.disk ≡ Some m)
   started_disk k c s _ _ _ n (Listens_not steps fault l path makes) is = (n, is)
   started_disk k c s _ _ _ n (Listens steps l made ended w path makes serves) is = serves_disk k (first_world c l s) made ended w n serves is
 
@@ -374,7 +376,7 @@ module _ {F Y D N W C : Type 0} (reads : F → FileStep → F → Type 0) (begin
   same_path p path e = cc
 
   pub status_told : (turns : ℕ) (clock : ℕ → ℕ) (words : Stream) (f : F) (s : Objects Y D N W C) (path : Option (List ℕ)) (journal : List Entry) (made : List Turned) (status : ℕ) (g : F) (t : Objects Y D N W C)
-      → Serves reads begins gives told calls faults keeps disk_told disk_faults aimed links waits clocks turns clock words f s path journal made status g t
+      → Serves reads sysfs disk net wait ticks turns clock words f s path journal made status g t
       → IsStatusByTexts files_told disk_told path s.disk status g t.disk
   status_told turns clock words f s _ _ _ _ _ _ Bad_words = λ at tree n e is on. let no : ⊥ = cc in absurd no
   status_told turns clock words f s _ _ _ _ _ _ (No_room path) = λ at tree n e is on. (n, on, status_for (refusal_of_texts tree n.text at) why.Memory tt)
@@ -388,4 +390,4 @@ module _ {F Y D N W C : Type 0} (reads : F → FileStep → F → Type 0) (begin
       let back = started_disk turns c after made status t n serves on in
       let told_so = opens_told path clock words f s.disk entries (Ok c) g d tree back.0 opens is back.1 in
       let none = ap (refusal_of_texts tree told_so.0.text) (sym (same_path path at p)) ∙ told_so.2 in
-      (told_so.0, told_so.1, subst (λ (x : Option NotStarted). IsStatusFor x status) (sym none) (not_three status (started_status begins gives told calls faults keeps disk_told disk_faults links waits clocks turns c after made status t serves)))
+      (told_so.0, told_so.1, subst (λ (x : Option NotStarted). IsStatusFor x status) (sym none) (not_three status (started_status sysfs disk net wait ticks turns c after made status t serves)))

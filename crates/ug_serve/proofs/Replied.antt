@@ -1,13 +1,12 @@
 -- Each order leaves a reply.
+use Rattle.ug_kernel.specs.declared.sysfs.Sysfs
+use Rattle.ug_store.specs.declared.disk.RuleDisk
 use Rattle.std.proofs.Common.{◌≡◌, ℕ, Bool, List, Option, IsSome, is_some, refl, sym, ap, ◌∙◌, subst}
 use Rattle.ug_types.specs.Principals.{Named}
 use Rattle.ug_types.specs.declared.verdict.Moment.{Moment}
 use Rattle.ug_kernel.specs.Calls.{Call, Answer}
-use Rattle.ug_kernel.specs.Kernel.{Kernel}
 use Rattle.ug_kernel.specs.Tree.{Prog, Return, Ask, Room, Runs, then}
 use Rattle.ug_proto.specs.declared.reply.Reply.{Reply}
-use Rattle.ug_store.specs.Disk.{Disk}
-use Rattle.ug_store.specs.DiskCalls.{DiskCall, DiskTold}
 use Rattle.ug_table.specs.Orders.{ordering}
 use Rattle.ug_table.specs.State.{kept_of}
 use Rattle.ug_table.specs.Sweep.{sweeping}
@@ -54,8 +53,10 @@ sweep_keeps : (d : DaemonState) → Ends (SameReply d) (handling d)
 unfolding handling
 sweep_keeps d = ends_then (SameReply d) (sweeping policy_answer policy_later d.sweep) (ended d) (λ v. refl)
 
-module _ {Y D : Type 0} (begins : Y → Y → Type 0) (gives : Y → (call : Call) → Answer call → Y → Type 0) (told : Y → Option Kernel) (calls faults : Y → ℕ) (keeps : D → (call : DiskCall) → DiskTold call → D → Type 0) (disk_told : D → Option Disk) (disk_faults : D → ℕ) where
-  event_replies : (moment : Moment) (who : Named) (line : List ℕ) (y : Y) (o : D) (d : DaemonState) (z : Y) (p : D) (e : DaemonState) → HandlesEvent begins gives told calls faults keeps disk_told disk_faults (Order moment who line) y o d z p e → IsSome e.reply
+module _ {Y D : Type 0} (sysfs : Sysfs.Ghosts Y) (disk : RuleDisk.Ghosts D) where
+  open sysfs use {gives}
+
+  event_replies : (moment : Moment) (who : Named) (line : List ℕ) (y : Y) (o : D) (d : DaemonState) (z : Y) (p : D) (e : DaemonState) → HandlesEvent sysfs disk (Order moment who line) y o d z p e → IsSome e.reply
   event_replies moment who line y o d z p e h =
       let now : DaemonState = stored_with h.became h.answers.choice.change (ready (Order moment who line) h.tried d) in
       let done : Deed = deed_after h.became h.answers.choice.deed in
@@ -63,7 +64,7 @@ module _ {Y D : Type 0} (begins : Y → Y → Type 0) (gives : Y → (call : Cal
       let same : e.reply ≡ h.answered.reply = run_ends gives (SameReply h.answered) h.middle (handling h.answered) e z h.runs (sweep_keeps h.answered) in
       ap (λ (x : Option Reply). is_some x) same ∙ replied
 
-  pub order_leaves : (moment : Moment) (who : Named) (line : List ℕ) (c : Core Y D) (e : TurnEvent) (d : Core Y D) → e.event ≡ Order moment who line → IsHandled begins gives told calls faults keeps disk_told disk_faults c e d → IsSome e.after.reply
+  pub order_leaves : (moment : Moment) (who : Named) (line : List ℕ) (c : Core Y D) (e : TurnEvent) (d : Core Y D) → e.event ≡ Order moment who line → IsHandled sysfs disk c e d → IsSome e.after.reply
   order_leaves moment who line c e d is h =
-      let handled = subst (λ (x : Event). HandlesEvent begins gives told calls faults keeps disk_told disk_faults x c.sysfs c.disk c.daemon d.sysfs d.disk d.daemon) is h.handled in
+      let handled = subst (λ (x : Event). HandlesEvent sysfs disk x c.sysfs c.disk c.daemon d.sysfs d.disk d.daemon) is h.handled in
       subst (λ (x : DaemonState). IsSome x.reply) h.after (event_replies moment who line c.sysfs c.disk c.daemon d.sysfs d.disk d.daemon handled)

@@ -6,9 +6,9 @@ use Rattle.ug_types.specs.declared.verdict.Moment.{Moment}
 use Rattle.ug_types.specs.declared.waiter.Ready.{Ready}
 use Rattle.ug_types.specs.Told.{GrowsBy}
 use Rattle.ug_types.specs.Waits.{Waited, Tokens, tokens_of}
-use Rattle.ug_kernel.specs.Calls.{Call, Answer}
 use Rattle.ug_kernel.specs.Kernel.{Kernel, IsKernel}
 use Rattle.ug_kernel.proofs.Stayed.{unmoving}
+use Rattle.ug_kernel.specs.declared.sysfs.Sysfs
 use Rattle.ug_audit.specs.declared.entry.Entry.{Entry}
 use Rattle.ug_table.specs.State.{State}
 use Rattle.ug_table.specs.Laws.{Stand}
@@ -25,8 +25,10 @@ use Rattle.ug_core.specs.declared.storing.Stored.{Stored}
 use Rattle.ug_core.specs.Chain.{Happened, Chain, StaysOnDisk, journal}
 use Rattle.ug_core.proofs.Answered.{answered_stands}
 use Rattle.ug_store.specs.Disk.{Disk}
-use Rattle.ug_store.specs.DiskCalls.{DiskCall, DiskTold}
+use Rattle.ug_store.specs.declared.disk.RuleDisk
 use Rattle.ug_types.specs.declared.saved.Saved.{Saved}
+use Rattle.ug_types.specs.declared.waiter.Waiter
+use Rattle.ug_types.specs.declared.clock.Clock
 use Rattle.ug_core.proofs.Chained.{is_run}
 use Rattle.ug_audit.specs.Noting.{NotesEntries, without_drops}
 use Rattle.ug_audit.proofs.Noting.{notes_on, drops_append}
@@ -35,6 +37,7 @@ use Rattle.ug_links.specs.Steps.{TellsStep}
 use Rattle.ug_links.specs.Talk.{TellsSteps}
 use Rattle.ug_links.proofs.Told.{made_told}
 use Rattle.ug_links.proofs.Extending.{extends_nil, extends_more}
+use Rattle.ug_links.specs.declared.links.Links
 use Rattle.ug_sessions.specs.States.{ServerState}
 use Rattle.ug_serve.specs.Turns.{TurnEvent, Turned, turns_events, events_entries, turns_entries, AreWhole, Core, CoreAndServer, with_server, TurnWorld, IsHandled, AreOrders, ServesOrders, Events, Sweeps, Sweeps_not, Serves, Serves_not, Sends, IsTurn, Turns, EndsTurn, CutsTurns, ServesTurns}
 use Rattle.ug_serve.specs.declared.turn.TurnEnd.{TurnEnd}
@@ -87,29 +90,32 @@ whole_one : (turns : List Turned) (turn : Turned) → AreWhole turns → turn.wh
 whole_one [] turn h e = (e, tt)
 whole_one (first ∷ turns) turn h e = (h.0, whole_one turns turn h.1 e)
 
-module _ {Y D : Type 0} (begins : Y → Y → Type 0) (gives : Y → (call : Call) → Answer call → Y → Type 0) (told : Y → Option Kernel) (calls faults : Y → ℕ) (keeps : D → (call : DiskCall) → DiskTold call → D → Type 0) (disk_told : D → Option Disk) (disk_faults : D → ℕ) where
+module _ {Y D : Type 0} (sysfs : Sysfs.Ghosts Y) (disk : RuleDisk.Ghosts D) where
+  open sysfs use {told}
+  open disk use {told as disk_told}
+
   -- events one after another, whatever is put to sessions between them
 
   abbrev pub AreHandled : Core Y D → List TurnEvent → Core Y D → Type 0
   AreHandled c [] d = d ≡ c
-  AreHandled c (x ∷ xs) d = (m : Core Y D) × IsHandled begins gives told calls faults keeps disk_told disk_faults c x m × AreHandled m xs d
+  AreHandled c (x ∷ xs) d = (m : Core Y D) × IsHandled sysfs disk c x m × AreHandled m xs d
 
   handled_both : (c : Core Y D) (xs ys : List TurnEvent) (m d : Core Y D) → AreHandled c xs m → AreHandled m ys d → AreHandled c (xs ++ ys) d
   handled_both c [] ys m d h k = subst (λ (x : Core Y D). AreHandled x ys d) h k
   handled_both c (x ∷ xs) ys m d h k = (h.0, h.1, handled_both h.0 xs ys m d h.2 k)
 
-  handled_behind : (c a : Core Y D) (x : TurnEvent) (m : Core Y D) → c ≡ a → IsHandled begins gives told calls faults keeps disk_told disk_faults c x m → IsHandled begins gives told calls faults keeps disk_told disk_faults a x m
-  handled_behind c a x m e h = subst (λ (y : Core Y D). IsHandled begins gives told calls faults keeps disk_told disk_faults y x m) e h
+  handled_behind : (c a : Core Y D) (x : TurnEvent) (m : Core Y D) → c ≡ a → IsHandled sysfs disk c x m → IsHandled sysfs disk a x m
+  handled_behind c a x m e h = subst (λ (y : Core Y D). IsHandled sysfs disk y x m) e h
 
-  orders_handled : (moment : Moment) (a : CoreAndServer Y D) (xs : List TurnEvent) (b : CoreAndServer Y D) → AreOrders begins gives told calls faults keeps disk_told disk_faults moment a xs b → AreHandled a.core xs b.core
+  orders_handled : (moment : Moment) (a : CoreAndServer Y D) (xs : List TurnEvent) (b : CoreAndServer Y D) → AreOrders sysfs disk moment a xs b → AreHandled a.core xs b.core
   orders_handled moment a [] b h = ap (λ (s : CoreAndServer Y D). s.core) h
   orders_handled moment a (x ∷ xs) b h = (h.0.core, handled_behind h.1.handed.core a.core x h.0.core h.1.hands.0 h.1.handled, orders_handled moment h.0 xs b h.2)
 
-  rest_handled : (moment : Moment) (a : CoreAndServer Y D) (xs : List TurnEvent) (whole : Bool) (b : CoreAndServer Y D) → ServesOrders begins gives told calls faults keeps disk_told disk_faults moment a xs whole b → AreHandled a.core xs b.core
+  rest_handled : (moment : Moment) (a : CoreAndServer Y D) (xs : List TurnEvent) (whole : Bool) (b : CoreAndServer Y D) → ServesOrders sysfs disk moment a xs whole b → AreHandled a.core xs b.core
   rest_handled moment a xs true b h = subst (λ (c : Core Y D). AreHandled a.core xs c) (sym h.2.0) (orders_handled moment a xs h.0 h.1)
   rest_handled moment a xs false b h = subst (λ (c : Core Y D). AreHandled a.core xs c) (sym h.3.0) (orders_handled moment a xs h.0 h.2)
 
-  events_handled : (moment : Moment) (a : CoreAndServer Y D) (xs : List TurnEvent) (whole : Bool) (b : CoreAndServer Y D) → Events begins gives told calls faults keeps disk_told disk_faults moment a xs whole b → AreHandled a.core xs b.core
+  events_handled : (moment : Moment) (a : CoreAndServer Y D) (xs : List TurnEvent) (whole : Bool) (b : CoreAndServer Y D) → Events sysfs disk moment a xs whole b → AreHandled a.core xs b.core
   events_handled moment a _ _ _ (Sweeps e b h) = (b.core, handled_behind h.passed.core a.core e b.core h.hands.0 h.handled, refl)
   events_handled moment a _ _ _ (Sweeps_not b h r) = h.0
   events_handled moment a _ _ _ (Serves e m es whole b h k) = (m.core, handled_behind h.handed.core a.core e m.core h.hands.0 h.handled, rest_handled moment m es whole b k)
@@ -145,17 +151,21 @@ module _ {Y D : Type 0} (begins : Y → Y → Type 0) (gives : Y → (call : Cal
             (later.2 handled.law.fair.sound (stands_after swept.0 h.1.handled.answered later.0 m.daemon handled)),
       )
 
-  module _ {N W C : Type 0} (links : N → LinkStep → N → Type 0) (waits : W → Waited → W → Type 0) (clocks : C → Moment → C → Type 0) where
+  module _ {N W C : Type 0} (net : Links.Ghosts N) (wait : Waiter.Ghosts W) (ticks : Clock.Ghosts C) where
+    open net use {gives as links, told as links_told}
+    open wait use {gives as waits, told as waiter_told}
+    open ticks use {gives as clocks, told as clock_told}
+
     abbrev Are : TurnWorld Y D N W C → List Turned → TurnWorld Y D N W C → Type 0
-    Are s turns t = Turns begins gives told calls faults keeps disk_told disk_faults links waits clocks s turns t
+    Are s turns t = Turns sysfs disk net wait ticks s turns t
 
     -- one turn more
 
-    pub turns_more : (s : TurnWorld Y D N W C) (turns : List Turned) (t : TurnWorld Y D N W C) (turn : Turned) (u : TurnWorld Y D N W C) → Are s turns t → IsTurn begins gives told calls faults keeps disk_told disk_faults links waits clocks t turn u → Are s (turns ++ turn ∷ []) u
-    turns_more s [] t turn u h k = (u, subst (λ (x : TurnWorld Y D N W C). IsTurn begins gives told calls faults keeps disk_told disk_faults links waits clocks x turn u) h k, refl)
+    pub turns_more : (s : TurnWorld Y D N W C) (turns : List Turned) (t : TurnWorld Y D N W C) (turn : Turned) (u : TurnWorld Y D N W C) → Are s turns t → IsTurn sysfs disk net wait ticks t turn u → Are s (turns ++ turn ∷ []) u
+    turns_more s [] t turn u h k = (u, subst (λ (x : TurnWorld Y D N W C). IsTurn sysfs disk net wait ticks x turn u) h k, refl)
     turns_more s (first ∷ turns) t turn u h k = (h.0, h.1, turns_more h.0 turns t turn u h.2 k)
 
-    pub turns_one : (n : ℕ) (s t u : TurnWorld Y D N W C) → (made : List Turned) × (length made ≡ n) × AreWhole made × Are s made t → EndsTurn begins gives told calls faults keeps disk_told disk_faults links waits clocks t end.Done u → (made : List Turned) × (length made ≡ n + 1) × AreWhole made × Are s made u
+    pub turns_one : (n : ℕ) (s t u : TurnWorld Y D N W C) → (made : List Turned) × (length made ≡ n) × AreWhole made × Are s made t → EndsTurn sysfs disk net wait ticks t end.Done u → (made : List Turned) × (length made ≡ n + 1) × AreWhole made × Are s made u
     turns_one n s t u so one = (
       so.0 ++ one.0 ∷ [],
       length-append so.0 (one.0 ∷ []) ∙ ap (λ (k : ℕ). k + 1) so.1,
@@ -164,7 +174,7 @@ module _ {Y D : Type 0} (begins : Y → Y → Type 0) (gives : Y → (call : Cal
     )
 
     -- the next one is cut
-    pub turns_cut : (n : ℕ) (s t u : TurnWorld Y D N W C) (made : List Turned) → length made < n → AreWhole made → Are s made t → EndsTurn begins gives told calls faults keeps disk_told disk_faults links waits clocks t end.Numbers u → (all : List Turned) × CutsTurns begins gives told calls faults keeps disk_told disk_faults links waits clocks n s all u
+    pub turns_cut : (n : ℕ) (s t u : TurnWorld Y D N W C) (made : List Turned) → length made < n → AreWhole made → Are s made t → EndsTurn sysfs disk net wait ticks t end.Numbers u → (all : List Turned) × CutsTurns sysfs disk net wait ticks n s all u
     turns_cut n s t u made few whole are (inl h) = (made, inl (t, (few, whole, are), h))
     turns_cut n s t u made few whole are (inr h) = (made ++ h.0 ∷ [], inr (t, made, h.0, refl, (few, whole, are), h.1, h.2))
 
@@ -178,17 +188,16 @@ module _ {Y D : Type 0} (begins : Y → Y → Type 0) (gives : Y → (call : Cal
     pub turns_noted : (s : TurnWorld Y D N W C) (turns : List Turned) (t : TurnWorld Y D N W C) → Are s turns t → NotesEntries (turns_entries turns) s.core.members t.core.members
     turns_noted s turns t h = events_noted s.core (turns_events turns) t.core (turns_handled s turns t h)
 
-    pub cuts_turns : (n : ℕ) (s : TurnWorld Y D N W C) (turns : List Turned) (t : TurnWorld Y D N W C) → CutsTurns begins gives told calls faults keeps disk_told disk_faults links waits clocks n s turns t → Are s turns t
+    pub cuts_turns : (n : ℕ) (s : TurnWorld Y D N W C) (turns : List Turned) (t : TurnWorld Y D N W C) → CutsTurns sysfs disk net wait ticks n s turns t → Are s turns t
     cuts_turns n s turns t (inl h) = subst (λ (x : TurnWorld Y D N W C). Are s turns x) (sym h.2.same) h.1.2
     cuts_turns n s turns t (inr h) = subst (λ (l : List Turned). Are s l t) (sym h.3) (turns_more s h.1 h.0 h.2 t h.4.2 h.5)
 
-    pub serves_noted : (n : ℕ) (s : TurnWorld Y D N W C) (made : List Turned) (ended : TurnEnd) (t : TurnWorld Y D N W C) → ServesTurns begins gives told calls faults keeps disk_told disk_faults links waits clocks n s made ended t → NotesEntries (turns_entries made) s.core.members t.core.members
+    pub serves_noted : (n : ℕ) (s : TurnWorld Y D N W C) (made : List Turned) (ended : TurnEnd) (t : TurnWorld Y D N W C) → ServesTurns sysfs disk net wait ticks n s made ended t → NotesEntries (turns_entries made) s.core.members t.core.members
     serves_noted n s made end.Done t h = turns_noted s made t h.2
     serves_noted n s made end.Numbers t h = turns_noted s made t (cuts_turns n s made t h)
     serves_noted n s made end.WaitFailed t h = subst (λ (x : TurnWorld Y D N W C). NotesEntries (turns_entries made) s.core.members x.core.members) (sym h.2.same) (turns_noted s made h.0 h.1.2)
 
-    module _ (links_told : N → Option (List LinkStep)) (waiter_told : W → Option (List (List Ready))) (clock_told : C → Option (List Moment))
-        (links_tell : (s : N) (step : LinkStep) (t : N) (after : List LinkStep) → links s step t → links_told t ≡ Some after → TellsStep (links_told s) step after)
+    module _ (links_tell : (s : N) (step : LinkStep) (t : N) (after : List LinkStep) → links s step t → links_told t ≡ Some after → TellsStep (links_told s) step after)
         (waiter_tells : (s : W) (waited : Waited) (t : W) (after : List (List Ready)) → waits s waited t → waiter_told t ≡ Some after → GrowsBy (waiter_told s) (tokens_of waited) after)
         (clock_tells : (s : C) (moment : Moment) (t : C) (after : List Moment) → clocks s moment t → clock_told t ≡ Some after → GrowsBy (clock_told s) (moment ∷ []) after) where
       tokens_told : (s : TurnWorld Y D N W C) (turns : List Turned) (t : TurnWorld Y D N W C) (after : List (List Ready)) → Are s turns t → waiter_told t.waiter ≡ Some after → GrowsBy (waiter_told s.waiter) (turns_tokens turns) after
@@ -205,12 +214,12 @@ module _ {Y D : Type 0} (begins : Y → Y → Type 0) (gives : Y → (call : Cal
 
       -- the writes of a turn, and what it did before
 
-      sends_told : (whole : Bool) (steps : List LinkStep) (v : ServerState) (l : N) (u : ServerState) (m : N) (after : List LinkStep) → Sends begins gives told calls faults keeps disk_told disk_faults links waits clocks whole steps v l u m → links_told m ≡ Some after → TellsSteps (links_told l) steps after
+      sends_told : (whole : Bool) (steps : List LinkStep) (v : ServerState) (l : N) (u : ServerState) (m : N) (after : List LinkStep) → Sends sysfs disk net wait ticks whole steps v l u m → links_told m ≡ Some after → TellsSteps (links_told l) steps after
       sends_told true steps v l u m after h is = made_told links links_told links_tell l steps m after h.2 is
       sends_told false steps v l u m after h is =
           subst (λ (x : List LinkStep). TellsSteps (links_told l) x after) (sym h.0) (extends_nil (links_told l) after (ap links_told (sym h.2) ∙ is))
 
-      turn_told : (s : TurnWorld Y D N W C) (turn : Turned) (t : TurnWorld Y D N W C) (after : List LinkStep) → IsTurn begins gives told calls faults keeps disk_told disk_faults links waits clocks s turn t → links_told t.links ≡ Some after → TellsSteps (links_told s.links) (turn.comes ++ turn.sends) after
+      turn_told : (s : TurnWorld Y D N W C) (turn : Turned) (t : TurnWorld Y D N W C) (after : List LinkStep) → IsTurn sysfs disk net wait ticks s turn t → links_told t.links ≡ Some after → TellsSteps (links_told s.links) (turn.comes ++ turn.sends) after
       turn_told s turn t after h is =
           let sent = sends_told turn.whole turn.sends h.served h.came_links t.server t.links after h.sends is in
           extends_more (links_told s.links) (links_told h.came_links) turn.comes turn.sends sent.0 after sent.1 (made_told links links_told links_tell s.links turn.comes h.came_links sent.0 h.comes_made sent.1) sent
@@ -232,7 +241,7 @@ module _ {Y D : Type 0} (begins : Y → Y → Type 0) (gives : Y → (call : Cal
                 record { happened = chain.hs; events = chain.events_are; entries = chain.entries_are; chain = chain.chain; run = is_run policy hub first c.0 (disk_told s.core.disk) s.core.daemon chain.hs l (disk_told t.core.disk) t.core.daemon started chain.chain; readable = chain.readable },
           )
 
-      pub turns_tell : TurnsTell begins gives told calls faults keeps disk_told disk_faults links waits clocks links_told waiter_told clock_told
+      pub turns_tell : TurnsTell sysfs disk net wait ticks
       turns_tell policy hub first s turns t started h = record {
         run = λ l is. run_told policy hub first s turns t l started h is;
         calls = λ after is. calls_told s turns t after h is;

@@ -4,20 +4,20 @@ use Rattle.std.specs.List.{flat_map}
 use Rattle.ug_types.specs.declared.access.Section.{Section}
 use Rattle.ug_types.specs.declared.verdict.Moment.{Moment}
 use Rattle.ug_types.specs.declared.waiter.LinkId.{LinkId}
-use Rattle.ug_types.specs.Waits.{Waited}
+use Rattle.ug_types.specs.declared.waiter.Waiter
+use Rattle.ug_types.specs.declared.clock.Clock
 use Rattle.ug_acl.specs.Acls.{Addition}
 use Rattle.ug_audit.specs.declared.entry.Entry.{Entry}
 use Rattle.ug_proto.specs.declared.reply.Reply.{Reply}
 use Rattle.ug_proto.specs.Replies.{reply_text}
-use Rattle.ug_kernel.specs.Calls.{Call, Answer}
-use Rattle.ug_kernel.specs.Kernel.{Kernel}
-use Rattle.ug_store.specs.Disk.{Disk}
-use Rattle.ug_store.specs.DiskCalls.{DiskCall, DiskTold}
+use Rattle.ug_kernel.specs.declared.sysfs.Sysfs
+use Rattle.ug_store.specs.declared.disk.RuleDisk
 use Rattle.ug_core.specs.Event.{DaemonState}
 use Rattle.ug_core.specs.declared.daemon.Event.TheVariants.{Order}
 use Rattle.ug_links.specs.declared.step.LinkStep.{LinkStep}
 use Rattle.ug_links.specs.Steps.{ids_end}
 use Rattle.ug_links.specs.Talk.{AreSteps}
+use Rattle.ug_links.specs.declared.links.Links
 use Rattle.ug_sessions.specs.declared.session.Session.{Session}
 use Rattle.ug_sessions.specs.Answering.{HandsFirst, is_due, may_listen}
 use Rattle.ug_sessions.specs.Due.{Said, Answered, Watched, Noticed, Overlong, overlong_all}
@@ -153,8 +153,8 @@ have_access : (acl : List Addition) (es fs : List TurnEvent) → HaveAccess acl 
 have_access acl [] fs h = (tt, h)
 have_access acl (e ∷ es) fs h = let k = have_access acl es fs h.1 in ((h.0, k.0), k.1)
 
-module _ {Y D : Type 0} (begins : Y → Y → Type 0) (gives : Y → (call : Call) → Answer call → Y → Type 0) (told : Y → Option Kernel) (calls faults : Y → ℕ) (keeps : D → (call : DiskCall) → DiskTold call → D → Type 0) (disk_told : D → Option Disk) (disk_faults : D → ℕ) (acl : List Addition) (steps : List LinkStep) where
-  order_serves : (moment : Moment) (a : CoreAndServer Y D) (e : TurnEvent) (b : CoreAndServer Y D) (said : List Said) (handed : List (LinkId × List ℕ)) → e.after.access ≡ acl → IsOrder begins gives told calls faults keeps disk_told disk_faults moment a e b → AreSound (may_listen acl) steps said handed a.server.sessions
+module _ {Y D : Type 0} (sysfs : Sysfs.Ghosts Y) (disk : RuleDisk.Ghosts D) (acl : List Addition) (steps : List LinkStep) where
+  order_serves : (moment : Moment) (a : CoreAndServer Y D) (e : TurnEvent) (b : CoreAndServer Y D) (said : List Said) (handed : List (LinkId × List ℕ)) → e.after.access ≡ acl → IsOrder sysfs disk moment a e b → AreSound (may_listen acl) steps said handed a.server.sessions
       → ServesMore acl steps (e ∷ []) said handed b.server.sessions
   order_serves moment a e b said handed access h k =
       let id = h.asked.0 in
@@ -176,7 +176,7 @@ module _ {Y D : Type 0} (begins : Y → Y → Type 0) (gives : Y → (call : Cal
             (subst (λ (l : List Said). AreSound (may_listen acl) steps (said ++ (over ++ l)) now b.server.sessions) same (sound_behind acl steps now said over (says (Some id)) b.server.sessions put));
       }
 
-  sweep_serves : (moment : Moment) (a : CoreAndServer Y D) (e : TurnEvent) (b : CoreAndServer Y D) (said : List Said) (handed : List (LinkId × List ℕ)) → e.after.access ≡ acl → IsSweep begins gives told calls faults keeps disk_told disk_faults moment a e b → AreSound (may_listen acl) steps said handed a.server.sessions
+  sweep_serves : (moment : Moment) (a : CoreAndServer Y D) (e : TurnEvent) (b : CoreAndServer Y D) (said : List Said) (handed : List (LinkId × List ℕ)) → e.after.access ≡ acl → IsSweep sysfs disk moment a e b → AreSound (may_listen acl) steps said handed a.server.sessions
       → ServesMore acl steps (e ∷ []) said handed b.server.sessions
   sweep_serves moment a e b said handed access h k =
       let ss = a.server.sessions in
@@ -194,7 +194,7 @@ module _ {Y D : Type 0} (begins : Y → Y → Type 0) (gives : Y → (call : Cal
             (subst (λ (l : List Said). AreSound (may_listen acl) steps (said ++ (over ++ l)) handed b.server.sessions) same (sound_behind acl steps handed said over (notices_in e.entries) b.server.sessions put));
       }
 
-  orders_serve : (moment : Moment) (a : CoreAndServer Y D) (es : List TurnEvent) (m b : CoreAndServer Y D) (said : List Said) (handed : List (LinkId × List ℕ)) → HaveAccess acl es → AreOrders begins gives told calls faults keeps disk_told disk_faults moment a es m → AreSound (may_listen acl) steps said handed a.server.sessions
+  orders_serve : (moment : Moment) (a : CoreAndServer Y D) (es : List TurnEvent) (m b : CoreAndServer Y D) (said : List Said) (handed : List (LinkId × List ℕ)) → HaveAccess acl es → AreOrders sysfs disk moment a es m → AreSound (may_listen acl) steps said handed a.server.sessions
       → ((said2 : List Said) (handed2 : List (LinkId × List ℕ)) → AreSound (may_listen acl) steps said2 handed2 m.server.sessions → ServesMore acl steps [] said2 handed2 b.server.sessions)
       → ServesMore acl steps es said handed b.server.sessions
   orders_serve moment a [] m b said handed access h k last = last said handed (subst (λ (x : CoreAndServer Y D). AreSound (may_listen acl) steps said handed x.server.sessions) (sym h) k)
@@ -202,7 +202,7 @@ module _ {Y D : Type 0} (begins : Y → Y → Type 0) (gives : Y → (call : Cal
       let one = order_serves moment a e h.0 said handed access.0 h.1 k in
       serves_then acl steps (e ∷ []) es said one.more handed b.server.sessions one.by_events (orders_serve moment h.0 es m b (said ++ one.more) (handed ++ flat_map asked_in (e ∷ [])) access.1 h.2 one.sound last)
 
-  rest_serves : (moment : Moment) (a : CoreAndServer Y D) (es : List TurnEvent) (b : CoreAndServer Y D) (said : List Said) (handed : List (LinkId × List ℕ)) → HaveAccess acl es → ServesOrders begins gives told calls faults keeps disk_told disk_faults moment a es true b → AreSound (may_listen acl) steps said handed a.server.sessions
+  rest_serves : (moment : Moment) (a : CoreAndServer Y D) (es : List TurnEvent) (b : CoreAndServer Y D) (said : List Said) (handed : List (LinkId × List ℕ)) → HaveAccess acl es → ServesOrders sysfs disk moment a es true b → AreSound (may_listen acl) steps said handed a.server.sessions
       → ServesMore acl steps es said handed b.server.sessions
   rest_serves moment a es b said handed access h k =
       orders_serve moment a es h.0 b said handed access h.1 k
@@ -212,13 +212,13 @@ module _ {Y D : Type 0} (begins : Y → Y → Type 0) (gives : Y → (call : Cal
   Serving es true a b = (said : List Said) (handed : List (LinkId × List ℕ)) → HaveAccess acl es → AreSound (may_listen acl) steps said handed a.server.sessions → ServesMore acl steps es said handed b.server.sessions
   Serving es false a b = Unit {0}
 
-  served_behind : (moment : Moment) (a : CoreAndServer Y D) (e : TurnEvent) (m : CoreAndServer Y D) (es : List TurnEvent) (whole : Bool) (b : CoreAndServer Y D) → IsOrder begins gives told calls faults keeps disk_told disk_faults moment a e m → ServesOrders begins gives told calls faults keeps disk_told disk_faults moment m es whole b → Serving (e ∷ es) whole a b
+  served_behind : (moment : Moment) (a : CoreAndServer Y D) (e : TurnEvent) (m : CoreAndServer Y D) (es : List TurnEvent) (whole : Bool) (b : CoreAndServer Y D) → IsOrder sysfs disk moment a e m → ServesOrders sysfs disk moment m es whole b → Serving (e ∷ es) whole a b
   served_behind moment a e m es true b h r = λ said handed access k.
       let one = order_serves moment a e m said handed access.0 h k in
       serves_then acl steps (e ∷ []) es said one.more handed b.server.sessions one.by_events (rest_serves moment m es b (said ++ one.more) (handed ++ flat_map asked_in (e ∷ [])) access.1 r one.sound)
   served_behind moment a e m es false b h r = tt
 
-  events_serve : (moment : Moment) (a : CoreAndServer Y D) (es : List TurnEvent) (whole : Bool) (b : CoreAndServer Y D) → Events begins gives told calls faults keeps disk_told disk_faults moment a es whole b → Serving es whole a b
+  events_serve : (moment : Moment) (a : CoreAndServer Y D) (es : List TurnEvent) (whole : Bool) (b : CoreAndServer Y D) → Events sysfs disk moment a es whole b → Serving es whole a b
   events_serve moment a _ _ _ (Sweeps e b h) = λ said handed access k. sweep_serves moment a e b said handed access.0 h k
   events_serve moment a _ _ _ (Sweeps_not b h r) = tt
   events_serve moment a _ _ _ (Serves e m es whole b h k) = served_behind moment a e m es whole b h k
@@ -226,17 +226,17 @@ module _ {Y D : Type 0} (begins : Y → Y → Type 0) (gives : Y → (call : Cal
 
 -- ---- turns
 
-module _ {Y D : Type 0} (begins : Y → Y → Type 0) (gives : Y → (call : Call) → Answer call → Y → Type 0) (told : Y → Option Kernel) (calls faults : Y → ℕ) (keeps : D → (call : DiskCall) → DiskTold call → D → Type 0) (disk_told : D → Option Disk) (disk_faults : D → ℕ)
-    {N W C : Type 0} (links : N → LinkStep → N → Type 0) (waits : W → Waited → W → Type 0) (clocks : C → Moment → C → Type 0) (acl : List Addition) where
-  whole_turn : (whole : Bool) → whole ≡ true → (before : List LinkStep) (s : TurnWorld Y D N W C) (turn : Turned) (t : TurnWorld Y D N W C) (said : List Said) (handed : List (LinkId × List ℕ)) → turn.whole ≡ whole → HaveAccess acl turn.events → AreSteps before (turn.comes ++ turn.sends) → IsTurn begins gives told calls faults keeps disk_told disk_faults links waits clocks s turn t
+module _ {Y D : Type 0} (sysfs : Sysfs.Ghosts Y) (disk : RuleDisk.Ghosts D)
+    {N W C : Type 0} (net : Links.Ghosts N) (wait : Waiter.Ghosts W) (ticks : Clock.Ghosts C) (acl : List Addition) where
+  whole_turn : (whole : Bool) → whole ≡ true → (before : List LinkStep) (s : TurnWorld Y D N W C) (turn : Turned) (t : TurnWorld Y D N W C) (said : List Said) (handed : List (LinkId × List ℕ)) → turn.whole ≡ whole → HaveAccess acl turn.events → AreSteps before (turn.comes ++ turn.sends) → IsTurn sysfs disk net wait ticks s turn t
       → AreSound (may_listen acl) before said handed s.server.sessions → ServesMore acl (before ++ (turn.comes ++ turn.sends)) turn.events said handed t.server.sessions
   whole_turn false e before s turn t said handed is access can h k = let no : ⊥ = cc in absurd no
   whole_turn true e before s turn t said handed is access can h k =
       let halves = steps_split (may_listen acl) said handed before turn.comes turn.sends can in
       let came = turn_keeps (may_listen acl) said handed turn.tokens before s.server turn.comes (h.came, h.counts) halves.0 h.comes k in
-      let events = subst (λ (b : Bool). Serving begins gives told calls faults keeps disk_told disk_faults acl (before ++ turn.comes) turn.events b (with_server s.core h.came) (with_server t.core h.served)) is (events_serve begins gives told calls faults keeps disk_told disk_faults acl (before ++ turn.comes) turn.moment (with_server s.core h.came) turn.events turn.whole (with_server t.core h.served) h.events) in
+      let events = subst (λ (b : Bool). Serving sysfs disk acl (before ++ turn.comes) turn.events b (with_server s.core h.came) (with_server t.core h.served)) is (events_serve sysfs disk acl (before ++ turn.comes) turn.moment (with_server s.core h.came) turn.events turn.whole (with_server t.core h.served) h.events) in
       let served = events said handed access came in
-      let sends = subst (λ (b : Bool). Sends begins gives told calls faults keeps disk_told disk_faults links waits clocks b turn.sends h.served h.came_links t.server t.links) is h.sends in
+      let sends = subst (λ (b : Bool). Sends sysfs disk net wait ticks b turn.sends h.served h.came_links t.server t.links) is h.sends in
       let sent = flush_keeps (may_listen acl) (said ++ served.more) (handed ++ flat_map asked_in turn.events) (before ++ turn.comes) h.served turn.sends (t.server, sends.0) sends.1 served.sound in
       record {
         more = served.more;
@@ -244,7 +244,7 @@ module _ {Y D : Type 0} (begins : Y → Y → Type 0) (gives : Y → (call : Cal
         sound = subst (λ (l : List LinkStep). AreSound (may_listen acl) l (said ++ served.more) (handed ++ flat_map asked_in turn.events) t.server.sessions) (append_assoc before turn.comes turn.sends) sent;
       }
 
-  turns_sound : (before : List LinkStep) (s : TurnWorld Y D N W C) (turns : List Turned) (t : TurnWorld Y D N W C) (said : List Said) (handed : List (LinkId × List ℕ)) → AreWhole turns → HaveAccess acl (turns_events turns) → AreSteps before (turns_calls turns) → Turns begins gives told calls faults keeps disk_told disk_faults links waits clocks s turns t
+  turns_sound : (before : List LinkStep) (s : TurnWorld Y D N W C) (turns : List Turned) (t : TurnWorld Y D N W C) (said : List Said) (handed : List (LinkId × List ℕ)) → AreWhole turns → HaveAccess acl (turns_events turns) → AreSteps before (turns_calls turns) → Turns sysfs disk net wait ticks s turns t
       → AreSound (may_listen acl) before said handed s.server.sessions → ServesMore acl (before ++ turns_calls turns) (turns_events turns) said handed t.server.sessions
   turns_sound before s [] t said handed whole access can h k = record {
     more = [];
@@ -265,8 +265,8 @@ module _ {Y D : Type 0} (begins : Y → Y → Type 0) (gives : Y → (call : Cal
       serves_then acl (before ++ (here ++ calls_of)) turn.events (turns_events turns) said one.more handed t.server.sessions one.by_events
       (subst (λ (l : List LinkStep). ServesMore acl l (turns_events turns) (said ++ one.more) (handed ++ flat_map asked_in turn.events) t.server.sessions) (append_assoc before here calls_of) rest)
 
-pub turns_serve : {Y D N W C : Type 0} (begins : Y → Y → Type 0) (gives : Y → (call : Call) → Answer call → Y → Type 0) (told : Y → Option Kernel) (calls faults : Y → ℕ) (keeps : D → (call : DiskCall) → DiskTold call → D → Type 0) (disk_told : D → Option Disk) (disk_faults : D → ℕ) (links : N → LinkStep → N → Type 0) (waits : W → Waited → W → Type 0) (clocks : C → Moment → C → Type 0) → TurnsServe begins gives told calls faults keeps disk_told disk_faults links waits clocks
-turns_serve begins gives told calls faults keeps disk_told disk_faults links waits clocks acl before s turns t none below can whole access h =
+pub turns_serve : {Y D N W C : Type 0} (sysfs : Sysfs.Ghosts Y) (disk : RuleDisk.Ghosts D) (net : Links.Ghosts N) (wait : Waiter.Ghosts W) (ticks : Clock.Ghosts C) → TurnsServe sysfs disk net wait ticks
+turns_serve sysfs disk net wait ticks acl before s turns t none below can whole access h =
     let start : AreSound (may_listen acl) before [] [] [] = record { accounts = tt; lines = tt; distinct = tt; known = tt; said_known = tt; handed_known = tt; calls_known = below } in
-    let served = turns_sound begins gives told calls faults keeps disk_told disk_faults links waits clocks acl before s turns t [] [] whole access can h (subst (λ (ss : List Session). AreSound (may_listen acl) before [] [] ss) (sym none) start) in
+    let served = turns_sound sysfs disk net wait ticks acl before s turns t [] [] whole access can h (subst (λ (ss : List Session). AreSound (may_listen acl) before [] [] ss) (sym none) start) in
     record { said = served.more; by_events = served.by_events; sound = served.sound }

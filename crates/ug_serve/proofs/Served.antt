@@ -2,13 +2,11 @@
 use Rattle.std.proofs.Common.{◌≡◌, ℕ, List, [], ◌∷◌, ◌++◌, length, Option, Some, None, Result, Ok, Err, inl, inr, refl, sym, ◌∙◌, subst, arith}
 use Rattle.rand_core.specs.Stream.{Stream}
 use Rattle.ug_types.specs.Elements.{Has}
-use Rattle.ug_types.specs.declared.verdict.Moment.{Moment}
-use Rattle.ug_types.specs.Waits.{Waited}
+use Rattle.ug_types.specs.declared.waiter.Waiter
+use Rattle.ug_types.specs.declared.clock.Clock
 use Rattle.ug_conf.specs.Files.{FileStep}
-use Rattle.ug_store.specs.DiskCalls.{DiskCall, DiskTold}
-use Rattle.ug_store.specs.Disk.{Disk}
-use Rattle.ug_kernel.specs.Calls.{Call, Answer}
-use Rattle.ug_kernel.specs.Kernel.{Kernel}
+use Rattle.ug_store.specs.declared.disk.RuleDisk
+use Rattle.ug_kernel.specs.declared.sysfs.Sysfs
 use Rattle.ug_audit.specs.declared.entry.Entry.{Entry}
 use Rattle.ug_audit.specs.Noting.{NotesEntries, without_drops}
 use Rattle.ug_audit.proofs.Noting.{notes_on}
@@ -17,9 +15,9 @@ use Rattle.ug_serve.specs.Lines.{AreNoted}
 use Rattle.ug_serve.specs.Causes.{start_status, refusal_entries}
 use Rattle.ug_serve.specs.Listening.{listening, listening_status}
 use Rattle.ug_serve.specs.Opening.{Started, Opens}
-use Rattle.ug_links.specs.declared.step.LinkStep.{LinkStep}
 use Rattle.ug_links.specs.Talk.{Talks, Path}
 use Rattle.ug_links.proofs.Told.{path_made}
+use Rattle.ug_links.specs.declared.links.Links
 use Rattle.ug_serve.specs.Serving.{Objects, objects, objects_of, server_for, first_world, ServesStarted, Listens_not, Listens, Serves, Bad_words, No_room, Not_started, Served, TellsRefusal, RunsDaemon, turns_status, daemon_statuses}
 use Rattle.ug_sessions.specs.States.{ServerState}
 use Rattle.ug_serve.specs.Turns.{Turned, turns_entries, core_of, TurnWorld, turn_world, ServesTurns}
@@ -116,18 +114,20 @@ completes n (inr (inr (inr (inr (inr (inr (inr (inr e)))))))) one three four nin
 pub none_is_some : (given : Option (List ℕ)) (path : List ℕ) → given ≡ None → given ≡ Some path → ⊥
 none_is_some given path none some = cc
 
-module _ {Y D N W C : Type 0} (begins : Y → Y → Type 0) (gives : Y → (call : Call) → Answer call → Y → Type 0) (told : Y → Option Kernel) (calls faults : Y → ℕ)
-    (keeps : D → (call : DiskCall) → DiskTold call → D → Type 0) (disk_told : D → Option Disk) (disk_faults : D → ℕ) (links : N → LinkStep → N → Type 0) (waits : W → Waited → W → Type 0) (clocks : C → Moment → C → Type 0)
+module _ {Y D N W C : Type 0} (sysfs : Sysfs.Ghosts Y)
+    (disk : RuleDisk.Ghosts D) (net : Links.Ghosts N) (wait : Waiter.Ghosts W) (ticks : Clock.Ghosts C)
     (turns : ℕ) (c : Started) (s : Objects Y D N W C) where
+  open net use {gives as links}
+
   abbrev After : List Turned → ℕ → Objects Y D N W C → Type 0
-  After made status t = ServesStarted begins gives told calls faults keeps disk_told disk_faults links waits clocks turns c s made status t
+  After made status t = ServesStarted sysfs disk net wait ticks turns c s made status t
 
   pub started_status : (made : List Turned) (status : ℕ) (t : Objects Y D N W C) → After made status t → Has served_statuses status
   started_status _ _ _ (Listens_not steps fault n path makes) = links_status fault (listening_status fault) refl
   started_status _ _ _ (Listens steps n made ended w path makes serves) = ended_status ended (turns_status ended) refl
 
   all_turns : (u : TurnWorld Y D N W C) (made : List Turned) (ended : TurnEnd) (w : TurnWorld Y D N W C)
-      → ServesTurns begins gives told calls faults keeps disk_told disk_faults links waits clocks turns u made ended w → turns_status ended ≡ 0 → length made ≡ turns
+      → ServesTurns sysfs disk net wait ticks turns u made ended w → turns_status ended ≡ 0 → length made ≡ turns
   all_turns u made end.Done w h z = h.0
   all_turns u made end.Numbers w h z = absurd (omega (arith, z))
   all_turns u made end.WaitFailed w h z = absurd (omega (arith, z))
@@ -138,7 +138,7 @@ module _ {Y D N W C : Type 0} (begins : Y → Y → Type 0) (gives : Y → (call
 
   pub started_noted : (made : List Turned) (status : ℕ) (t : Objects Y D N W C) → After made status t → NotesEntries (turns_entries made) s.members t.members
   started_noted _ _ _ (Listens_not steps fault n path makes) = (refl, refl)
-  started_noted _ _ _ (Listens steps n made ended w path makes serves) = serves_noted begins gives told calls faults keeps disk_told disk_faults links waits clocks turns (first_world c n s) made ended w serves
+  started_noted _ _ _ (Listens steps n made ended w path makes serves) = serves_noted sysfs disk net wait ticks turns (first_world c n s) made ended w serves
 
   -- the calls of the links fail to listen
   pub serves_not : (result : Result (Unit {0}) NotListening) (fault : NotListening) (status : ℕ) (n : N) → result ≡ Err fault → Talks links s.links (listening c.principals) result n → status ≡ listening_status fault
@@ -150,22 +150,22 @@ module _ {Y D N W C : Type 0} (begins : Y → Y → Type 0) (gives : Y → (call
   -- they listen, and turns are made
   pub serves_so : (result : Result (Unit {0}) NotListening) (n : N) (v : ServerState) (made : List Turned) (ended : TurnEnd) (w : TurnWorld Y D N W C) (status : ℕ) → result ≡ Ok tt → Talks links s.links (listening c.principals) result n
       → v.principals ≡ c.principals → v.listeners ≡ [] → v.sessions ≡ []
-      → ServesTurns begins gives told calls faults keeps disk_told disk_faults links waits clocks turns (turn_world (core_of c.daemon s.sysfs s.disk s.members) v n s.waiter s.clock) made ended w → status ≡ turns_status ended
+      → ServesTurns sysfs disk net wait ticks turns (turn_world (core_of c.daemon s.sysfs s.disk s.members) v n s.waiter s.clock) made ended w → status ≡ turns_status ended
       → (made : List Turned) × After made status (objects_of w)
   serves_so result n v made ended w status is talks these untried none serves same =
       let asked = path_made links s.links (listening c.principals) result n talks in
       let first : v ≡ server_for c.principals = λ i. record { principals = these i; listeners = untried i; sessions = none i } in
-      let over = subst (λ (x : ServerState). ServesTurns begins gives told calls faults keeps disk_told disk_faults links waits clocks turns (turn_world (core_of c.daemon s.sysfs s.disk s.members) x n s.waiter s.clock) made ended w) first serves in
+      let over = subst (λ (x : ServerState). ServesTurns sysfs disk net wait ticks turns (turn_world (core_of c.daemon s.sysfs s.disk s.members) x n s.waiter s.clock) made ended w) first serves in
       (made, subst (λ (k : ℕ). After made k (objects_of w)) (sym same) (Listens asked.0 n made ended w (subst (λ (r : Result (Unit {0}) NotListening). Path (listening c.principals) asked.0 r) is asked.1) asked.2 over))
 
-module _ {F Y D N W C : Type 0} (reads : F → FileStep → F → Type 0) (begins : Y → Y → Type 0) (gives : Y → (call : Call) → Answer call → Y → Type 0) (told : Y → Option Kernel) (calls faults : Y → ℕ)
-    (keeps : D → (call : DiskCall) → DiskTold call → D → Type 0) (disk_told : D → Option Disk) (disk_faults : D → ℕ) (aimed : D → List ℕ → Type 0) (links : N → LinkStep → N → Type 0) (waits : W → Waited → W → Type 0) (clocks : C → Moment → C → Type 0)
+module _ {F Y D N W C : Type 0} (reads : F → FileStep → F → Type 0) (sysfs : Sysfs.Ghosts Y)
+    (disk : RuleDisk.Ghosts D) (net : Links.Ghosts N) (wait : Waiter.Ghosts W) (ticks : Clock.Ghosts C)
     (turns : ℕ) (clock : ℕ → ℕ) (words : Stream) (f : F) (s : Objects Y D N W C) where
   abbrev Done : Option (List ℕ) → List Entry → List Turned → ℕ → F → Objects Y D N W C → Type 0
-  Done path journal made status g t = Serves reads begins gives told calls faults keeps disk_told disk_faults aimed links waits clocks turns clock words f s path journal made status g t
+  Done path journal made status g t = Serves reads sysfs disk net wait ticks turns clock words f s path journal made status g t
 
   abbrev pub Runs : Option (List ℕ) → ℕ → F → Objects Y D N W C → Type 0
-  Runs path status g t = RunsDaemon reads begins gives told calls faults keeps disk_told disk_faults aimed links waits clocks turns clock words f s path status g t
+  Runs path status g t = RunsDaemon reads sysfs disk net wait ticks turns clock words f s path status g t
 
   -- ---- what follows from the cases
 
@@ -173,13 +173,13 @@ module _ {F Y D N W C : Type 0} (reads : F → FileStep → F → Type 0) (begin
   has_status _ _ _ _ _ _ Bad_words = inr (inl refl)
   has_status _ _ _ _ _ _ (No_room path) = is_start_status why.Memory
   has_status _ _ _ _ _ _ (Not_started path entries fault journal g d ms opens all notes) = is_start_status fault
-  has_status _ _ _ _ _ _ (Served path entries first c g d ms made status t opens all notes serves) = known_status status (started_status begins gives told calls faults keeps disk_told disk_faults links waits clocks turns c (objects s.sysfs d s.links s.waiter s.clock ms) made status t serves)
+  has_status _ _ _ _ _ _ (Served path entries first c g d ms made status t opens all notes serves) = known_status status (started_status sysfs disk net wait ticks turns c (objects s.sysfs d s.links s.waiter s.clock ms) made status t serves)
 
   pub bad_words : (path : Option (List ℕ)) (journal : List Entry) (made : List Turned) (status : ℕ) (g : F) (t : Objects Y D N W C) → Done path journal made status g t → status ≡ 1 → path ≡ None
   bad_words _ _ _ _ _ _ Bad_words = λ e. refl
   bad_words _ _ _ _ _ _ (No_room path) = λ e. absurd (start_not_one why.Memory e)
   bad_words _ _ _ _ _ _ (Not_started path entries fault journal g d ms opens all notes) = λ e. absurd (start_not_one fault e)
-  bad_words _ _ _ _ _ _ (Served path entries first c g d ms made status t opens all notes serves) = λ e. absurd (not_one status (started_status begins gives told calls faults keeps disk_told disk_faults links waits clocks turns c (objects s.sysfs d s.links s.waiter s.clock ms) made status t serves) e)
+  bad_words _ _ _ _ _ _ (Served path entries first c g d ms made status t opens all notes serves) = λ e. absurd (not_one status (started_status sysfs disk net wait ticks turns c (objects s.sysfs d s.links s.waiter s.clock ms) made status t serves) e)
 
   pub other_words : (path : Option (List ℕ)) (journal : List Entry) (made : List Turned) (status : ℕ) (g : F) (t : Objects Y D N W C) → Done path journal made status g t → path ≡ None → Has (1 ∷ 6 ∷ []) status
   other_words _ _ _ _ _ _ Bad_words = λ e. inl refl
@@ -210,7 +210,7 @@ module _ {F Y D N W C : Type 0} (reads : F → FileStep → F → Type 0) (begin
   })
 
   pub runs_refused : (path : List ℕ) (entries : List Entry) (fault : NotStarted) (g : F) (d : D) (ms ns : List Member) (status : ℕ)
-      → Opens reads keeps disk_told disk_faults aimed path clock words f s.disk entries (Err fault) g d
+      → Opens reads disk path clock words f s.disk entries (Err fault) g d
       → AreNoted entries s.members ms → AreNoted (refusal_entries fault) ms ns → status ≡ start_status fault
       → Runs (Some path) status g (objects s.sysfs d s.links s.waiter s.clock ns)
   runs_refused path entries fault g d ms ns status opens noted refused is =
@@ -225,15 +225,15 @@ module _ {F Y D N W C : Type 0} (reads : F → FileStep → F → Type 0) (begin
       })
 
   pub runs_served : (path : List ℕ) (entries : List Entry) (c : Started) (g : F) (d : D) (ms : List Member) (made : List Turned) (status : ℕ) (t : Objects Y D N W C)
-      → Opens reads keeps disk_told disk_faults aimed path clock words f s.disk entries (Ok c) g d
+      → Opens reads disk path clock words f s.disk entries (Ok c) g d
       → AreNoted entries s.members ms
-      → ServesStarted begins gives told calls faults keeps disk_told disk_faults links waits clocks turns c (objects s.sysfs d s.links s.waiter s.clock ms) made status t
+      → ServesStarted sysfs disk net wait ticks turns c (objects s.sysfs d s.links s.waiter s.clock ms) made status t
       → Runs (Some path) status g t
   runs_served path entries c g d ms made status t opens noted serves = record {
     journal = noted.noted ++ turns_entries made;
     made = made;
     serves = Served path entries noted.noted c g d ms made status t opens noted.all noted.notes serves;
-    noted = notes_on [] noted.noted (turns_entries made) s.members ms t.members [] [] noted.notes (started_noted begins gives told calls faults keeps disk_told disk_faults links waits clocks turns c (objects s.sysfs d s.links s.waiter s.clock ms) made status t serves);
-    all_made = started_all begins gives told calls faults keeps disk_told disk_faults links waits clocks turns c (objects s.sysfs d s.links s.waiter s.clock ms) made status t serves;
-    told_refused = λ h. absurd (not_three status (started_status begins gives told calls faults keeps disk_told disk_faults links waits clocks turns c (objects s.sysfs d s.links s.waiter s.clock ms) made status t serves) h);
+    noted = notes_on [] noted.noted (turns_entries made) s.members ms t.members [] [] noted.notes (started_noted sysfs disk net wait ticks turns c (objects s.sysfs d s.links s.waiter s.clock ms) made status t serves);
+    all_made = started_all sysfs disk net wait ticks turns c (objects s.sysfs d s.links s.waiter s.clock ms) made status t serves;
+    told_refused = λ h. absurd (not_three status (started_status sysfs disk net wait ticks turns c (objects s.sysfs d s.links s.waiter s.clock ms) made status t serves) h);
   }

@@ -1,5 +1,5 @@
 -- The start of a daemon: its settings, its rules, and what keeps it from starting.
-use Rattle.std.specs.Prelude.{◌≡◌, ℕ, List, [], map, Option, Result, Ok, Err}
+use Rattle.std.specs.Prelude.{◌≡◌, ℕ, List, [], map, Result, Ok, Err}
 use Rattle.rand_core.specs.Stream.{Stream}
 use Rattle.rand_core.specs.Steps.{stream_of, steps_u32}
 use Rattle.rand_chacha.specs.ChaCha.{next_word, of_seed}
@@ -9,8 +9,7 @@ use Rattle.ug_conf.specs.Texts.{conf_read}
 use Rattle.ug_conf.specs.declared.files.FileRead.{FileRead}
 use Rattle.ug_conf.specs.declared.files.FileRead.TheVariants as file
 use Rattle.ug_conf.specs.declared.settings.Settings.{Settings}
-use Rattle.ug_store.specs.DiskCalls.{DiskCall, DiskTold}
-use Rattle.ug_store.specs.Disk.{Disk}
+use Rattle.ug_store.specs.declared.disk.RuleDisk
 use Rattle.ug_audit.specs.declared.entry.Entry.{Entry}
 use Rattle.ug_audit.specs.declared.entry.Entry.TheVariants as entry
 use Rattle.ug_audit.specs.declared.entry.ConfigPart.TheVariants as part
@@ -73,30 +72,40 @@ with_cause principals (Ok d) = Ok (started principals d)
 with_cause principals (Err e) = Err (refusal_of_rules e)
 
 -- the disk is what it was, but for the file that it is aimed at
-pub record IsSameDisk {D : Type 0} (told : D → Option Disk) (faults : D → ℕ) (s t : D) : Type 0 where
-  pub same : told t ≡ told s
-  pub counts : faults t ≡ faults s
+pub record IsSameDisk {D : Type 0} (disk : RuleDisk.Ghosts D) (s t : D) : Type 0 where
+  pub same : disk.told t ≡ disk.told s
+  pub counts : disk.faults t ≡ disk.faults s
 
 -- the disk's later calls are on the rule file at that path
-pub record IsAimed {D : Type 0} (told : D → Option Disk) (faults : D → ℕ) (aimed : D → List ℕ → Type 0) (path : List ℕ) (s t : D) : Type 0 where
-  pub disk : IsSameDisk told faults s t
-  pub at : aimed t path
+pub record IsAimed {D : Type 0} (disk : RuleDisk.Ghosts D) (path : List ℕ) (s t : D) : Type 0 where
+  pub same_disk : IsSameDisk disk s t
+  pub at : disk.aimed t path
 
 -- The steps of a start, of which the first that isn't done ends it: the settings are read; so is who may do what; the disk is aimed
 -- at the rule file that the settings name; and the daemon starts from it. The entries tell of the settings' lines that aren't used, once
 -- they are read.
-pub data Opens {F D : Type 0} (reads : F → FileStep → F → Type 0) (keeps : D → (call : DiskCall) → DiskTold call → D → Type 0) (told : D → Option Disk) (faults : D → ℕ) (aimed : D → List ℕ → Type 0)
+pub data Opens {F D : Type 0} (reads : F → FileStep → F → Type 0) (disk : RuleDisk.Ghosts D)
     (path : List ℕ) (clock : ℕ → ℕ) (words : Stream) (f : F) (d : D)
     : List Entry → Result Started NotStarted → F → D → Type 0 where
   Unread : (cause : NotStarted) (g : F) → ReadsSettings reads path f (Err cause) g
-      → Opens reads keeps told faults aimed path clock words f d [] (Err cause) g d
-  Access_unread : (settings : Settings) (cause : NotStarted) (g h : F) → ReadsSettings reads path f (Ok settings) g
+      → Opens reads disk path clock words f d [] (Err cause) g d
+  Access_unread : (settings : Settings) (cause : NotStarted) (g h : F)
+      → ReadsSettings reads path f (Ok settings) g
       → OpensTo reads settings.users settings.access_folder g (Err cause) h
-      → Opens reads keeps told faults aimed path clock words f d (unused_entries settings.unused) (Err cause) h d
-  Unaimed : (settings : Settings) (access : Access) (g h : F) (a : D) → ReadsSettings reads path f (Ok settings) g
-      → OpensTo reads settings.users settings.access_folder g (Ok access) h → IsSameDisk told faults d a
-      → Opens reads keeps told faults aimed path clock words f d (unused_entries settings.unused) (Err why.Memory) h a
-  From_rules : (settings : Settings) (access : Access) (g h : F) (a b : D) (result : Result DaemonState StartFault) → ReadsSettings reads path f (Ok settings) g
-      → OpensTo reads settings.users settings.access_folder g (Ok access) h → IsAimed told faults aimed settings.rule_file d a
-      → Starts keeps told faults (outset_of settings access.acl clock words) a result b
-      → Opens reads keeps told faults aimed path clock words f d (unused_entries settings.unused) (with_cause access.principals result) h b
+      → Opens reads disk path clock words f d
+      (unused_entries settings.unused) (Err cause) h d
+  Unaimed : (settings : Settings) (access : Access) (g h : F) (a : D)
+      → ReadsSettings reads path f (Ok settings) g
+      → OpensTo reads settings.users settings.access_folder g (Ok access) h
+      → IsSameDisk disk d a
+      → Opens reads disk path clock words f d
+      (unused_entries settings.unused) (Err why.Memory) h a
+  From_rules : (settings : Settings) (access : Access) (g h : F) (a b : D)
+      (result : Result DaemonState StartFault)
+      → ReadsSettings reads path f (Ok settings) g
+      → OpensTo reads settings.users settings.access_folder g (Ok access) h
+      → IsAimed disk settings.rule_file d a
+      → Starts disk.keeps disk.told disk.faults
+      (outset_of settings access.acl clock words) a result b
+      → Opens reads disk path clock words f d
+      (unused_entries settings.unused) (with_cause access.principals result) h b

@@ -2,22 +2,21 @@
 use Rattle.std.specs.Prelude.{◌≡◌, ℕ, Bool, true, false, List, [], ◌∷◌, ◌++◌, Option, Some, None}
 use Rattle.std.specs.List.{flat_map}
 use Rattle.ug_types.specs.declared.access.Section.{Section}
-use Rattle.ug_types.specs.declared.verdict.Moment.{Moment}
 use Rattle.ug_types.specs.declared.waiter.LinkId.{LinkId}
-use Rattle.ug_types.specs.Waits.{Waited}
+use Rattle.ug_types.specs.declared.waiter.Waiter
+use Rattle.ug_types.specs.declared.clock.Clock
 use Rattle.ug_acl.specs.Acls.{Addition}
 use Rattle.ug_audit.specs.declared.entry.Entry.{Entry}
 use Rattle.ug_proto.specs.declared.reply.Reply.{Reply}
 use Rattle.ug_proto.specs.Replies.{reply_text}
-use Rattle.ug_kernel.specs.Calls.{Call, Answer}
-use Rattle.ug_kernel.specs.Kernel.{Kernel}
-use Rattle.ug_store.specs.Disk.{Disk}
-use Rattle.ug_store.specs.DiskCalls.{DiskCall, DiskTold}
+use Rattle.ug_kernel.specs.declared.sysfs.Sysfs
+use Rattle.ug_store.specs.declared.disk.RuleDisk
 use Rattle.ug_core.specs.declared.daemon.Event.{Event}
 use Rattle.ug_core.specs.declared.daemon.Event.TheVariants.{Sweep, Order}
 use Rattle.ug_links.specs.declared.step.LinkStep.{LinkStep}
 use Rattle.ug_links.specs.Steps.{ids_end}
 use Rattle.ug_links.specs.Talk.{AreSteps}
+use Rattle.ug_links.specs.declared.links.Links
 use Rattle.ug_sessions.specs.Answering.{may_listen}
 use Rattle.ug_sessions.specs.Due.{Said, Answered, Watched, Noticed, Overlong}
 use Rattle.ug_sessions.specs.Known.{AreCallsBelow, AreSound}
@@ -78,9 +77,12 @@ pub record AreServed (acl : List Addition) (calls : List LinkStep) (events : Lis
   pub sound : AreSound (may_listen acl) calls said (flat_map asked_in events) v.sessions
 
 -- Whole turns from a server without sessions, over links that had no session: so they serve them.
-abbrev pub TurnsServe : {Y D N W C : Type 0} → (Y → Y → Type 0) → (Y → (call : Call) → Answer call → Y → Type 0) → (Y → Option Kernel) → (Y → ℕ) → (Y → ℕ) → (D → (call : DiskCall) → DiskTold call → D → Type 0) → (D → Option Disk) → (D → ℕ) → (N → LinkStep → N → Type 0) → (W → Waited → W → Type 0) → (C → Moment → C → Type 0) → Type 0
-TurnsServe {Y} {D} {N} {W} {C} begins gives told calls faults keeps disk_told disk_faults links waits clocks =
-    (acl : List Addition) (before : List LinkStep) (s : TurnWorld Y D N W C) (turns : List Turned) (t : TurnWorld Y D N W C)
-    → s.server.sessions ≡ [] → AreCallsBelow (ids_end before) before → AreSteps before (turns_calls turns) → AreWhole turns → HaveAccess acl (turns_events turns)
-    → Turns begins gives told calls faults keeps disk_told disk_faults links waits clocks s turns t
+abbrev pub TurnsServe : {Y D N W C : Type 0} → Sysfs.Ghosts Y → RuleDisk.Ghosts D
+    → Links.Ghosts N → Waiter.Ghosts W → Clock.Ghosts C → Type 0
+TurnsServe {Y} {D} {N} {W} {C} sysfs disk net wait ticks =
+    (acl : List Addition) (before : List LinkStep)
+    (s : TurnWorld Y D N W C) (turns : List Turned) (t : TurnWorld Y D N W C)
+    → s.server.sessions ≡ [] → AreCallsBelow (ids_end before) before
+    → AreSteps before (turns_calls turns) → AreWhole turns
+    → HaveAccess acl (turns_events turns) → Turns sysfs disk net wait ticks s turns t
     → AreServed acl (before ++ turns_calls turns) (turns_events turns) t.server

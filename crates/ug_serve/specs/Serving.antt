@@ -3,13 +3,11 @@ use Rattle.std.specs.Prelude.{◌≡◌, ℕ, List, [], ◌∷◌, ◌++◌, len
 use Rattle.rand_core.specs.Stream.{Stream}
 use Rattle.ug_types.specs.Principals.{Named}
 use Rattle.ug_types.specs.declared.text_fault.TextFault.{TextFault}
-use Rattle.ug_types.specs.declared.verdict.Moment.{Moment}
-use Rattle.ug_types.specs.Waits.{Waited}
+use Rattle.ug_types.specs.declared.waiter.Waiter
+use Rattle.ug_types.specs.declared.clock.Clock
 use Rattle.ug_conf.specs.Files.{FileStep}
-use Rattle.ug_store.specs.DiskCalls.{DiskCall, DiskTold}
-use Rattle.ug_store.specs.Disk.{Disk}
-use Rattle.ug_kernel.specs.Calls.{Call, Answer}
-use Rattle.ug_kernel.specs.Kernel.{Kernel}
+use Rattle.ug_store.specs.declared.disk.RuleDisk
+use Rattle.ug_kernel.specs.declared.sysfs.Sysfs
 use Rattle.ug_audit.specs.declared.entry.ConfigPart.{ConfigPart}
 use Rattle.ug_audit.specs.declared.entry.Entry.{Entry}
 use Rattle.ug_audit.specs.declared.entry.Entry.TheVariants as entry
@@ -20,6 +18,7 @@ use Rattle.ug_serve.specs.Listening.{listening, listening_status}
 use Rattle.ug_serve.specs.Opening.{Started, Opens}
 use Rattle.ug_links.specs.declared.step.LinkStep.{LinkStep}
 use Rattle.ug_links.specs.Talk.{Path, Makes}
+use Rattle.ug_links.specs.declared.links.Links
 use Rattle.ug_sessions.specs.States.{ServerState}
 use Rattle.ug_serve.specs.Turns.{Turned, turns_entries, core_of, TurnWorld, turn_world, ServesTurns}
 use Rattle.ug_serve.specs.declared.listening.NotListening.{NotListening}
@@ -63,39 +62,53 @@ daemon_statuses = 0 ∷ 1 ∷ 3 ∷ 4 ∷ 6 ∷ 9 ∷ 10 ∷ 11 ∷ []
 
 -- A daemon that started, with the turns that it made and the exit status: the links are asked to listen for those that it is open to.
 -- Where one of these calls isn't done, its cause is the status. Else turns are made.
-pub data ServesStarted {Y D N W C : Type 0} (begins : Y → Y → Type 0) (gives : Y → (call : Call) → Answer call → Y → Type 0) (told : Y → Option Kernel) (calls faults : Y → ℕ)
-    (keeps : D → (call : DiskCall) → DiskTold call → D → Type 0) (disk_told : D → Option Disk) (disk_faults : D → ℕ) (links : N → LinkStep → N → Type 0) (waits : W → Waited → W → Type 0) (clocks : C → Moment → C → Type 0)
-    (turns : ℕ) (c : Started) (s : Objects Y D N W C) : List Turned → ℕ → Objects Y D N W C → Type 0 where
+pub data ServesStarted {Y D N W C : Type 0} (sysfs : Sysfs.Ghosts Y) (disk : RuleDisk.Ghosts D)
+    (net : Links.Ghosts N) (wait : Waiter.Ghosts W) (ticks : Clock.Ghosts C)
+    (turns : ℕ) (c : Started) (s : Objects Y D N W C)
+    : List Turned → ℕ → Objects Y D N W C → Type 0 where
   Listens_not : (steps : List LinkStep) (fault : NotListening) (n : N)
       → Path (listening c.principals) steps (Err fault)
-      → Makes links s.links steps n
-      → ServesStarted begins gives told calls faults keeps disk_told disk_faults links waits clocks turns c s [] (listening_status fault) (record s { links = n })
-  Listens : (steps : List LinkStep) (n : N) (made : List Turned) (ended : TurnEnd) (w : TurnWorld Y D N W C)
+      → Makes net.gives s.links steps n
+      → ServesStarted sysfs disk net wait ticks turns c s
+      [] (listening_status fault) (record s { links = n })
+  Listens : (steps : List LinkStep) (n : N) (made : List Turned) (ended : TurnEnd)
+      (w : TurnWorld Y D N W C)
       → Path (listening c.principals) steps (Ok tt)
-      → Makes links s.links steps n
-      → ServesTurns begins gives told calls faults keeps disk_told disk_faults links waits clocks turns (first_world c n s) made ended w
-      → ServesStarted begins gives told calls faults keeps disk_told disk_faults links waits clocks turns c s made (turns_status ended) (objects_of w)
+      → Makes net.gives s.links steps n
+      → ServesTurns sysfs disk net wait ticks turns (first_world c n s) made ended w
+      → ServesStarted sysfs disk net wait ticks turns c s
+      made (turns_status ended) (objects_of w)
 
 -- The daemon from its words, with the journal's entries, the turns that it made and the exit status. Other words than a path's do nothing,
 -- and neither does a daemon that has no room for its words or its first entries. A start that isn't done is noted, where a part isn't taken, and its
 -- cause is the status. Else it listens and makes turns, from what the start left. Beside what the start and the turns note, the journal
 -- has the `dropped` entries.
-pub data Serves {F Y D N W C : Type 0} (reads : F → FileStep → F → Type 0) (begins : Y → Y → Type 0) (gives : Y → (call : Call) → Answer call → Y → Type 0) (told : Y → Option Kernel) (calls faults : Y → ℕ)
-    (keeps : D → (call : DiskCall) → DiskTold call → D → Type 0) (disk_told : D → Option Disk) (disk_faults : D → ℕ) (aimed : D → List ℕ → Type 0) (links : N → LinkStep → N → Type 0) (waits : W → Waited → W → Type 0) (clocks : C → Moment → C → Type 0)
-    (turns : ℕ) (clock : ℕ → ℕ) (words : Stream) (f : F) (s : Objects Y D N W C) : Option (List ℕ) → List Entry → List Turned → ℕ → F → Objects Y D N W C → Type 0 where
-  Bad_words : Serves reads begins gives told calls faults keeps disk_told disk_faults aimed links waits clocks turns clock words f s None [] [] 1 f s
-  No_room : (path : Option (List ℕ)) → Serves reads begins gives told calls faults keeps disk_told disk_faults aimed links waits clocks turns clock words f s path [] [] (start_status Memory) f s
-  Not_started : (path : List ℕ) (entries : List Entry) (fault : NotStarted) (journal : List Entry) (g : F) (d : D) (ms : List Member)
-      → Opens reads keeps disk_told disk_faults aimed path clock words f s.disk entries (Err fault) g d
+pub data Serves {F Y D N W C : Type 0} (reads : F → FileStep → F → Type 0)
+    (sysfs : Sysfs.Ghosts Y) (disk : RuleDisk.Ghosts D)
+    (net : Links.Ghosts N) (wait : Waiter.Ghosts W) (ticks : Clock.Ghosts C)
+    (turns : ℕ) (clock : ℕ → ℕ) (words : Stream) (f : F) (s : Objects Y D N W C)
+    : Option (List ℕ) → List Entry → List Turned → ℕ → F → Objects Y D N W C → Type 0 where
+  Bad_words : Serves reads sysfs disk net wait ticks turns clock words f s None [] [] 1 f s
+  No_room : (path : Option (List ℕ))
+      → Serves reads sysfs disk net wait ticks turns clock words f s
+      path [] [] (start_status Memory) f s
+  Not_started : (path : List ℕ) (entries : List Entry) (fault : NotStarted)
+      (journal : List Entry) (g : F) (d : D) (ms : List Member)
+      → Opens reads disk path clock words f s.disk entries (Err fault) g d
       → without_drops journal ≡ entries ++ refusal_entries fault
       → NotesEntries journal s.members ms
-      → Serves reads begins gives told calls faults keeps disk_told disk_faults aimed links waits clocks turns clock words f s (Some path) journal [] (start_status fault) g (objects s.sysfs d s.links s.waiter s.clock ms)
-  Served : (path : List ℕ) (entries first : List Entry) (c : Started) (g : F) (d : D) (ms : List Member) (made : List Turned) (status : ℕ) (t : Objects Y D N W C)
-      → Opens reads keeps disk_told disk_faults aimed path clock words f s.disk entries (Ok c) g d
+      → Serves reads sysfs disk net wait ticks turns clock words f s
+      (Some path) journal [] (start_status fault)
+      g (objects s.sysfs d s.links s.waiter s.clock ms)
+  Served : (path : List ℕ) (entries first : List Entry) (c : Started) (g : F) (d : D)
+      (ms : List Member) (made : List Turned) (status : ℕ) (t : Objects Y D N W C)
+      → Opens reads disk path clock words f s.disk entries (Ok c) g d
       → without_drops first ≡ entries
       → NotesEntries first s.members ms
-      → ServesStarted begins gives told calls faults keeps disk_told disk_faults links waits clocks turns c (objects s.sysfs d s.links s.waiter s.clock ms) made status t
-      → Serves reads begins gives told calls faults keeps disk_told disk_faults aimed links waits clocks turns clock words f s (Some path) (first ++ turns_entries made) made status g t
+      → ServesStarted sysfs disk net wait ticks turns c
+      (objects s.sysfs d s.links s.waiter s.clock ms) made status t
+      → Serves reads sysfs disk net wait ticks turns clock words f s
+      (Some path) (first ++ turns_entries made) made status g t
 
 -- a part isn't taken, and the journal's last line tells which, with the first line that is bad
 abbrev pub TellsRefusal : List Entry → Type 0
@@ -105,12 +118,15 @@ TellsRefusal journal =
 
 -- A run of the daemon: its journal, which the auditors were given, and its turns. With status 0 all of them were made, and with 3 the
 -- journal tells what isn't taken.
-pub record RunsDaemon {F Y D N W C : Type 0} (reads : F → FileStep → F → Type 0) (begins : Y → Y → Type 0) (gives : Y → (call : Call) → Answer call → Y → Type 0) (told : Y → Option Kernel) (calls faults : Y → ℕ)
-    (keeps : D → (call : DiskCall) → DiskTold call → D → Type 0) (disk_told : D → Option Disk) (disk_faults : D → ℕ) (aimed : D → List ℕ → Type 0) (links : N → LinkStep → N → Type 0) (waits : W → Waited → W → Type 0) (clocks : C → Moment → C → Type 0)
-    (turns : ℕ) (clock : ℕ → ℕ) (words : Stream) (f : F) (s : Objects Y D N W C) (path : Option (List ℕ)) (status : ℕ) (g : F) (t : Objects Y D N W C) : Type 0 where
+pub record RunsDaemon {F Y D N W C : Type 0} (reads : F → FileStep → F → Type 0)
+    (sysfs : Sysfs.Ghosts Y) (disk : RuleDisk.Ghosts D)
+    (net : Links.Ghosts N) (wait : Waiter.Ghosts W) (ticks : Clock.Ghosts C)
+    (turns : ℕ) (clock : ℕ → ℕ) (words : Stream) (f : F) (s : Objects Y D N W C)
+    (path : Option (List ℕ)) (status : ℕ) (g : F) (t : Objects Y D N W C) : Type 0 where
   pub journal : List Entry
   pub made : List Turned
-  pub serves : Serves reads begins gives told calls faults keeps disk_told disk_faults aimed links waits clocks turns clock words f s path journal made status g t
+  pub serves : Serves reads sysfs disk net wait ticks turns clock words f s
+      path journal made status g t
   pub noted : NotesEntries journal s.members t.members
   pub all_made : status ≡ 0 → length made ≡ turns
   pub told_refused : status ≡ 3 → TellsRefusal journal

@@ -5,20 +5,21 @@ use Rattle.ug_types.specs.declared.verdict.Moment.{Moment}
 use Rattle.ug_types.specs.declared.waiter.LinkId.{LinkId}
 use Rattle.ug_types.specs.declared.waiter.Ready.{Ready}
 use Rattle.ug_types.specs.Principals.{Named}
-use Rattle.ug_types.specs.Waits.{Waited, Tokens, Failed}
-use Rattle.ug_kernel.specs.Calls.{Call, Answer}
-use Rattle.ug_kernel.specs.Kernel.{Kernel}
+use Rattle.ug_types.specs.Waits.{Tokens, Failed}
+use Rattle.ug_types.specs.declared.waiter.Waiter
+use Rattle.ug_types.specs.declared.clock.Clock
+use Rattle.ug_kernel.specs.declared.sysfs.Sysfs
 use Rattle.ug_audit.specs.declared.entry.Entry.{Entry}
 use Rattle.ug_audit.specs.Noting.{NotesEntries, without_drops}
 use Rattle.ug_audit.specs.Panels.{Member}
 use Rattle.ug_core.specs.declared.daemon.Event.{Event}
 use Rattle.ug_core.specs.declared.daemon.Event.TheVariants.{Sweep, Order}
-use Rattle.ug_store.specs.Disk.{Disk}
-use Rattle.ug_store.specs.DiskCalls.{DiskCall, DiskTold}
+use Rattle.ug_store.specs.declared.disk.RuleDisk
 use Rattle.ug_core.specs.Event.{DaemonState, has_numbers}
 use Rattle.ug_core.specs.Laws.{HandlesEvent}
 use Rattle.ug_links.specs.declared.step.LinkStep.{LinkStep}
 use Rattle.ug_links.specs.Talk.{Path, Makes}
+use Rattle.ug_links.specs.declared.links.Links
 use Rattle.ug_sessions.specs.Answering.{HandsNext}
 use Rattle.ug_sessions.specs.States.{ServerState}
 use Rattle.ug_sessions.specs.Serving.{turning, flushing}
@@ -97,7 +98,10 @@ AskedLine = LinkId × Named × List ℕ
 abbrev pub HandsOutNext : {Y D : Type 0} → Option AskedLine → CoreAndServer Y D → CoreAndServer Y D → Type 0
 HandsOutNext request a b = (b.core ≡ a.core) × ChangesSessions (λ ss ts. HandsNext ss request ts) a.server b.server
 
-module _ {Y D : Type 0} (begins : Y → Y → Type 0) (gives : Y → (call : Call) → Answer call → Y → Type 0) (told : Y → Option Kernel) (calls faults : Y → ℕ) (keeps : D → (call : DiskCall) → DiskTold call → D → Type 0) (disk_told : D → Option Disk) (disk_faults : D → ℕ) where
+module _ {Y D : Type 0} (sysfs : Sysfs.Ghosts Y) (disk : RuleDisk.Ghosts D) where
+  open sysfs use {faults}
+  open disk use {faults as disk_faults}
+
   -- the numbers leave room for an event
   abbrev pub has_room : Core Y D → Bool
   has_room c = has_numbers c.daemon (faults c.sysfs) (disk_faults c.disk)
@@ -105,7 +109,8 @@ module _ {Y D : Type 0} (begins : Y → Y → Type 0) (gives : Y → (call : Cal
   -- the event is handled, and its entries are noted by the auditors while it goes on
   pub record IsHandled (c : Core Y D) (e : TurnEvent) (d : Core Y D) : Type 0 where
     pub room : has_room c ≡ true
-    pub handled : HandlesEvent begins gives told calls faults keeps disk_told disk_faults e.event c.sysfs c.disk c.daemon d.sysfs d.disk d.daemon
+    pub handled : HandlesEvent sysfs disk e.event
+        c.sysfs c.disk c.daemon d.sysfs d.disk d.daemon
     pub after : d.daemon ≡ e.after
     pub entries : d.daemon.sweep.entries ≡ without_drops e.entries
     pub noted : NotesEntries e.entries c.members d.members
@@ -148,7 +153,12 @@ module _ {Y D : Type 0} (begins : Y → Y → Type 0) (gives : Y → (call : Cal
     Serves : (e : TurnEvent) (m : CoreAndServer Y D) (es : List TurnEvent) (whole : Bool) (b : CoreAndServer Y D) → IsOrder moment a e m → ServesOrders moment m es whole b → Events moment a (e ∷ es) whole b
     Serves_not : (asked : AskedLine) (b : CoreAndServer Y D) → HandsOutNext (Some asked) a b → has_room b.core ≡ false → Events moment a [] false b
 
-  module _ {N W C : Type 0} (links : N → LinkStep → N → Type 0) (waits : W → Waited → W → Type 0) (clocks : C → Moment → C → Type 0) where
+  module _ {N W C : Type 0}
+      (net : Links.Ghosts N) (wait : Waiter.Ghosts W) (ticks : Clock.Ghosts C) where
+    open net use {gives as links}
+    open wait use {gives as waits}
+    open ticks use {gives as clocks}
+
     -- these calls send what is unsent; behind events that were cut nothing is sent
     abbrev pub Sends : Bool → List LinkStep → ServerState → N → ServerState → N → Type 0
     Sends true steps v l u m = (counts : Turn) × Path (flushing v) steps (u, counts) × Makes links l steps m

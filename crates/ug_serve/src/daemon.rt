@@ -53,8 +53,7 @@ fn serve_started<Y: Sysfs, D: RuleDisk, N: Links, W: Waiter, C: Clock>(
 ) -> u8
     requires { length first.principals < 2 ^ 32 }
     ensures serves { (made : List Turned)
-        × ServesStarted Y.begins Y.gives Y.told Y.calls Y.faults
-        D.keeps D.told D.faults N.gives W.gives C.gives turns
+        × ServesStarted Y.Sysfs D.RuleDisk N.Links W.Waiter C.Clock turns
         (started first.entry.principals (daemon_of first.entry.daemon))
         (objects sysfs.old disk.old links.old waiter.old clock.old
         (members (λ b. ⟦<dyn Auditor as Auditor>⟧ b.vtable) panel.old)) made result
@@ -102,9 +101,8 @@ fn serve_from<Y: Sysfs, D: RuleDisk, F: ConfFiles, N: Links, W: Waiter, C: Clock
     turns: u64,
 ) -> u8
     requires { 65 ≤ entries.old.room }
-    ensures runs { RunsDaemon F.gives Y.begins Y.gives Y.told Y.calls Y.faults
-        D.keeps D.told D.faults D.aimed N.gives W.gives C.gives turns (clock_of zone.entry)
-        (words_of_seed seed)
+    ensures runs { RunsDaemon F.gives Y.Sysfs D.RuleDisk N.Links W.Waiter C.Clock turns
+        (clock_of zone.entry) (words_of_seed seed)
         files.old (objects sysfs.old disk.old links.old waiter.old clock.old
         (members (λ b. ⟦<dyn Auditor as Auditor>⟧ b.vtable) panel.old))
         (Some path.now) result
@@ -141,9 +139,8 @@ fn serve<Y: Sysfs, D: RuleDisk, F: ConfFiles, N: Links, W: Waiter, C: Clock>(
     panel: &mut Panel,
     turns: u64,
 ) -> u8
-    ensures runs { RunsDaemon F.gives Y.begins Y.gives Y.told Y.calls Y.faults
-        D.keeps D.told D.faults D.aimed N.gives W.gives C.gives turns (clock_of zone.entry)
-        (words_of_seed seed)
+    ensures runs { RunsDaemon F.gives Y.Sysfs D.RuleDisk N.Links W.Waiter C.Clock turns
+        (clock_of zone.entry) (words_of_seed seed)
         files.old (objects sysfs.old disk.old links.old waiter.old clock.old
         (members (λ b. ⟦<dyn Auditor as Auditor>⟧ b.vtable) panel.old))
         (Some path.now) result
@@ -194,9 +191,8 @@ pub fn run_daemon<Y: Sysfs, D: RuleDisk, F: ConfFiles, N: Links, W: Waiter, C: C
     panel: &mut Panel,
     turns: u64,
 ) -> u8
-    ensures runs { RunsDaemon F.gives Y.begins Y.gives Y.told Y.calls Y.faults
-        D.keeps D.told D.faults D.aimed N.gives W.gives C.gives turns (clock_of zone.entry)
-        (words_of_seed seed)
+    ensures runs { RunsDaemon F.gives Y.Sysfs D.RuleDisk N.Links W.Waiter C.Clock turns
+        (clock_of zone.entry) (words_of_seed seed)
         files.old (objects sysfs.old disk.old links.old waiter.old clock.old
         (members (λ b. ⟦<dyn Auditor as Auditor>⟧ b.vtable) panel.old))
         (settings_path (map (λ word. word.now) words.now)) result
@@ -221,10 +217,8 @@ pub fn run_daemon<Y: Sysfs, D: RuleDisk, F: ConfFiles, N: Links, W: Waiter, C: C
     ensures wait_failed { result ≡ 11 → Rose (N.faults links.old) (N.faults links.new)
         ⊎ Rose (W.faults waiter.old) (W.faults waiter.new) }
 
-    ensures carries { TurnsTell Y.begins Y.gives Y.told Y.calls Y.faults D.keeps D.told D.faults
-        N.gives W.gives C.gives N.told W.told C.told }
-    ensures sessions { TurnsServe Y.begins Y.gives Y.told Y.calls Y.faults D.keeps D.told D.faults
-        N.gives W.gives C.gives }
+    ensures carries { TurnsTell Y.Sysfs D.RuleDisk N.Links W.Waiter C.Clock }
+    ensures sessions { TurnsServe Y.Sysfs D.RuleDisk N.Links W.Waiter C.Clock }
 {
     match read_daemon_words(alloc, words) {
         Err(WordsFault::Bad) => 1,

@@ -40,7 +40,7 @@ fn serve_order<Y: Sysfs, D: RuleDisk>(
     requires { IsTrue
         (has_numbers (daemon_of daemon.old) (Y.faults sysfs.old) (D.faults disk.old)) }
     ensures { (e : TurnEvent) × (e.asked_by ≡ Some id) × (e.event ≡ order.now)
-        × IsHandled Y.begins Y.gives Y.told Y.calls Y.faults D.keeps D.told D.faults
+        × IsHandled Y.Sysfs D.RuleDisk
         (core_of (daemon_of daemon.old) sysfs.old disk.old
         (members (λ b. ⟦<dyn Auditor as Auditor>⟧ b.vtable) panel.old)) e
         (core_of (daemon_of daemon.new) sysfs.new disk.new
@@ -62,7 +62,7 @@ fn serve_orders<Y: Sysfs, D: RuleDisk>(
     panel: &mut Panel,
 ) -> bool
     ensures { (orders : List TurnEvent)
-        × ServesOrders Y.begins Y.gives Y.told Y.calls Y.faults D.keeps D.told D.faults moment
+        × ServesOrders Y.Sysfs D.RuleDisk moment
         (with_server (core_of (daemon_of daemon.old) sysfs.old disk.old
         (members (λ b. ⟦<dyn Auditor as Auditor>⟧ b.vtable) panel.old)) server.old) orders result
         (with_server (core_of (daemon_of daemon.new) sysfs.new disk.new
@@ -101,7 +101,7 @@ pub fn serve_events<Y: Sysfs, D: RuleDisk>(
     panel: &mut Panel,
 ) -> bool
     ensures { (events : List TurnEvent)
-        × Events Y.begins Y.gives Y.told Y.calls Y.faults D.keeps D.told D.faults moment
+        × Events Y.Sysfs D.RuleDisk moment
         (with_server (core_of (daemon_of daemon.old) sysfs.old disk.old
         (members (λ b. ⟦<dyn Auditor as Auditor>⟧ b.vtable) panel.old)) server.old) events result
         (with_server (core_of (daemon_of daemon.new) sysfs.new disk.new

@@ -66,8 +66,7 @@ pub fn start<'z, F: ConfFiles, D: RuleDisk>(
     ensures room { entries.new.room ≡ entries.old.room }
     ensures few { IfOk result (λ s. length s.principals < 2 ^ 32) }
     ensures starts { (told : List Entry)
-        × Opens F.gives D.keeps D.told D.faults D.aimed path.now
-        (clock_of zone.entry) (words_of_seed seed)
+        × Opens F.gives D.RuleDisk path.now (clock_of zone.entry) (words_of_seed seed)
         files.old disk.old told (seen_by (λ s. started s.principals (daemon_of s.daemon)) result)
         files.new disk.new
         × AreNoted told (members (λ b. ⟦<dyn Auditor as Auditor>⟧ b.vtable) panel.old)

@@ -38,8 +38,7 @@ pub fn serve_turn<Y: Sysfs, D: RuleDisk, N: Links, W: Waiter, C: Clock>(
     clock: &mut C,
     panel: &mut Panel,
 ) -> TurnEnd
-    ensures turn { EndsTurn Y.begins Y.gives Y.told Y.calls Y.faults D.keeps D.told D.faults
-        N.gives W.gives C.gives
+    ensures turn { EndsTurn Y.Sysfs D.RuleDisk N.Links W.Waiter C.Clock
         (turn_world (core_of (daemon_of daemon.old) sysfs.old disk.old
         (members (λ b. ⟦<dyn Auditor as Auditor>⟧ b.vtable) panel.old))
         server.old links.old waiter.old clock.old)
@@ -81,8 +80,7 @@ pub fn serve_turns<Y: Sysfs, D: RuleDisk, N: Links, W: Waiter, C: Clock>(
     panel: &mut Panel,
 ) -> TurnEnd
     ensures turns { (made : List Turned)
-        × ServesTurns Y.begins Y.gives Y.told Y.calls Y.faults D.keeps D.told D.faults
-        N.gives W.gives C.gives turns
+        × ServesTurns Y.Sysfs D.RuleDisk N.Links W.Waiter C.Clock turns
         (turn_world (core_of (daemon_of daemon.old) sysfs.old disk.old
         (members (λ b. ⟦<dyn Auditor as Auditor>⟧ b.vtable) panel.old))
         server.old links.old waiter.old clock.old)

@@ -14,7 +14,7 @@ pub returns-in-Err-Bad-clause-runs : goal.returns-in-Err-Bad-clause-runs
 returns-in-Err-Bad-clause-runs g c =
     let none : settings_path (map (λ (w : Bor (List ℕ)). w.now) c.args.words.now) ≡ None = rw c.in-Err-Bad.field-0-is at c.in-Err-Bad.ensures.err in
     rw none
-    (runs_without_words g.F.ConfFiles.gives g.Y.Sysfs.begins g.Y.Sysfs.gives g.Y.Sysfs.told g.Y.Sysfs.calls g.Y.Sysfs.faults g.D.RuleDisk.keeps g.D.RuleDisk.told g.D.RuleDisk.faults g.D.RuleDisk.aimed g.N.Links.gives g.W.Waiter.gives g.C.Clock.gives
+    (runs_without_words g.F.ConfFiles.gives g.Y.Sysfs g.D.RuleDisk g.N.Links g.W.Waiter g.C.Clock
     c.args.turns (clock_of c.args.zone) (words_of_seed c.args.seed) c.args.files.now (objects c.args.sysfs.now c.args.disk.now c.args.links.now c.args.waiter.now c.args.clock.now (members (λ b. goal.Auditor-dyn g (b.vtable, b.value)) c.args.panel.now)))
 
 pub returns-in-Err-Bad-clause-statuses : goal.returns-in-Err-Bad-clause-statuses
@@ -39,14 +39,14 @@ returns-in-Err-Bad-clause-complete g c = λ words taken files disk links waiter.
     absurd (words none)
 
 pub returns-in-Err-Bad-clause-carries : goal.returns-in-Err-Bad-clause-carries
-returns-in-Err-Bad-clause-carries g c = turns_tell g.Y.Sysfs.begins g.Y.Sysfs.gives g.Y.Sysfs.told g.Y.Sysfs.calls g.Y.Sysfs.faults g.D.RuleDisk.keeps g.D.RuleDisk.told g.D.RuleDisk.faults g.N.Links.gives g.W.Waiter.gives g.C.Clock.gives g.N.Links.told g.W.Waiter.told g.C.Clock.told g.met.N.Links.tells g.met.W.Waiter.tells g.met.C.Clock.tells
+returns-in-Err-Bad-clause-carries g c = turns_tell g.Y.Sysfs g.D.RuleDisk g.N.Links g.W.Waiter g.C.Clock g.met.N.Links.tells g.met.W.Waiter.tells g.met.C.Clock.tells
 
 pub returns-in-Err-Bad-clause-sessions : goal.returns-in-Err-Bad-clause-sessions
-returns-in-Err-Bad-clause-sessions g c = turns_serve g.Y.Sysfs.begins g.Y.Sysfs.gives g.Y.Sysfs.told g.Y.Sysfs.calls g.Y.Sysfs.faults g.D.RuleDisk.keeps g.D.RuleDisk.told g.D.RuleDisk.faults g.N.Links.gives g.W.Waiter.gives g.C.Clock.gives
+returns-in-Err-Bad-clause-sessions g c = turns_serve g.Y.Sysfs g.D.RuleDisk g.N.Links g.W.Waiter g.C.Clock
 
 pub returns-in-Err-Memory-clause-runs : goal.returns-in-Err-Memory-clause-runs
 returns-in-Err-Memory-clause-runs g c =
-    runs_without_room g.F.ConfFiles.gives g.Y.Sysfs.begins g.Y.Sysfs.gives g.Y.Sysfs.told g.Y.Sysfs.calls g.Y.Sysfs.faults g.D.RuleDisk.keeps g.D.RuleDisk.told g.D.RuleDisk.faults g.D.RuleDisk.aimed g.N.Links.gives g.W.Waiter.gives g.C.Clock.gives
+    runs_without_room g.F.ConfFiles.gives g.Y.Sysfs g.D.RuleDisk g.N.Links g.W.Waiter g.C.Clock
     c.args.turns (clock_of c.args.zone) (words_of_seed c.args.seed) c.args.files.now (objects c.args.sysfs.now c.args.disk.now c.args.links.now c.args.waiter.now c.args.clock.now (members (λ b. goal.Auditor-dyn g (b.vtable, b.value)) c.args.panel.now)) (settings_path (map (λ (w : Bor (List ℕ)). w.now) c.args.words.now)) c.status.result c.status.ensures
 
 pub returns-in-Err-Memory-clause-statuses : goal.returns-in-Err-Memory-clause-statuses
@@ -57,9 +57,9 @@ returns-in-Err-Memory-clause-other_words g c = λ e. inr (inl (sym c.status.ensu
 
 pub returns-in-Err-Memory-clause-refused : goal.returns-in-Err-Memory-clause-refused
 returns-in-Err-Memory-clause-refused g c =
-    let r = runs_without_room g.F.ConfFiles.gives g.Y.Sysfs.begins g.Y.Sysfs.gives g.Y.Sysfs.told g.Y.Sysfs.calls g.Y.Sysfs.faults g.D.RuleDisk.keeps g.D.RuleDisk.told g.D.RuleDisk.faults g.D.RuleDisk.aimed g.N.Links.gives g.W.Waiter.gives g.C.Clock.gives
+    let r = runs_without_room g.F.ConfFiles.gives g.Y.Sysfs g.D.RuleDisk g.N.Links g.W.Waiter g.C.Clock
     c.args.turns (clock_of c.args.zone) (words_of_seed c.args.seed) c.args.files.now (objects c.args.sysfs.now c.args.disk.now c.args.links.now c.args.waiter.now c.args.clock.now (members (λ b. goal.Auditor-dyn g (b.vtable, b.value)) c.args.panel.now)) (settings_path (map (λ (w : Bor (List ℕ)). w.now) c.args.words.now)) c.status.result c.status.ensures in
-    status_told g.F.ConfFiles.gives g.Y.Sysfs.begins g.Y.Sysfs.gives g.Y.Sysfs.told g.Y.Sysfs.calls g.Y.Sysfs.faults g.D.RuleDisk.keeps g.D.RuleDisk.told g.D.RuleDisk.faults g.D.RuleDisk.aimed g.N.Links.gives g.W.Waiter.gives g.C.Clock.gives
+    status_told g.F.ConfFiles.gives g.Y.Sysfs g.D.RuleDisk g.N.Links g.W.Waiter g.C.Clock
     g.F.ConfFiles.told g.met.F.ConfFiles.tells c.args.turns (clock_of c.args.zone) (words_of_seed c.args.seed) c.args.files.now (objects c.args.sysfs.now c.args.disk.now c.args.links.now c.args.waiter.now c.args.clock.now (members (λ b. goal.Auditor-dyn g (b.vtable, b.value)) c.args.panel.now))
     (settings_path (map (λ (w : Bor (List ℕ)). w.now) c.args.words.now)) r.journal r.made c.status.result c.args.files.now (objects c.args.sysfs.now c.args.disk.now c.args.links.now c.args.waiter.now c.args.clock.now (members (λ b. goal.Auditor-dyn g (b.vtable, b.value)) c.args.panel.now)) r.serves
 
@@ -67,66 +67,66 @@ pub returns-in-Err-Memory-clause-complete : goal.returns-in-Err-Memory-clause-co
 returns-in-Err-Memory-clause-complete g c = λ words taken files disk links waiter. inr (inl (sym c.status.ensures))
 
 pub returns-in-Err-Memory-clause-carries : goal.returns-in-Err-Memory-clause-carries
-returns-in-Err-Memory-clause-carries g c = turns_tell g.Y.Sysfs.begins g.Y.Sysfs.gives g.Y.Sysfs.told g.Y.Sysfs.calls g.Y.Sysfs.faults g.D.RuleDisk.keeps g.D.RuleDisk.told g.D.RuleDisk.faults g.N.Links.gives g.W.Waiter.gives g.C.Clock.gives g.N.Links.told g.W.Waiter.told g.C.Clock.told g.met.N.Links.tells g.met.W.Waiter.tells g.met.C.Clock.tells
+returns-in-Err-Memory-clause-carries g c = turns_tell g.Y.Sysfs g.D.RuleDisk g.N.Links g.W.Waiter g.C.Clock g.met.N.Links.tells g.met.W.Waiter.tells g.met.C.Clock.tells
 
 pub returns-in-Err-Memory-clause-sessions : goal.returns-in-Err-Memory-clause-sessions
-returns-in-Err-Memory-clause-sessions g c = turns_serve g.Y.Sysfs.begins g.Y.Sysfs.gives g.Y.Sysfs.told g.Y.Sysfs.calls g.Y.Sysfs.faults g.D.RuleDisk.keeps g.D.RuleDisk.told g.D.RuleDisk.faults g.N.Links.gives g.W.Waiter.gives g.C.Clock.gives
+returns-in-Err-Memory-clause-sessions g c = turns_serve g.Y.Sysfs g.D.RuleDisk g.N.Links g.W.Waiter g.C.Clock
 
 pub returns-in-Ok-clause-runs : goal.returns-in-Ok-clause-runs
 returns-in-Ok-clause-runs g c =
     let path : Some c.bytes.result.now ≡ (settings_path (map (λ (w : Bor (List ℕ)). w.now) c.args.words.now)) = ap Some c.bytes.ensures ∙ sym c.in-Ok.ensures.ok in
-    let r = subst (λ (p : Option (List ℕ)). Runs g.F.ConfFiles.gives g.Y.Sysfs.begins g.Y.Sysfs.gives g.Y.Sysfs.told g.Y.Sysfs.calls g.Y.Sysfs.faults g.D.RuleDisk.keeps g.D.RuleDisk.told g.D.RuleDisk.faults g.D.RuleDisk.aimed g.N.Links.gives g.W.Waiter.gives g.C.Clock.gives c.args.turns (clock_of c.args.zone) (words_of_seed c.args.seed) c.args.files.now (objects c.args.sysfs.now c.args.disk.now c.args.links.now c.args.waiter.now c.args.clock.now (members (λ b. goal.Auditor-dyn g (b.vtable, b.value)) c.args.panel.now)) p c.serve.result c.serve.new.files (objects c.serve.new.sysfs c.serve.new.disk c.serve.new.links c.serve.new.waiter c.serve.new.clock (members (λ b. goal.Auditor-dyn g (b.vtable, b.value)) c.serve.new.panel))) path c.serve.ensures.runs in
+    let r = subst (λ (p : Option (List ℕ)). Runs g.F.ConfFiles.gives g.Y.Sysfs g.D.RuleDisk g.N.Links g.W.Waiter g.C.Clock c.args.turns (clock_of c.args.zone) (words_of_seed c.args.seed) c.args.files.now (objects c.args.sysfs.now c.args.disk.now c.args.links.now c.args.waiter.now c.args.clock.now (members (λ b. goal.Auditor-dyn g (b.vtable, b.value)) c.args.panel.now)) p c.serve.result c.serve.new.files (objects c.serve.new.sysfs c.serve.new.disk c.serve.new.links c.serve.new.waiter c.serve.new.clock (members (λ b. goal.Auditor-dyn g (b.vtable, b.value)) c.serve.new.panel))) path c.serve.ensures.runs in
     r
 
 pub returns-in-Ok-clause-statuses : goal.returns-in-Ok-clause-statuses
 returns-in-Ok-clause-statuses g c =
     let path : Some c.bytes.result.now ≡ (settings_path (map (λ (w : Bor (List ℕ)). w.now) c.args.words.now)) = ap Some c.bytes.ensures ∙ sym c.in-Ok.ensures.ok in
-    let r = subst (λ (p : Option (List ℕ)). Runs g.F.ConfFiles.gives g.Y.Sysfs.begins g.Y.Sysfs.gives g.Y.Sysfs.told g.Y.Sysfs.calls g.Y.Sysfs.faults g.D.RuleDisk.keeps g.D.RuleDisk.told g.D.RuleDisk.faults g.D.RuleDisk.aimed g.N.Links.gives g.W.Waiter.gives g.C.Clock.gives c.args.turns (clock_of c.args.zone) (words_of_seed c.args.seed) c.args.files.now (objects c.args.sysfs.now c.args.disk.now c.args.links.now c.args.waiter.now c.args.clock.now (members (λ b. goal.Auditor-dyn g (b.vtable, b.value)) c.args.panel.now)) p c.serve.result c.serve.new.files (objects c.serve.new.sysfs c.serve.new.disk c.serve.new.links c.serve.new.waiter c.serve.new.clock (members (λ b. goal.Auditor-dyn g (b.vtable, b.value)) c.serve.new.panel))) path c.serve.ensures.runs in
-    has_status g.F.ConfFiles.gives g.Y.Sysfs.begins g.Y.Sysfs.gives g.Y.Sysfs.told g.Y.Sysfs.calls g.Y.Sysfs.faults g.D.RuleDisk.keeps g.D.RuleDisk.told g.D.RuleDisk.faults g.D.RuleDisk.aimed g.N.Links.gives g.W.Waiter.gives g.C.Clock.gives
+    let r = subst (λ (p : Option (List ℕ)). Runs g.F.ConfFiles.gives g.Y.Sysfs g.D.RuleDisk g.N.Links g.W.Waiter g.C.Clock c.args.turns (clock_of c.args.zone) (words_of_seed c.args.seed) c.args.files.now (objects c.args.sysfs.now c.args.disk.now c.args.links.now c.args.waiter.now c.args.clock.now (members (λ b. goal.Auditor-dyn g (b.vtable, b.value)) c.args.panel.now)) p c.serve.result c.serve.new.files (objects c.serve.new.sysfs c.serve.new.disk c.serve.new.links c.serve.new.waiter c.serve.new.clock (members (λ b. goal.Auditor-dyn g (b.vtable, b.value)) c.serve.new.panel))) path c.serve.ensures.runs in
+    has_status g.F.ConfFiles.gives g.Y.Sysfs g.D.RuleDisk g.N.Links g.W.Waiter g.C.Clock
     c.args.turns (clock_of c.args.zone) (words_of_seed c.args.seed) c.args.files.now (objects c.args.sysfs.now c.args.disk.now c.args.links.now c.args.waiter.now c.args.clock.now (members (λ b. goal.Auditor-dyn g (b.vtable, b.value)) c.args.panel.now))
     (settings_path (map (λ (w : Bor (List ℕ)). w.now) c.args.words.now)) r.journal r.made c.serve.result c.serve.new.files (objects c.serve.new.sysfs c.serve.new.disk c.serve.new.links c.serve.new.waiter c.serve.new.clock (members (λ b. goal.Auditor-dyn g (b.vtable, b.value)) c.serve.new.panel)) r.serves
 
 pub returns-in-Ok-clause-bad_words : goal.returns-in-Ok-clause-bad_words
 returns-in-Ok-clause-bad_words g c =
     let path : Some c.bytes.result.now ≡ (settings_path (map (λ (w : Bor (List ℕ)). w.now) c.args.words.now)) = ap Some c.bytes.ensures ∙ sym c.in-Ok.ensures.ok in
-    let r = subst (λ (p : Option (List ℕ)). Runs g.F.ConfFiles.gives g.Y.Sysfs.begins g.Y.Sysfs.gives g.Y.Sysfs.told g.Y.Sysfs.calls g.Y.Sysfs.faults g.D.RuleDisk.keeps g.D.RuleDisk.told g.D.RuleDisk.faults g.D.RuleDisk.aimed g.N.Links.gives g.W.Waiter.gives g.C.Clock.gives c.args.turns (clock_of c.args.zone) (words_of_seed c.args.seed) c.args.files.now (objects c.args.sysfs.now c.args.disk.now c.args.links.now c.args.waiter.now c.args.clock.now (members (λ b. goal.Auditor-dyn g (b.vtable, b.value)) c.args.panel.now)) p c.serve.result c.serve.new.files (objects c.serve.new.sysfs c.serve.new.disk c.serve.new.links c.serve.new.waiter c.serve.new.clock (members (λ b. goal.Auditor-dyn g (b.vtable, b.value)) c.serve.new.panel))) path c.serve.ensures.runs in
-    bad_words g.F.ConfFiles.gives g.Y.Sysfs.begins g.Y.Sysfs.gives g.Y.Sysfs.told g.Y.Sysfs.calls g.Y.Sysfs.faults g.D.RuleDisk.keeps g.D.RuleDisk.told g.D.RuleDisk.faults g.D.RuleDisk.aimed g.N.Links.gives g.W.Waiter.gives g.C.Clock.gives
+    let r = subst (λ (p : Option (List ℕ)). Runs g.F.ConfFiles.gives g.Y.Sysfs g.D.RuleDisk g.N.Links g.W.Waiter g.C.Clock c.args.turns (clock_of c.args.zone) (words_of_seed c.args.seed) c.args.files.now (objects c.args.sysfs.now c.args.disk.now c.args.links.now c.args.waiter.now c.args.clock.now (members (λ b. goal.Auditor-dyn g (b.vtable, b.value)) c.args.panel.now)) p c.serve.result c.serve.new.files (objects c.serve.new.sysfs c.serve.new.disk c.serve.new.links c.serve.new.waiter c.serve.new.clock (members (λ b. goal.Auditor-dyn g (b.vtable, b.value)) c.serve.new.panel))) path c.serve.ensures.runs in
+    bad_words g.F.ConfFiles.gives g.Y.Sysfs g.D.RuleDisk g.N.Links g.W.Waiter g.C.Clock
     c.args.turns (clock_of c.args.zone) (words_of_seed c.args.seed) c.args.files.now (objects c.args.sysfs.now c.args.disk.now c.args.links.now c.args.waiter.now c.args.clock.now (members (λ b. goal.Auditor-dyn g (b.vtable, b.value)) c.args.panel.now))
     (settings_path (map (λ (w : Bor (List ℕ)). w.now) c.args.words.now)) r.journal r.made c.serve.result c.serve.new.files (objects c.serve.new.sysfs c.serve.new.disk c.serve.new.links c.serve.new.waiter c.serve.new.clock (members (λ b. goal.Auditor-dyn g (b.vtable, b.value)) c.serve.new.panel)) r.serves
 
 pub returns-in-Ok-clause-other_words : goal.returns-in-Ok-clause-other_words
 returns-in-Ok-clause-other_words g c =
     let path : Some c.bytes.result.now ≡ (settings_path (map (λ (w : Bor (List ℕ)). w.now) c.args.words.now)) = ap Some c.bytes.ensures ∙ sym c.in-Ok.ensures.ok in
-    let r = subst (λ (p : Option (List ℕ)). Runs g.F.ConfFiles.gives g.Y.Sysfs.begins g.Y.Sysfs.gives g.Y.Sysfs.told g.Y.Sysfs.calls g.Y.Sysfs.faults g.D.RuleDisk.keeps g.D.RuleDisk.told g.D.RuleDisk.faults g.D.RuleDisk.aimed g.N.Links.gives g.W.Waiter.gives g.C.Clock.gives c.args.turns (clock_of c.args.zone) (words_of_seed c.args.seed) c.args.files.now (objects c.args.sysfs.now c.args.disk.now c.args.links.now c.args.waiter.now c.args.clock.now (members (λ b. goal.Auditor-dyn g (b.vtable, b.value)) c.args.panel.now)) p c.serve.result c.serve.new.files (objects c.serve.new.sysfs c.serve.new.disk c.serve.new.links c.serve.new.waiter c.serve.new.clock (members (λ b. goal.Auditor-dyn g (b.vtable, b.value)) c.serve.new.panel))) path c.serve.ensures.runs in
-    other_words g.F.ConfFiles.gives g.Y.Sysfs.begins g.Y.Sysfs.gives g.Y.Sysfs.told g.Y.Sysfs.calls g.Y.Sysfs.faults g.D.RuleDisk.keeps g.D.RuleDisk.told g.D.RuleDisk.faults g.D.RuleDisk.aimed g.N.Links.gives g.W.Waiter.gives g.C.Clock.gives
+    let r = subst (λ (p : Option (List ℕ)). Runs g.F.ConfFiles.gives g.Y.Sysfs g.D.RuleDisk g.N.Links g.W.Waiter g.C.Clock c.args.turns (clock_of c.args.zone) (words_of_seed c.args.seed) c.args.files.now (objects c.args.sysfs.now c.args.disk.now c.args.links.now c.args.waiter.now c.args.clock.now (members (λ b. goal.Auditor-dyn g (b.vtable, b.value)) c.args.panel.now)) p c.serve.result c.serve.new.files (objects c.serve.new.sysfs c.serve.new.disk c.serve.new.links c.serve.new.waiter c.serve.new.clock (members (λ b. goal.Auditor-dyn g (b.vtable, b.value)) c.serve.new.panel))) path c.serve.ensures.runs in
+    other_words g.F.ConfFiles.gives g.Y.Sysfs g.D.RuleDisk g.N.Links g.W.Waiter g.C.Clock
     c.args.turns (clock_of c.args.zone) (words_of_seed c.args.seed) c.args.files.now (objects c.args.sysfs.now c.args.disk.now c.args.links.now c.args.waiter.now c.args.clock.now (members (λ b. goal.Auditor-dyn g (b.vtable, b.value)) c.args.panel.now))
     (settings_path (map (λ (w : Bor (List ℕ)). w.now) c.args.words.now)) r.journal r.made c.serve.result c.serve.new.files (objects c.serve.new.sysfs c.serve.new.disk c.serve.new.links c.serve.new.waiter c.serve.new.clock (members (λ b. goal.Auditor-dyn g (b.vtable, b.value)) c.serve.new.panel)) r.serves
 
 pub returns-in-Ok-clause-refused : goal.returns-in-Ok-clause-refused
 returns-in-Ok-clause-refused g c =
     let path : Some c.bytes.result.now ≡ (settings_path (map (λ (w : Bor (List ℕ)). w.now) c.args.words.now)) = ap Some c.bytes.ensures ∙ sym c.in-Ok.ensures.ok in
-    let r = subst (λ (p : Option (List ℕ)). Runs g.F.ConfFiles.gives g.Y.Sysfs.begins g.Y.Sysfs.gives g.Y.Sysfs.told g.Y.Sysfs.calls g.Y.Sysfs.faults g.D.RuleDisk.keeps g.D.RuleDisk.told g.D.RuleDisk.faults g.D.RuleDisk.aimed g.N.Links.gives g.W.Waiter.gives g.C.Clock.gives c.args.turns (clock_of c.args.zone) (words_of_seed c.args.seed) c.args.files.now (objects c.args.sysfs.now c.args.disk.now c.args.links.now c.args.waiter.now c.args.clock.now (members (λ b. goal.Auditor-dyn g (b.vtable, b.value)) c.args.panel.now)) p c.serve.result c.serve.new.files (objects c.serve.new.sysfs c.serve.new.disk c.serve.new.links c.serve.new.waiter c.serve.new.clock (members (λ b. goal.Auditor-dyn g (b.vtable, b.value)) c.serve.new.panel))) path c.serve.ensures.runs in
-    status_told g.F.ConfFiles.gives g.Y.Sysfs.begins g.Y.Sysfs.gives g.Y.Sysfs.told g.Y.Sysfs.calls g.Y.Sysfs.faults g.D.RuleDisk.keeps g.D.RuleDisk.told g.D.RuleDisk.faults g.D.RuleDisk.aimed g.N.Links.gives g.W.Waiter.gives g.C.Clock.gives
+    let r = subst (λ (p : Option (List ℕ)). Runs g.F.ConfFiles.gives g.Y.Sysfs g.D.RuleDisk g.N.Links g.W.Waiter g.C.Clock c.args.turns (clock_of c.args.zone) (words_of_seed c.args.seed) c.args.files.now (objects c.args.sysfs.now c.args.disk.now c.args.links.now c.args.waiter.now c.args.clock.now (members (λ b. goal.Auditor-dyn g (b.vtable, b.value)) c.args.panel.now)) p c.serve.result c.serve.new.files (objects c.serve.new.sysfs c.serve.new.disk c.serve.new.links c.serve.new.waiter c.serve.new.clock (members (λ b. goal.Auditor-dyn g (b.vtable, b.value)) c.serve.new.panel))) path c.serve.ensures.runs in
+    status_told g.F.ConfFiles.gives g.Y.Sysfs g.D.RuleDisk g.N.Links g.W.Waiter g.C.Clock
     g.F.ConfFiles.told g.met.F.ConfFiles.tells c.args.turns (clock_of c.args.zone) (words_of_seed c.args.seed) c.args.files.now (objects c.args.sysfs.now c.args.disk.now c.args.links.now c.args.waiter.now c.args.clock.now (members (λ b. goal.Auditor-dyn g (b.vtable, b.value)) c.args.panel.now))
     (settings_path (map (λ (w : Bor (List ℕ)). w.now) c.args.words.now)) r.journal r.made c.serve.result c.serve.new.files (objects c.serve.new.sysfs c.serve.new.disk c.serve.new.links c.serve.new.waiter c.serve.new.clock (members (λ b. goal.Auditor-dyn g (b.vtable, b.value)) c.serve.new.panel)) r.serves
 
 pub returns-in-Ok-clause-complete : goal.returns-in-Ok-clause-complete
 returns-in-Ok-clause-complete g c = λ words taken files disk links waiter.
     let path : Some c.bytes.result.now ≡ (settings_path (map (λ (w : Bor (List ℕ)). w.now) c.args.words.now)) = ap Some c.bytes.ensures ∙ sym c.in-Ok.ensures.ok in
-    let r = subst (λ (p : Option (List ℕ)). Runs g.F.ConfFiles.gives g.Y.Sysfs.begins g.Y.Sysfs.gives g.Y.Sysfs.told g.Y.Sysfs.calls g.Y.Sysfs.faults g.D.RuleDisk.keeps g.D.RuleDisk.told g.D.RuleDisk.faults g.D.RuleDisk.aimed g.N.Links.gives g.W.Waiter.gives g.C.Clock.gives c.args.turns (clock_of c.args.zone) (words_of_seed c.args.seed) c.args.files.now (objects c.args.sysfs.now c.args.disk.now c.args.links.now c.args.waiter.now c.args.clock.now (members (λ b. goal.Auditor-dyn g (b.vtable, b.value)) c.args.panel.now)) p c.serve.result c.serve.new.files (objects c.serve.new.sysfs c.serve.new.disk c.serve.new.links c.serve.new.waiter c.serve.new.clock (members (λ b. goal.Auditor-dyn g (b.vtable, b.value)) c.serve.new.panel))) path c.serve.ensures.runs in
+    let r = subst (λ (p : Option (List ℕ)). Runs g.F.ConfFiles.gives g.Y.Sysfs g.D.RuleDisk g.N.Links g.W.Waiter g.C.Clock c.args.turns (clock_of c.args.zone) (words_of_seed c.args.seed) c.args.files.now (objects c.args.sysfs.now c.args.disk.now c.args.links.now c.args.waiter.now c.args.clock.now (members (λ b. goal.Auditor-dyn g (b.vtable, b.value)) c.args.panel.now)) p c.serve.result c.serve.new.files (objects c.serve.new.sysfs c.serve.new.disk c.serve.new.links c.serve.new.waiter c.serve.new.clock (members (λ b. goal.Auditor-dyn g (b.vtable, b.value)) c.serve.new.panel))) path c.serve.ensures.runs in
     let one =
-    bad_words g.F.ConfFiles.gives g.Y.Sysfs.begins g.Y.Sysfs.gives g.Y.Sysfs.told g.Y.Sysfs.calls g.Y.Sysfs.faults g.D.RuleDisk.keeps g.D.RuleDisk.told g.D.RuleDisk.faults g.D.RuleDisk.aimed g.N.Links.gives g.W.Waiter.gives g.C.Clock.gives
+    bad_words g.F.ConfFiles.gives g.Y.Sysfs g.D.RuleDisk g.N.Links g.W.Waiter g.C.Clock
     c.args.turns (clock_of c.args.zone) (words_of_seed c.args.seed) c.args.files.now (objects c.args.sysfs.now c.args.disk.now c.args.links.now c.args.waiter.now c.args.clock.now (members (λ b. goal.Auditor-dyn g (b.vtable, b.value)) c.args.panel.now))
     (settings_path (map (λ (w : Bor (List ℕ)). w.now) c.args.words.now)) r.journal r.made c.serve.result c.serve.new.files (objects c.serve.new.sysfs c.serve.new.disk c.serve.new.links c.serve.new.waiter c.serve.new.clock (members (λ b. goal.Auditor-dyn g (b.vtable, b.value)) c.serve.new.panel)) r.serves in
     let known =
-    has_status g.F.ConfFiles.gives g.Y.Sysfs.begins g.Y.Sysfs.gives g.Y.Sysfs.told g.Y.Sysfs.calls g.Y.Sysfs.faults g.D.RuleDisk.keeps g.D.RuleDisk.told g.D.RuleDisk.faults g.D.RuleDisk.aimed g.N.Links.gives g.W.Waiter.gives g.C.Clock.gives
+    has_status g.F.ConfFiles.gives g.Y.Sysfs g.D.RuleDisk g.N.Links g.W.Waiter g.C.Clock
     c.args.turns (clock_of c.args.zone) (words_of_seed c.args.seed) c.args.files.now (objects c.args.sysfs.now c.args.disk.now c.args.links.now c.args.waiter.now c.args.clock.now (members (λ b. goal.Auditor-dyn g (b.vtable, b.value)) c.args.panel.now))
     (settings_path (map (λ (w : Bor (List ℕ)). w.now) c.args.words.now)) r.journal r.made c.serve.result c.serve.new.files (objects c.serve.new.sysfs c.serve.new.disk c.serve.new.links c.serve.new.waiter c.serve.new.clock (members (λ b. goal.Auditor-dyn g (b.vtable, b.value)) c.serve.new.panel)) r.serves in
     completes c.serve.result known (λ e. words (one e)) taken
     (λ e. files (c.serve.ensures.files_failed e)) (λ e. disk (c.serve.ensures.disk_failed e)) (λ e. elim (c.serve.ensures.wait_failed e) [ inl h ↦ links h | inr h ↦ waiter h ])
 
 pub returns-in-Ok-clause-carries : goal.returns-in-Ok-clause-carries
-returns-in-Ok-clause-carries g c = turns_tell g.Y.Sysfs.begins g.Y.Sysfs.gives g.Y.Sysfs.told g.Y.Sysfs.calls g.Y.Sysfs.faults g.D.RuleDisk.keeps g.D.RuleDisk.told g.D.RuleDisk.faults g.N.Links.gives g.W.Waiter.gives g.C.Clock.gives g.N.Links.told g.W.Waiter.told g.C.Clock.told g.met.N.Links.tells g.met.W.Waiter.tells g.met.C.Clock.tells
+returns-in-Ok-clause-carries g c = turns_tell g.Y.Sysfs g.D.RuleDisk g.N.Links g.W.Waiter g.C.Clock g.met.N.Links.tells g.met.W.Waiter.tells g.met.C.Clock.tells
 
 pub returns-in-Ok-clause-sessions : goal.returns-in-Ok-clause-sessions
-returns-in-Ok-clause-sessions g c = turns_serve g.Y.Sysfs.begins g.Y.Sysfs.gives g.Y.Sysfs.told g.Y.Sysfs.calls g.Y.Sysfs.faults g.D.RuleDisk.keeps g.D.RuleDisk.told g.D.RuleDisk.faults g.N.Links.gives g.W.Waiter.gives g.C.Clock.gives
+returns-in-Ok-clause-sessions g c = turns_serve g.Y.Sysfs g.D.RuleDisk g.N.Links g.W.Waiter g.C.Clock

@@ -9,7 +9,7 @@ use Rattle.ug_serve.proofs.daemon.serve_from.Goals as goal
 pub returns-in-Err-clause-runs : goal.returns-in-Err-clause-runs
 returns-in-Err-clause-runs g c =
     let starts = c.in-Err.ensures.starts in
-    runs_refused g.F.ConfFiles.gives g.Y.Sysfs.begins g.Y.Sysfs.gives g.Y.Sysfs.told g.Y.Sysfs.calls g.Y.Sysfs.faults g.D.RuleDisk.keeps g.D.RuleDisk.told g.D.RuleDisk.faults g.D.RuleDisk.aimed g.N.Links.gives g.W.Waiter.gives g.C.Clock.gives
+    runs_refused g.F.ConfFiles.gives g.Y.Sysfs g.D.RuleDisk g.N.Links g.W.Waiter g.C.Clock
     c.args.turns (clock_of c.args.zone) (words_of_seed c.args.seed) c.args.files.now (objects c.args.sysfs.now c.args.disk.now c.args.links.now c.args.waiter.now c.args.clock.now (members (λ b. goal.Auditor-dyn g (b.vtable, b.value)) c.args.panel.now)) c.args.path.now
     starts.0 c.in-Err.why c.start.new.files c.start.new.disk (members (λ b. goal.Auditor-dyn g (b.vtable, b.value)) c.start.new.panel) (members (λ b. goal.Auditor-dyn g (b.vtable, b.value)) c.note_refusal.new.panel) c.status.result starts.1 starts.2 c.note_refusal.ensures c.status.ensures
 
@@ -17,7 +17,7 @@ pub returns-in-Ok-clause-runs : goal.returns-in-Ok-clause-runs
 returns-in-Ok-clause-runs g c =
     let starts = c.in-Ok.ensures.starts in
     let served = c.serve_started.ensures.serves in
-    runs_served g.F.ConfFiles.gives g.Y.Sysfs.begins g.Y.Sysfs.gives g.Y.Sysfs.told g.Y.Sysfs.calls g.Y.Sysfs.faults g.D.RuleDisk.keeps g.D.RuleDisk.told g.D.RuleDisk.faults g.D.RuleDisk.aimed g.N.Links.gives g.W.Waiter.gives g.C.Clock.gives
+    runs_served g.F.ConfFiles.gives g.Y.Sysfs g.D.RuleDisk g.N.Links g.W.Waiter g.C.Clock
     c.args.turns (clock_of c.args.zone) (words_of_seed c.args.seed) c.args.files.now (objects c.args.sysfs.now c.args.disk.now c.args.links.now c.args.waiter.now c.args.clock.now (members (λ b. goal.Auditor-dyn g (b.vtable, b.value)) c.args.panel.now)) c.args.path.now
     starts.0 (started c.in-Ok.first.principals (daemon_of c.in-Ok.first.daemon)) c.start.new.files c.start.new.disk (members (λ b. goal.Auditor-dyn g (b.vtable, b.value)) c.start.new.panel) served.0 c.serve_started.result
     (objects c.serve_started.new.sysfs c.serve_started.new.disk c.serve_started.new.links c.serve_started.new.waiter c.serve_started.new.clock (members (λ b. goal.Auditor-dyn g (b.vtable, b.value)) c.serve_started.new.panel)) starts.1 starts.2 served.1

@@ -42,6 +42,6 @@ returns-else-not-has_room-2 g c =
     let rest = c.serve_orders.ensures in (
       e.0 ∷ rest.0,
       Serves e.0 (with_server middle c.serve_order.new.server) rest.0 c.serve_orders.result (with_server end_ c.serve_orders.new.server)
-          (record { asked = (c.in-Some.id, c.in-Some.who, c.in-Some.line); handed = with_server here c.next_request.new.self; hands = (refl, (c.in-Some.ensures.principals, c.in-Some.ensures.listeners, c.in-Some.ensures.hands)); session = e.1; order = is; handled = e.3; replied = order_leaves g.Y.Sysfs.begins g.Y.Sysfs.gives g.Y.Sysfs.told g.Y.Sysfs.calls g.Y.Sysfs.faults g.D.RuleDisk.keeps g.D.RuleDisk.told g.D.RuleDisk.faults c.args.moment c.in-Some.who c.in-Some.line here e.0 middle is e.3; responds = e.4 })
+          (record { asked = (c.in-Some.id, c.in-Some.who, c.in-Some.line); handed = with_server here c.next_request.new.self; hands = (refl, (c.in-Some.ensures.principals, c.in-Some.ensures.listeners, c.in-Some.ensures.hands)); session = e.1; order = is; handled = e.3; replied = order_leaves g.Y.Sysfs g.D.RuleDisk c.args.moment c.in-Some.who c.in-Some.line here e.0 middle is e.3; responds = e.4 })
           rest.1,
     )

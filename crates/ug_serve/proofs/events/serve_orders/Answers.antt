@@ -14,13 +14,13 @@ pub returns-in-None : goal.returns-in-None
 returns-in-None g c =
     let here = core_of (daemon_of c.loop-id.daemon) c.loop-id.sysfs c.loop-id.disk (members (λ b. goal.Auditor-dyn g (b.vtable, b.value)) c.loop-id.panel) in
     c.loop-id.invariant [] true (with_server here c.next_request.new.self)
-    (orders_none g.Y.Sysfs.begins g.Y.Sysfs.gives g.Y.Sysfs.told g.Y.Sysfs.calls g.Y.Sysfs.faults g.D.RuleDisk.keeps g.D.RuleDisk.told g.D.RuleDisk.faults c.args.moment (with_server here c.loop-id.server) (with_server here c.next_request.new.self) (refl, (c.in-None.ensures.principals, c.in-None.ensures.listeners, c.in-None.ensures.hands)))
+    (orders_none g.Y.Sysfs g.D.RuleDisk c.args.moment (with_server here c.loop-id.server) (with_server here c.next_request.new.self) (refl, (c.in-None.ensures.principals, c.in-None.ensures.listeners, c.in-None.ensures.hands)))
 
 pub returns-then-not-has_room : goal.returns-then-not-has_room
 returns-then-not-has_room g c =
     let here = core_of (daemon_of c.loop-id.daemon) c.loop-id.sysfs c.loop-id.disk (members (λ b. goal.Auditor-dyn g (b.vtable, b.value)) c.loop-id.panel) in
     c.loop-id.invariant [] false (with_server here c.next_request.new.self)
-    (orders_cut g.Y.Sysfs.begins g.Y.Sysfs.gives g.Y.Sysfs.told g.Y.Sysfs.calls g.Y.Sysfs.faults g.D.RuleDisk.keeps g.D.RuleDisk.told g.D.RuleDisk.faults c.args.moment (with_server here c.loop-id.server) (with_server here c.next_request.new.self) (c.in-Some.id, c.in-Some.who, c.in-Some.line) (refl, (c.in-Some.ensures.principals, c.in-Some.ensures.listeners, c.in-Some.ensures.hands)) (sym c.has_room.ensures ∙ c.if-not-has_room.true))
+    (orders_cut g.Y.Sysfs g.D.RuleDisk c.args.moment (with_server here c.loop-id.server) (with_server here c.next_request.new.self) (c.in-Some.id, c.in-Some.who, c.in-Some.line) (refl, (c.in-Some.ensures.principals, c.in-Some.ensures.listeners, c.in-Some.ensures.hands)) (sym c.has_room.ensures ∙ c.if-not-has_room.true))
 
 pub loop-id-preserved-else-not-has_room : goal.loop-id-preserved-else-not-has_room
 loop-id-preserved-else-not-has_room g c =
@@ -29,8 +29,8 @@ loop-id-preserved-else-not-has_room g c =
     let e = c.serve_order.ensures in
     let is : e.0.event ≡ Order c.args.moment c.in-Some.who c.in-Some.line = search (rules, e.2) in
     λ es whole b k. c.loop-id.invariant (e.0 ∷ es) whole b
-    (orders_more g.Y.Sysfs.begins g.Y.Sysfs.gives g.Y.Sysfs.told g.Y.Sysfs.calls g.Y.Sysfs.faults g.D.RuleDisk.keeps g.D.RuleDisk.told g.D.RuleDisk.faults c.args.moment (with_server here c.loop-id.server) e.0 (with_server then_ c.serve_order.new.server) es whole b
-    (record { asked = (c.in-Some.id, c.in-Some.who, c.in-Some.line); handed = with_server here c.next_request.new.self; hands = (refl, (c.in-Some.ensures.principals, c.in-Some.ensures.listeners, c.in-Some.ensures.hands)); session = e.1; order = is; handled = e.3; replied = order_leaves g.Y.Sysfs.begins g.Y.Sysfs.gives g.Y.Sysfs.told g.Y.Sysfs.calls g.Y.Sysfs.faults g.D.RuleDisk.keeps g.D.RuleDisk.told g.D.RuleDisk.faults c.args.moment c.in-Some.who c.in-Some.line here e.0 then_ is e.3; responds = e.4 }) k)
+    (orders_more g.Y.Sysfs g.D.RuleDisk c.args.moment (with_server here c.loop-id.server) e.0 (with_server then_ c.serve_order.new.server) es whole b
+    (record { asked = (c.in-Some.id, c.in-Some.who, c.in-Some.line); handed = with_server here c.next_request.new.self; hands = (refl, (c.in-Some.ensures.principals, c.in-Some.ensures.listeners, c.in-Some.ensures.hands)); session = e.1; order = is; handled = e.3; replied = order_leaves g.Y.Sysfs g.D.RuleDisk c.args.moment c.in-Some.who c.in-Some.line here e.0 then_ is e.3; responds = e.4 }) k)
 
 pub loop-id-smaller-else-not-has_room : goal.loop-id-smaller-else-not-has_room
 loop-id-smaller-else-not-has_room g c =

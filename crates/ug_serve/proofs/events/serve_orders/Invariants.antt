@@ -9,10 +9,10 @@ use Rattle.ug_serve.proofs.events.serve_orders.Given as goal
 abbrev pub invariant-loop-id : goal.invariant-loop-id
 invariant-loop-id g l =
     (es : List TurnEvent) (whole : Bool) (b : _)
-    → ServesOrders g.Y.Sysfs.begins g.Y.Sysfs.gives g.Y.Sysfs.told g.Y.Sysfs.calls g.Y.Sysfs.faults g.D.RuleDisk.keeps g.D.RuleDisk.told g.D.RuleDisk.faults l.moment
+    → ServesOrders g.Y.Sysfs g.D.RuleDisk l.moment
     (with_server (core_of (daemon_of l.daemon) l.sysfs l.disk (members (λ b. goal.Auditor-dyn g (b.vtable, b.value)) l.panel)) l.server) es whole b
     → (orders : List TurnEvent)
-    × ServesOrders g.Y.Sysfs.begins g.Y.Sysfs.gives g.Y.Sysfs.told g.Y.Sysfs.calls g.Y.Sysfs.faults g.D.RuleDisk.keeps g.D.RuleDisk.told g.D.RuleDisk.faults l.moment
+    × ServesOrders g.Y.Sysfs g.D.RuleDisk l.moment
     (with_server (core_of (daemon_of l.fn.daemon) l.fn.sysfs l.fn.disk (members (λ b. goal.Auditor-dyn g (b.vtable, b.value)) l.fn.panel)) l.fn.server) orders whole b
 
 abbrev pub decreases-loop-id : goal.decreases-loop-id

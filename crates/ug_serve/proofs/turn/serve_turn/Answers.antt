@@ -25,7 +25,7 @@ returns-then-not-serve_events-clause-turn g c =
         comes = came.1;
         comes_made = came.2;
         served = c.serve_events.new.server;
-        events = events_as g.Y.Sysfs.begins g.Y.Sysfs.gives g.Y.Sysfs.told g.Y.Sysfs.calls g.Y.Sysfs.faults g.D.RuleDisk.keeps g.D.RuleDisk.told g.D.RuleDisk.faults _ _ _ _ false _ c.if-not-serve_events.true events.1;
+        events = events_as g.Y.Sysfs g.D.RuleDisk _ _ _ _ false _ c.if-not-serve_events.true events.1;
         sends = (refl, refl, refl);
       },
       refl,
@@ -47,7 +47,7 @@ returns-clause-turn g c =
         comes = came.1;
         comes_made = came.2;
         served = c.serve_events.new.server;
-        events = events_as g.Y.Sysfs.begins g.Y.Sysfs.gives g.Y.Sysfs.told g.Y.Sysfs.calls g.Y.Sysfs.faults g.D.RuleDisk.keeps g.D.RuleDisk.told g.D.RuleDisk.faults _ _ _ _ true _ c.if-not-serve_events.false events.1;
+        events = events_as g.Y.Sysfs g.D.RuleDisk _ _ _ _ true _ c.if-not-serve_events.false events.1;
         sends = (c.flush-sent.result, sent.1, sent.2);
       },
       refl,

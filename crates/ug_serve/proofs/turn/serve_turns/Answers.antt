@@ -10,7 +10,7 @@ loop-i-init g c = record { made = ([], refl, tt, refl); counted = omega arith }
 
 pub loop-i-preserved : goal.loop-i-preserved
 loop-i-preserved g c = record {
-  made = turns_one g.Y.Sysfs.begins g.Y.Sysfs.gives g.Y.Sysfs.told g.Y.Sysfs.calls g.Y.Sysfs.faults g.D.RuleDisk.keeps g.D.RuleDisk.told g.D.RuleDisk.faults g.N.Links.gives g.W.Waiter.gives g.C.Clock.gives c.loop-i.i
+  made = turns_one g.Y.Sysfs g.D.RuleDisk g.N.Links g.W.Waiter g.C.Clock c.loop-i.i
       (turn_world (core_of (daemon_of c.args.daemon.now) c.args.sysfs.now c.args.disk.now (members (λ b. goal.Auditor-dyn g (b.vtable, b.value)) c.args.panel.now)) c.args.server.now c.args.links.now c.args.waiter.now c.args.clock.now)
       (turn_world (core_of (daemon_of c.loop-i.daemon) c.loop-i.sysfs c.loop-i.disk (members (λ b. goal.Auditor-dyn g (b.vtable, b.value)) c.loop-i.panel)) c.loop-i.server c.loop-i.links c.loop-i.waiter c.loop-i.clock)
       (turn_world (core_of (daemon_of c.serve_turn.new.daemon) c.serve_turn.new.sysfs c.serve_turn.new.disk (members (λ b. goal.Auditor-dyn g (b.vtable, b.value)) c.serve_turn.new.panel)) c.serve_turn.new.server c.serve_turn.new.links c.serve_turn.new.waiter c.serve_turn.new.clock)
@@ -21,7 +21,7 @@ loop-i-preserved g c = record {
 pub returns-in-Numbers-clause-turns : goal.returns-in-Numbers-clause-turns
 returns-in-Numbers-clause-turns g c =
     let so = c.loop-i.invariant.made in
-    turns_cut g.Y.Sysfs.begins g.Y.Sysfs.gives g.Y.Sysfs.told g.Y.Sysfs.calls g.Y.Sysfs.faults g.D.RuleDisk.keeps g.D.RuleDisk.told g.D.RuleDisk.faults g.N.Links.gives g.W.Waiter.gives g.C.Clock.gives c.args.turns
+    turns_cut g.Y.Sysfs g.D.RuleDisk g.N.Links g.W.Waiter g.C.Clock c.args.turns
     (turn_world (core_of (daemon_of c.args.daemon.now) c.args.sysfs.now c.args.disk.now (members (λ b. goal.Auditor-dyn g (b.vtable, b.value)) c.args.panel.now)) c.args.server.now c.args.links.now c.args.waiter.now c.args.clock.now)
     (turn_world (core_of (daemon_of c.loop-i.daemon) c.loop-i.sysfs c.loop-i.disk (members (λ b. goal.Auditor-dyn g (b.vtable, b.value)) c.loop-i.panel)) c.loop-i.server c.loop-i.links c.loop-i.waiter c.loop-i.clock)
     (turn_world (core_of (daemon_of c.serve_turn.new.daemon) c.serve_turn.new.sysfs c.serve_turn.new.disk (members (λ b. goal.Auditor-dyn g (b.vtable, b.value)) c.serve_turn.new.panel)) c.serve_turn.new.server c.serve_turn.new.links c.serve_turn.new.waiter c.serve_turn.new.clock)
