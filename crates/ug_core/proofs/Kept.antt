@@ -553,8 +553,8 @@ kept_event gives keeps told did event s o d tried q became m p a e added runs an
     )
 
 -- where an event tells its calls
-pub file_kept : {S T : Type 0} (gives : S → (call : Call) → Answer call → S → Type 0) (calls faults : S → ℕ) (keeps : T → (call : DiskCall) → DiskTold call → T → Type 0) (told : T → Option Disk) (did : (s : T) (call : DiskCall) (a : DiskTold call) (t : T) (n : Disk) → keeps s call a t → told t ≡ Some n → FollowsOnDisk call a (told s) n) (event : Event) (s : S) (o : T) (d : DaemonState) (tried : Option Saved) (q : T) (became : Stored) (m : S) (p : T) (a : DaemonState) (t : S) (e : DaemonState) → RunsDisk keeps o (trying d) tried q → RunsAnswer gives keeps event s q (ready event tried d) became m p a → TellsEvent gives calls faults event s (ready event tried d) became m a t e → SameRules a.sweep.judge e.sweep → KeepsFile told event tried became o d p e
-file_kept gives calls faults keeps told did event s o d tried q became m p a t e runs answers tells rules =
+pub file_kept : {S T : Type 0} (gives : S → (call : Call) → Answer call → S → Type 0) {calls faults : S → ℕ} (keeps : T → (call : DiskCall) → DiskTold call → T → Type 0) (told : T → Option Disk) (did : (s : T) (call : DiskCall) (a : DiskTold call) (t : T) (n : Disk) → keeps s call a t → told t ≡ Some n → FollowsOnDisk call a (told s) n) (event : Event) (s : S) (o : T) (d : DaemonState) (tried : Option Saved) (q : T) (became : Stored) (m : S) (p : T) (a : DaemonState) (t : S) (e : DaemonState) → RunsDisk keeps o (trying d) tried q → RunsAnswer gives keeps event s q (ready event tried d) became m p a → TellsEvent gives calls faults event s (ready event tried d) became m a t e → SameRules a.sweep.judge e.sweep → KeepsFile told event tried became o d p e
+file_kept gives keeps told did event s o d tried q became m p a t e runs answers tells rules =
     kept_event gives keeps told did event s o d tried q became m p a e ((tells.goes.head ++ tells.goes.rest) ++ entry.End a.event ∷ []) runs answers
     (ap (λ (v : State Judging). v.entries) tells.entries ∙ ap (λ (es : List Entry). es ++ entry.End a.event ∷ []) tells.goes.entries ∙ append_assoc a.sweep.entries (tells.goes.head ++ tells.goes.rest) (entry.End a.event ∷ []))
     rules

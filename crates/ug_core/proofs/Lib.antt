@@ -25,3 +25,4 @@ pub mod RowOrder
 pub mod RowWalk
 pub mod Written
 pub mod Stopped
+pub mod Tried

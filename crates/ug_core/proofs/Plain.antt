@@ -140,3 +140,10 @@ handle_so d = ends_then (Stays d.sweep) (λ (e : DaemonState). SameRules d.sweep
 
 pub event_keeps_rules : {S : Type 0} (gives : S → (call : Call) → Answer call → S → Type 0) (s : S) (d e : DaemonState) (t : S) → Runs gives s (handling d) e t → SameRules d.sweep.judge e.sweep
 event_keeps_rules gives s d e t h = ends_run gives (λ (x : DaemonState). SameRules d.sweep.judge x.sweep) (handling d) s e t (handle_so d) h
+
+pending_so : (d : DaemonState) → EndsSo (λ (e : DaemonState). e.pending ≡ d.pending) (handling d)
+unfolding handling
+pending_so d = ends_after (λ (e : DaemonState). e.pending ≡ d.pending) (sweeping policy_answer policy_later d.sweep) (ended d) (λ v. refl)
+
+pub event_keeps_pending : {S : Type 0} (gives : S → (call : Call) → Answer call → S → Type 0) (s : S) (d e : DaemonState) (t : S) → Runs gives s (handling d) e t → e.pending ≡ d.pending
+event_keeps_pending gives s d e t h = ends_run gives (λ (x : DaemonState). x.pending ≡ d.pending) (handling d) s e t (pending_so d) h

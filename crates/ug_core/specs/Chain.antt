@@ -36,6 +36,7 @@ use Rattle.ug_core.specs.Policy.{Judging}
 use Rattle.ug_core.specs.Verdicts.{IsVerdict}
 use Rattle.ug_core.specs.Durable.{IsKept, unsure_behind, unsure_with, KeepsRules, KeepsFile, texts_of}
 use Rattle.ug_core.specs.Event.{DaemonState, IsStarted, moment_of, ready}
+use Rattle.ug_core.specs.Pending.{TriesSave}
 use Rattle.ug_core.specs.Privileges.{is_granted}
 use Rattle.ug_core.specs.InForce.{Decision, decision_of, decisions_in, is_ordered, unordered, in_force, Agree, given_numbers, Follow}
 use Rattle.ug_core.specs.Laws.{AnswersEvent, Handled}
@@ -70,6 +71,7 @@ pub record IsEvent (h : Happened) : Type 0 where
   pub answers : AnswersEvent h.event h.kernel (ready_of h) h.became h.kernel_answered h.answered
   pub handled : Handled h.kernel_answered h.answered h.kernel_after h.after
   pub file : KeepsFile (λ (o : Option Disk). o) h.event h.tried h.became h.disk h.before h.disk_after h.after
+  pub saves : TriesSave h.event h.tried h.became h.before h.after
 
 -- where a disk is told, one was told before, and is as it was
 abbrev pub StaysOnDisk : Option Disk → Option Disk → Type 0

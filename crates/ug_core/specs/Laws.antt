@@ -53,6 +53,7 @@ use Rattle.ug_core.specs.Policy.{Judging, policy_answer, policy_later}
 use Rattle.ug_core.specs.Privileges.{denied_of, is_granted}
 use Rattle.ug_core.specs.Event.{DaemonState, ready, trying, handling}
 use Rattle.ug_core.specs.Durable.{KeepsFile, WritesEvent}
+use Rattle.ug_core.specs.Pending.{TriesSave}
 use Rattle.ug_core.specs.declared.changes.Change.{Change}
 use Rattle.ug_core.specs.declared.changes.Change.TheVariants.{Rules}
 use Rattle.ug_core.specs.declared.choosing.Choice.{Choice}
@@ -340,7 +341,8 @@ module _ {S T : Type 0} (sysfs : Sysfs.Ghosts S) (disk : RuleDisk.Ghosts T) wher
   -- An event: on the disk a pending save, and what became of it; on the kernel, where the
   -- numbering of calls begins anew, and on the disk the order from the state behind that; and on
   -- the kernel the sweep from the state behind the order. What a crash may leave of the rule file
-  -- is kept, and what was written to it can be read again.
+  -- is kept, and what was written to it can be read again. A save is tried exactly where one was
+  -- pending, and the entries tell what became of it.
   pub record HandlesEvent (event : Event) (s : S) (o : T) (d : DaemonState)
       (t : S) (p : T) (e : DaemonState) : Type 0 where
     pub tried : Option Saved
@@ -365,10 +367,11 @@ module _ {S T : Type 0} (sysfs : Sysfs.Ghosts S) (disk : RuleDisk.Ghosts T) wher
         became middle answered t e
     pub once : NamesOnceIn told middle answered t e
     pub file : KeepsFile disk_told event tried became o d p e
+    pub saves : TriesSave event tried became d e
 
   -- An event with something between its stages, on the kernel's object, which that relation tells:
-  -- behind the pending save, and behind the order. The stages are those of an event, and what a
-  -- crash may leave of the rule file is kept.
+  -- behind the pending save, and behind the order. The stages are those of an event, what a crash
+  -- may leave of the rule file is kept, and a save is tried exactly where one was pending.
   pub record PassesEvent (goes : S → T → S → Type 0) (event : Event) (s : S) (o : T)
       (d : DaemonState) (t : S) (p : T) (e : DaemonState) : Type 0 where
     pub tried : Option Saved
@@ -390,3 +393,4 @@ module _ {S T : Type 0} (sysfs : Sysfs.Ghosts S) (disk : RuleDisk.Ghosts T) wher
     pub saveable : IsSaveable d.sweep.judge.rules
     pub saveable_after : IsSaveable e.sweep.judge.rules
     pub file : KeepsFile disk_told event tried became o d p e
+    pub saves : TriesSave event tried became d e

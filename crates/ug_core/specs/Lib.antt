@@ -6,6 +6,7 @@ pub mod Policy
 pub mod Privileges
 pub mod Verdicts
 pub mod Event
+pub mod Pending
 pub mod Durable
 pub mod Laws
 pub mod InForce

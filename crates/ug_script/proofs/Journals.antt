@@ -48,7 +48,8 @@ use Rattle.ug_sysfs.specs.World.{Gives}
 use Rattle.ug_play.proofs.Plays.{play_runs}
 use Rattle.ug_core.specs.Chain.{IsEvent, StaysOnDisk}
 use Rattle.ug_core.proofs.Kept.{file_kept, stays_there}
-use Rattle.ug_core.proofs.Plain.{SameRules, event_keeps_rules}
+use Rattle.ug_core.proofs.Plain.{SameRules, event_keeps_pending, event_keeps_rules}
+use Rattle.ug_core.proofs.Tried.{tries_save}
 use Rattle.ug_core.proofs.Verdicts.{steps_later}
 use Rattle.ug_core.proofs.SoFar.{journal_append}
 use Rattle.ug_core.proofs.Chained.{is_run, chain_more, chain_moves}
@@ -212,11 +213,13 @@ is_event first n done runs text event s w h =
     let q : DiskWorld = (tried_by d o).1 in
     let a = answered_from event d w o in
     let p = event_from event d w o in
+    let tells = tells_event event d w o h.holds in
     let swept : SameRules a.daemon.sweep.judge p.daemon.sweep = event_keeps_rules Gives a.world a.daemon (play (handling a.daemon) a.world).0 (play (handling a.daemon) a.world).1 (play_runs (handling a.daemon) a.world) in
     record {
       answers = answers event d w o h.holds;
       handled = handled event d w o h.holds;
-      file = file_kept Gives calls_of faults_of MemKeeps disk_told mem_did event (begun w) o d tried q a.became a.world a.disk a.daemon p.world p.daemon (play_runs_disk (trying d) o) (order_runs event (ready event tried d) (begun w) q) (tells_event event d w o h.holds) swept;
+      file = file_kept Gives MemKeeps disk_told mem_did event (begun w) o d tried q a.became a.world a.disk a.daemon p.world p.daemon (play_runs_disk (trying d) o) (order_runs event (ready event tried d) (begun w) q) tells swept;
+      saves = tries_save Gives calls_of faults_of MemKeeps event o d tried q (begun w) a.became tells.order a.world a.disk a.daemon a.world p.world p.daemon tells.swept (play_runs_disk (trying d) o) (order_runs event (ready event tried d) (begun w) q) tells.answers tells.goes tells.entries (event_keeps_pending Gives a.world a.daemon p.daemon p.world (play_runs (handling a.daemon) a.world));
     }
 
 -- the chain with that event

@@ -17,6 +17,7 @@ use Rattle.ug_core.specs.declared.daemon.Event.{Event}
 use Rattle.ug_core.specs.Policy.{Judging}
 use Rattle.ug_core.specs.Event.{DaemonState, IsStarted, ready}
 use Rattle.ug_core.specs.Durable.{KeepsFile}
+use Rattle.ug_core.specs.Pending.{TriesSave}
 use Rattle.ug_core.specs.Laws.{AnswersEvent, Handled}
 use Rattle.ug_core.specs.Stops.{AllReadable}
 use Rattle.ug_core.specs.Durable.{WritesEvent}
@@ -73,12 +74,12 @@ record IsChained (events : List TurnEvent) (k : Kernel) (o : Option Disk) (d : D
   readable : AllReadable hs
 
 chained_more : (x : TurnEvent) (xs : List TurnEvent) (tried : Option Saved) (k : Kernel) (o : Option Disk) (d : DaemonState) (became : Stored) (j : Kernel) (a : DaemonState) (m : Kernel) (n : Option Disk) (b : DaemonState) (l : Kernel) (p : Option Disk) (e : DaemonState)
-    → b.sweep.entries ≡ without_drops x.entries → AnswersEvent x.event k (ready x.event tried d) became j a → Handled j a m b → KeepsFile (λ (y : Option Disk). y) x.event tried became o d n b → IsSaveable d.sweep.judge.rules → WritesEvent x.event d became → IsSaveable b.sweep.judge.rules → IsChained xs m n b l p e → IsChained (x ∷ xs) k o d l p e
-chained_more x xs tried k o d became j a m n b l p e is answers handled file saves writes saves_after c = record {
+    → b.sweep.entries ≡ without_drops x.entries → AnswersEvent x.event k (ready x.event tried d) became j a → Handled j a m b → KeepsFile (λ (y : Option Disk). y) x.event tried became o d n b → IsSaveable d.sweep.judge.rules → WritesEvent x.event d became → IsSaveable b.sweep.judge.rules → TriesSave x.event tried became d b → IsChained xs m n b l p e → IsChained (x ∷ xs) k o d l p e
+chained_more x xs tried k o d became j a m n b l p e is answers handled file saves writes saves_after tries c = record {
   hs = record { event = x.event; tried = tried; kernel = k; disk = o; before = d; became = became; kernel_answered = j; answered = a; kernel_after = m; disk_after = n; after = b } ∷ c.hs;
   events_are = ap (λ (es : List Event). x.event ∷ es) c.events_are;
   entries_are = ap (λ (es : List Entry). b.sweep.entries ++ es) c.entries_are ∙ (ap (λ (es : List Entry). es ++ without_drops (events_entries xs)) is ∙ sym (drops_append x.entries (events_entries xs)));
-  chain = (unmoving k, rests o, refl, record { answers = answers; handled = handled; file = file }, c.chain);
+  chain = (unmoving k, rests o, refl, record { answers = answers; handled = handled; file = file; saves = tries }, c.chain);
   readable = (record { before = saves; written = writes; after = saves_after }, c.readable);
 }
 
@@ -147,7 +148,7 @@ module _ {Y D : Type 0} (sysfs : Sysfs.Ghosts Y) (disk : RuleDisk.Ghosts D) wher
             let answers = now.2 sound stand in
             let behind = answered_stands x.event now.0 begins_so h.1.handled.became swept.0 h.1.handled.answered sound stand answers in
             let handled : Handled swept.0 h.1.handled.answered later.0 m.daemon = swept.2 behind.0 behind.1 in
-            chained_more x xs h.1.handled.tried now.0 (disk_told c.disk) c.daemon h.1.handled.became swept.0 h.1.handled.answered later.0 (disk_told m.disk) m.daemon l (disk_told d.disk) d.daemon h.1.entries answers handled h.1.handled.file h.1.handled.saveable h.1.handled.written h.1.handled.saveable_after
+            chained_more x xs h.1.handled.tried now.0 (disk_told c.disk) c.daemon h.1.handled.became swept.0 h.1.handled.answered later.0 (disk_told m.disk) m.daemon l (disk_told d.disk) d.daemon h.1.entries answers handled h.1.handled.file h.1.handled.saveable h.1.handled.written h.1.handled.saveable_after h.1.handled.saves
             (later.2 handled.law.fair.sound (stands_after swept.0 h.1.handled.answered later.0 m.daemon handled)),
       )
 

@@ -9,7 +9,8 @@ use Rattle.ug_core.proofs.Answered.{answering_made, answering_told, ready_failur
 use Rattle.ug_core.proofs.Failures.{event_tells}
 use Rattle.ug_core.proofs.Kept.{file_kept}
 use Rattle.ug_core.proofs.Noted.{all_noted}
-use Rattle.ug_core.proofs.Plain.{event_keeps_rules}
+use Rattle.ug_core.proofs.Plain.{event_keeps_pending, event_keeps_rules}
+use Rattle.ug_core.proofs.Tried.{tries_save}
 use Rattle.ug_core.proofs.Written.{ready_writes}
 use Rattle.ug_core.specs.Durable.{WritesEvent}
 use Rattle.ug_core.proofs.daemon.Daemon.handle.Goals as goal
@@ -68,7 +69,8 @@ returns-clause-handles g c =
       law = c.sweep.ensures.law;
       faults_told = tells;
       once = c.sweep.ensures.once;
-      file = file_kept g.Y.Sysfs.gives g.Y.Sysfs.calls g.Y.Sysfs.faults g.D.RuleDisk.keeps g.D.RuleDisk.told g.met.D.RuleDisk.did event start o d tried q became middle p a t e tries answers tells (event_keeps_rules g.Y.Sysfs.gives middle a e t c.sweep.ensures.runs);
+      file = file_kept g.Y.Sysfs.gives g.D.RuleDisk.keeps g.D.RuleDisk.told g.met.D.RuleDisk.did event start o d tried q became middle p a t e tries answers tells (event_keeps_rules g.Y.Sysfs.gives middle a e t c.sweep.ensures.runs);
+      saves = tries_save g.Y.Sysfs.gives g.Y.Sysfs.calls g.Y.Sysfs.faults g.D.RuleDisk.keeps event o d tried q start became made.made middle p a middle t e c.sweep.ensures.tells.swept tries answers made.goes c.sweep.ensures.tells.tells.goes c.sweep.ensures.tells.entries (event_keeps_pending g.Y.Sysfs.gives middle a e t c.sweep.ensures.runs);
     }
 
 pub returns-clause-noted : goal.returns-clause-noted

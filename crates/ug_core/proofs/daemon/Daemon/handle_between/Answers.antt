@@ -9,7 +9,8 @@ use Rattle.ug_audit.proofs.Texts.{all_entries}
 use Rattle.ug_core.proofs.Answered.{answering_made, ready_failures, ready_names}
 use Rattle.ug_core.proofs.Kept.{kept_event, sweep_adds}
 use Rattle.ug_core.proofs.Noted.{all_noted}
-use Rattle.ug_core.proofs.Plain.{event_keeps_rules}
+use Rattle.ug_core.proofs.Plain.{event_keeps_pending, event_keeps_rules}
+use Rattle.ug_core.proofs.Tried.{tries_save}
 use Rattle.ug_core.proofs.Written.{ready_writes}
 use Rattle.ug_core.proofs.daemon.Daemon.handle_between.Goals as goal
 
@@ -44,6 +45,9 @@ returns-clause-passes g c =
     let p = c.answer-stored.new.disk in
     let tries : RunsDisk g.D.RuleDisk.keeps o (trying d) tried q = subst (λ (x : DaemonState). RunsDisk g.D.RuleDisk.keeps o (trying x) tried q) c.begin.ensures.daemon c.save_pending-tried.ensures.runs in
     let answers : RunsAnswer g.Y.Sysfs.gives g.D.RuleDisk.keeps event started q (ready event tried d) became middle p a = subst (λ (x : DaemonState). RunsAnswer g.Y.Sysfs.gives g.D.RuleDisk.keeps event started q x became middle p a) is c.answer-stored.ensures.runs in
+    let began = g.met.Y.Sysfs.began c.args.sysfs.now c.begin-2.new.self c.begin-2.ensures in
+    let none : g.Y.Sysfs.calls started ≡ 0 = c.pass.ensures.calls ∙ began.1 in
+    let made = answering_made g.Y.Sysfs.gives g.Y.Sysfs.calls g.Y.Sysfs.faults g.met.Y.Sysfs.counted g.D.RuleDisk.keeps event started q (ready event tried d) became middle p a none (subst (λ (n : ℕ). StandInOrder n c.args.self.now.table.standings) c.next_number-next.ensures.next c.next_number-next.ensures.standings) (ready_failures event tried d) (ready_names event tried d) answers in
     let adds = sweep_adds g.Y.Sysfs.gives g.Y.Sysfs.calls g.Y.Sysfs.faults resumed a t e c.sweep.ensures.tells in
     record {
       tried = tried;
@@ -64,6 +68,7 @@ returns-clause-passes g c =
       saveable = c.stay_saveable.ensures;
       saveable_after = c.stay_saveable-2.ensures;
       file = kept_event g.Y.Sysfs.gives g.D.RuleDisk.keeps g.D.RuleDisk.told g.met.D.RuleDisk.did event started o d tried q became middle p a e adds.0 tries answers adds.1 (event_keeps_rules g.Y.Sysfs.gives resumed a e t c.sweep.ensures.runs);
+      saves = tries_save g.Y.Sysfs.gives g.Y.Sysfs.calls g.Y.Sysfs.faults g.D.RuleDisk.keeps event o d tried q started became made.made middle p a resumed t e c.sweep.ensures.tells.swept tries answers made.goes c.sweep.ensures.tells.tells.goes c.sweep.ensures.tells.entries (event_keeps_pending g.Y.Sysfs.gives resumed a e t c.sweep.ensures.runs);
     }
 
 pub returns-clause-noted : goal.returns-clause-noted
