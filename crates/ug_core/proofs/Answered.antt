@@ -1,5 +1,5 @@
 -- What an order does, from what it comes to.
-use Rattle.std.proofs.Common.{◌≡◌, ℕ, Bool, true, false, cond, List, [], ◌∷◌, ◌++◌, Option, Some, None, Err, Ok, ◌⊎◌, inl, inr, refl, sym, ◌∙◌, ap, subst, append-nil}
+use Rattle.std.proofs.Common.{◌≡◌, ℕ, Bool, true, false, cond, not, ◌&&◌, is_none, List, [], ◌∷◌, ◌++◌, Option, Some, None, Err, Ok, ◌⊎◌, inl, inr, refl, sym, ◌∙◌, ap, subst, append-nil}
 use Rattle.std.specs.Prelude.{IsSome}
 use Rattle.ug_types.specs.Elements.{Has}
 use Rattle.ug_types.specs.Principals.{Named}
@@ -9,6 +9,9 @@ use Rattle.ug_types.specs.declared.saved.Saved.{Saved}
 use Rattle.ug_types.specs.declared.saved.Saved.TheVariants as saved
 use Rattle.ug_types.specs.declared.verdict.Moment.{Moment}
 use Rattle.ug_types.specs.declared.verdict.Target.{Target}
+use Rattle.ug_types.specs.declared.verdict.Target.TheVariants as target
+use Rattle.ug_types.specs.Names.{parent_of}
+use Rattle.ug_types.specs.declared.control.Write.{Write}
 use Rattle.ug_kernel.specs.declared.calls.FailedCall.{FailedCall}
 use Rattle.ug_kernel.specs.declared.calls.Probe.{Probe}
 use Rattle.ug_kernel.specs.declared.calls.Probe.TheVariants as probe
@@ -17,7 +20,7 @@ use Rattle.ug_kernel.specs.Called.{Follows, says_probe}
 use Rattle.ug_kernel.specs.Calls.{Call, Answer, Ask_alive, Told, failed_probe}
 use Rattle.ug_kernel.specs.Kernel.{Kernel, IsKernel}
 use Rattle.ug_kernel.specs.Quiet.{Quiet}
-use Rattle.ug_kernel.specs.Tree.{calls}
+use Rattle.ug_kernel.specs.Tree.{Runs, calls}
 use Rattle.ug_kernel.proofs.Grow.{quiet_grows}
 use Rattle.ug_kernel.proofs.Quiet.{called_quiet, quiet_refl}
 use Rattle.ug_kernel.proofs.Rises.{Counting, along_numbered}
@@ -31,12 +34,13 @@ use Rattle.ug_proto.specs.declared.request.Request.{Request}
 use Rattle.ug_proto.specs.declared.request.Request.TheVariants as request
 use Rattle.ug_rules.specs.declared.edit.Edit.TheVariants.{Insert, Remove, Retarget}
 use Rattle.ug_store.specs.DiskCalls.{DiskCall, DiskTold}
+use Rattle.ug_table.specs.Bring.{default_write, is_reject, is_to_go}
 use Rattle.ug_table.specs.Laws.{Stand, swept_before}
 use Rattle.ug_table.specs.One.{failed_of, whys}
 use Rattle.ug_table.specs.Order.{StandInOrder}
 use Rattle.ug_table.specs.Orders.{ProbedOne, with_verdict, verdict_entry, ordering}
 use Rattle.ug_table.specs.Parts.{AllBear, failures_told, told_in_reply, unsettled_names}
-use Rattle.ug_table.specs.Standings.{numbered}
+use Rattle.ug_table.specs.Standings.{known_of, numbered}
 use Rattle.ug_table.specs.State.{State, Kept, kept_of, terms_of}
 use Rattle.ug_table.specs.declared.standing.Settled.{Settled}
 use Rattle.ug_table.specs.declared.standing.Settled.TheVariants as settled
@@ -44,12 +48,13 @@ use Rattle.ug_table.specs.declared.standing.Standing.{Standing}
 use Rattle.ug_table.proofs.Devices.{stand_stays}
 use Rattle.ug_table.proofs.OnePart.{told_more}
 use Rattle.ug_table.proofs.Once.{names_more}
-use Rattle.ug_table.proofs.Ordered.{EndsOrder, order_one, order_part, ordering_ways}
+use Rattle.ug_table.proofs.Ordered.{EndsOrder, numbered_now, order_marks, order_one, order_part, order_short, ordering_ways}
 use Rattle.ug_table.proofs.Standings.{numbered_has}
+use Rattle.ug_table.proofs.Steps.{in_order as kept_order}
 use Rattle.ug_core.specs.Answering.{acting, answer_of, asking, deed_after, keeping, reply_to, replying}
 use Rattle.ug_core.specs.Changes.{change_entry, lines_of}
 use Rattle.ug_core.specs.Event.{DaemonState, ready}
-use Rattle.ug_core.specs.Laws.{Answers, AnswersAtOnce, AnswersEvent, CarriesOut, GoesAsAnswer, GoesOn, No_record, No_room, Outcome, ProbeRefuses, RefusesBehind, RefusesOrder, RunsAnswer, StoreRefuses, Unstored, Without_memory, if_watching, is_on_device}
+use Rattle.ug_core.specs.Laws.{Answers, AnswersAtOnce, AnswersEvent, CarriesOut, GoesAsAnswer, GoesOn, LeavesVerdict, No_record, No_room, Outcome, ProbeRefuses, RefusesBehind, RefusesOrder, RunsAnswer, StoreRefuses, Unstored, Without_memory, if_watching, is_on_device}
 use Rattle.ug_core.specs.Policy.{Judging, policy_answer, policy_later}
 use Rattle.ug_core.specs.Storing.{noted_store, refused_by, stored_with, with_changes}
 use Rattle.ug_core.specs.declared.changes.Change.{Change}
@@ -60,6 +65,39 @@ use Rattle.ug_core.specs.declared.storing.Stored.{Stored}
 use Rattle.ug_core.specs.declared.storing.Stored.TheVariants as stored
 use Rattle.ug_core.proofs.Came.{At_first, At_last, At_once, At_probe, By_probe, Came, GoesFrom, No_call, Sets, SetsVerdict, came_so, stores_as}
 use Rattle.ug_core.proofs.Asked.{Probed}
+
+-- ---- what a verdict leaves
+
+-- of a standing that is still to be removed
+reject_of : (verdict : Target) (removed : Bool) → (is_reject verdict && not removed) ≡ true → verdict ≡ target.Reject
+reject_of target.Allow removed e = let none : ⊥ = cc in absurd none
+reject_of target.Block removed e = let none : ⊥ = cc in absurd none
+reject_of target.Reject removed e = refl
+
+-- where no default is written, none is due
+none_due : (b : Bool) (what : Write) → cond b (default_write None) None ≡ Some what → ⊥
+none_due true what e = cc
+none_due false what e = cc
+
+-- only where memory was wanted is that said behind a verdict
+wanted_of : (lines : List (List ℕ)) (how : Settled) (said : Option Reply) → said ≡ Some (reply_to lines how) → said ≡ Some (reply.Refused (refusal.Memory true)) → how ≡ settled.Memory
+wanted_of lines settled.Stands said is e = let none : ⊥ = cc in absurd none
+wanted_of lines settled.Nobody said is e = let none : ⊥ = cc in absurd none
+wanted_of lines (settled.Fault failed) said is e = let none : ⊥ = cc in absurd none
+wanted_of lines settled.Memory said is e = refl
+
+leaves_verdict : {S : Type 0} (gives : S → (call : Call) → Answer call → S → Type 0) (next number : ℕ) (verdict : Target) (who : Named) (on : Bool) (k : Kept) (x : Standing) (s : S) (p : Settled × Kept) (t : S) (lines : List (List ℕ)) (said : Option Reply) → said ≡ Some (reply_to lines p.0) → StandInOrder next k.standings → numbered number k.standings ≡ Some x → Runs gives s (ordering number verdict who on k) p t → LeavesVerdict number verdict k.standings p.1.standings p.0 said
+leaves_verdict gives next number verdict who on k x s p t lines said is order at run = record {
+  wanting = λ e.
+      let y : Standing = with_verdict verdict who x in
+      let n = order_short gives number verdict who on k x s p t at run (wanted_of lines p.0 said is e) in
+      let same : n.0 ≡ y = let both : Some n.0 ≡ Some y = sym n.1 ∙ numbered_now number verdict who k.standings x at in cc in
+      elim n.2 [
+        | inl go ↦ reject_of verdict x.removed (subst (λ (z : Standing). is_to_go (known_of z) ≡ true) same go)
+        | inr due ↦ absurd (none_due (is_none (parent_of n.0.name) && not (known_of n.0).defaulted) due.0 due.1)
+      ];
+  marks = order_marks gives next number verdict who on k x s p t order at run;
+}
 
 -- ---- in the words of calls
 
@@ -189,7 +227,7 @@ module _ {S : Type 0} (gives : S → (call : Call) → Answer call → S → Typ
       record {
         made = m ∷ g.made;
         along = (y.behind, x.probed, g.along);
-        goes = inr (inr (record { number = y.number; verdict = y.verdict; standing = x.standing; stands = x.stands; on = y.on; found = x.found; alive = y.alive; behind = y.behind; probed = x.probed; change = change; changed = now; after_change = refl; how = y.p.0; kept = y.p.1; goes = g; made_is = refl; lines = lines; state = y.state }));
+        goes = inr (inr (record { number = y.number; verdict = y.verdict; standing = x.standing; stands = x.stands; on = y.on; found = x.found; alive = y.alive; behind = y.behind; probed = x.probed; change = change; changed = now; after_change = refl; how = y.p.0; kept = y.p.1; goes = g; made_is = refl; leaves = leaves_verdict gives now.sweep.next y.number y.verdict who y.on (kept_of now.sweep.standings now.sweep.entries) x.standing y.behind y.p t lines a.reply (ap (λ (v : DaemonState). v.reply) y.state) in_order here y.run; lines = lines; state = y.state }));
         told = reply_told (reply_to lines y.p.0) a b y.state ∙ ap (λ (fs : List FailedCall). fs ++ told_in_reply (answer_of (reply_to lines y.p.0))) before ∙ told_answer lines y.p.0 ∙ sym g.failed ∙ ap (λ (fs : List FailedCall). fs ++ failures g.made) (sym alive);
         nameless = reply_names (reply_to lines y.p.0) a b y.state ∙ names;
       }
@@ -354,6 +392,7 @@ module _ (who : Named) (line : List ℕ) (k : Kernel) (d : DaemonState) (change 
         how = y.p.0;
         kept = y.p.1;
         law = order_one y.number y.verdict who y.on now.sweep y.behind l y.p x.standing z.sound_after (stand_stays k y.behind now.sweep.standings now.sweep.next (quiet_grows k y.behind z.quiet) stand_now) here y.run;
+        leaves = leaves_verdict calls now.sweep.next y.number y.verdict who y.on was x.standing y.behind y.p l (lines_of change d.sweep.judge.next) a.reply (ap (λ (v : DaemonState). v.reply) y.state) (kept_order stand_now) here y.run;
         rest = told.rest;
         entries = told.entries;
         bears = told.bears;

@@ -22,10 +22,10 @@ use Rattle.ug_core.specs.Policy.{Judging}
 use Rattle.ug_core.specs.Event.{DaemonState, IsStarted}
 use Rattle.ug_core.specs.InForce.{Decision, decision_of, decisions_in, last_decision, in_force, is_ordered}
 use Rattle.ug_core.specs.Rulings.{Decided, Ruling, Told, after_steps, at_moment, ruling_answer}
-use Rattle.ug_core.specs.Chain.{Happened, IsEvent, StaysOnDisk, Chain, IsKeptThroughout, journal, told_of, has_listed, WasDecided, IsExplained, AllExplained, IsJudgedOnce, IsRun}
+use Rattle.ug_core.specs.Chain.{Happened, IsEvent, StaysOnDisk, Chain, IsKeptThroughout, journal, told_of, has_listed, WasDecided, IsExplained, Explains, Nothing_told, No_write, Had_effect, Had_none, AllExplained, IsJudgedOnce, IsRun}
 use Rattle.ug_core.proofs.Verdicts.{is_verdict}
 use Rattle.ug_core.proofs.InForce.{unordered_has, decisions_append, or_else_none, last_has}
-use Rattle.ug_core.proofs.Walk.{WasWritten}
+use Rattle.ug_core.proofs.Walk.{Effected, None_written, Others, Uneffected, Written}
 use Rattle.ug_core.proofs.Kept.{stays_there, stays_then, kept_along}
 use Rattle.ug_core.proofs.Known.{same_device, only_number}
 use Rattle.ug_core.proofs.SoFar.{SoFar, ruling_of, step_has, still_so, told_has}
@@ -56,7 +56,7 @@ started_so policy hub number k d s =
       placed = λ r a. absurd a;
       changed = λ c a. absurd a;
       ordered = λ c a is. absurd a;
-      written = record { added = []; log = sym (append-nil k.log); each = λ e a. absurd a };
+      written = record { added = []; log = sym (append-nil k.log); each = None_written };
       numbers = s.next;
       agree = λ x a. absurd (none x a);
       known = λ c a. absurd a;
@@ -96,20 +96,19 @@ force_told es front back n d at force =
     let last : last_decision (decisions_in front) n ≡ Some d = sym (or_else_none (last_decision (decisions_in front) n)) ∙ force in
     subst (λ (ds : List Decision). Has ds d) (sym (ap (λ (x : List Entry). decisions_in x) at ∙ decisions_append front back)) (has_left (decisions_in front) (decisions_in back) d (last_has (decisions_in front) n d last).0)
 
-explained : (policy : Judging) (first k : Kernel) (hs : List Happened) (v : State Judging) (so : SoFar policy first k hs (told_of hs) (journal hs) v) (effect : Effect) → WasWritten v.hub [] (journal hs) k effect → IsExplained v.hub policy hs so.steps k effect
-explained policy first k hs v so effect w =
-    let two : List Entry = wrote_entries w.decision.number w.decision.name effect.write w.outcome in
-    record {
-      decision = w.decision;
-      outcome = w.outcome;
-      front = w.front;
-      back = w.back;
-      at = w.at;
-      may = w.may;
-      force = w.force;
-      wanted = w.wanted;
-      decided = decided_on policy first k hs v so w.decision effect.device (force_told (journal hs) w.front (two ++ w.back) w.decision.number w.decision w.at w.force) w.device.file;
-    }
+-- the entries are the front of the journal
+explained : (policy : Judging) (first k : Kernel) (hs : List Happened) (v : State Judging) (so : SoFar policy first k hs (told_of hs) (journal hs) v) (es back : List Entry) (log : List Effect) → journal hs ≡ es ++ back → Written v.hub [] k es log → Explains v.hub policy hs so.steps k es log
+explained policy first k hs v so _ back _ at None_written = Nothing_told
+explained policy first k hs v so _ back _ at (Others es more log none w) = No_write es more log none (explained policy first k hs v so es (more ++ back) log (at ∙ append_assoc es more back) w)
+explained policy first k hs v so _ back _ at (Effected es log decision outcome effect is may w) =
+    let two : List Entry = wrote_entries decision.number decision.name effect.write outcome in
+    let cut : journal hs ≡ es ++ (two ++ back) = at ∙ append_assoc es two back in
+    let told : Has (decisions_in (journal hs)) decision = force_told (journal hs) es (two ++ back) decision.number decision cut is.force in
+    let this : IsExplained v.hub policy hs so.steps k es decision effect = record { force = is.force; wanted = is.wanted; decided = decided_on policy first k hs v so decision effect.device told is.device.file } in
+    Had_effect es log decision outcome effect may this (explained policy first k hs v so es (two ++ back) log cut w)
+explained policy first k hs v so _ back _ at (Uneffected es log number name what outcome may w) =
+    let two : List Entry = wrote_entries number name what outcome in
+    Had_none es log number name what outcome may (explained policy first k hs v so es (two ++ back) log (at ∙ append_assoc es two back) w)
 
 judged_once : (policy : Judging) (first k : Kernel) (hs : List Happened) (w : State Judging) (so : SoFar policy first k hs (told_of hs) (journal hs) w) (i : ℕ) (d : Device) → Live k.devices i d → IsAsJudged w.hub k w.standings i → IsJudgedOnce w.hub policy hs so.steps k w.standings i
 judged_once policy first k hs w so i d live a =
@@ -130,7 +129,7 @@ run_of policy hub first k o hs p e setting listed so file = record {
   placed = so.placed;
   changed = so.changed;
   ordered = so.ordered;
-  explained = subst (λ (o : Option Write). AllExplained o policy hs so.steps first k) setting (record { added = so.written.added; log = so.written.log; each = λ x a. explained policy first k hs e.sweep so x (so.written.each x a) });
+  explained = subst (λ (o : Option Write). AllExplained o policy hs so.steps first k) setting (record { added = so.written.added; log = so.written.log; each = explained policy first k hs e.sweep so (journal hs) [] so.written.added (sym (append-nil (journal hs))) so.written.each });
   numbers = so.numbers;
   agree = so.agree;
   setting = setting;

@@ -20,7 +20,7 @@ use Rattle.ug_proto.specs.declared.reply.Reply.TheVariants as reply
 use Rattle.ug_proto.specs.declared.request.Request.{Request}
 use Rattle.ug_proto.specs.declared.request.Request.TheVariants as request
 use Rattle.ug_table.specs.Orders.{with_verdict, with_order, verdict_entry, just_ordered}
-use Rattle.ug_table.specs.Parts.{AllBear, numbers_given}
+use Rattle.ug_table.specs.Parts.{AllBear, numbers_given, writes_in}
 use Rattle.ug_table.specs.Standings.{numbered}
 use Rattle.ug_table.specs.State.{State, terms_of, with_kept}
 use Rattle.ug_table.specs.Laws.{swept_before}
@@ -61,13 +61,19 @@ use Rattle.ug_core.proofs.SoFar.{SoFar, any_append, at_changed, changed_so, entr
 
 -- ---- one event
 
--- the first entry and that of a save tell no decision, and nothing of a listing
+-- the first entry and that of a save tell no decision, no write, and nothing of a listing
 
 first_decisions : (number : ℕ) (event : Event) (tried : Option Saved) → decisions_in (first_entry number event ∷ saved_entries tried) ≡ []
 first_decisions number (Sweep moment) None = refl
 first_decisions number (Sweep moment) (Some saved) = refl
 first_decisions number (Order moment who line) None = refl
 first_decisions number (Order moment who line) (Some saved) = refl
+
+first_writes : (number : ℕ) (event : Event) (tried : Option Saved) → writes_in (first_entry number event ∷ saved_entries tried) ≡ []
+first_writes number (Sweep moment) None = refl
+first_writes number (Sweep moment) (Some saved) = refl
+first_writes number (Order moment who line) None = refl
+first_writes number (Order moment who line) (Some saved) = refl
 
 first_listings : (number : ℕ) (event : Event) (tried : Option Saved) → list_any tells_unlisted (first_entry number event ∷ saved_entries tried) ≡ false
 first_listings number (Sweep moment) None = refl
@@ -126,10 +132,10 @@ module _ (policy : Judging) (first : Kernel) (hs : List Happened) (h : Happened)
     hub : d.sweep.hub ≡ h.before.sweep.hub
 
   -- an entry more, while all else stays
-  amid_noted : (k : Kernel) (tl : List Told) (d a : DaemonState) (e : Entry) → decisions_in (e ∷ []) ≡ [] → list_any tells_unlisted (e ∷ []) ≡ false → a.sweep ≡ record d.sweep { entries = d.sweep.entries ++ e ∷ [] } → Amid k tl d → Amid k tl a
-  amid_noted k tl d a e none unlisted is x =
+  amid_noted : (k : Kernel) (tl : List Told) (d a : DaemonState) (e : Entry) → decisions_in (e ∷ []) ≡ [] → writes_in (e ∷ []) ≡ [] → list_any tells_unlisted (e ∷ []) ≡ false → a.sweep ≡ record d.sweep { entries = d.sweep.entries ++ e ∷ [] } → Amid k tl d → Amid k tl a
+  amid_noted k tl d a e none unwritten unlisted is x =
       let w : State Judging = record d.sweep { entries = d.sweep.entries ++ e ∷ [] } in
-      let so : SoFar policy first k all tl (journal hs ++ w.entries) w = subst (λ (es : List Entry). SoFar policy first k all tl es w) (append_assoc (journal hs) d.sweep.entries (e ∷ [])) (noted_so policy first k all tl (journal hs ++ d.sweep.entries) (e ∷ []) d.sweep w none refl refl refl (λ m. refl) x.so) in
+      let so : SoFar policy first k all tl (journal hs ++ w.entries) w = subst (λ (es : List Entry). SoFar policy first k all tl es w) (append_assoc (journal hs) d.sweep.entries (e ∷ [])) (noted_so policy first k all tl (journal hs ++ d.sweep.entries) (e ∷ []) d.sweep w none unwritten refl refl refl (λ m. refl) x.so) in
       record {
         so = subst (λ (v : State Judging). SoFar policy first k all tl (journal hs ++ v.entries) v) (sym is) so;
         plain = ap (λ (v : State Judging). decisions_in v.entries) is ∙ decisions_more d.sweep.entries (e ∷ []) none ∙ x.plain;
@@ -141,8 +147,8 @@ module _ (policy : Judging) (first : Kernel) (hs : List Happened) (h : Happened)
 
   amid_stored : (k : Kernel) (tl : List Told) (d : DaemonState) (became : Stored) → Amid k tl d → Amid k tl (noted_store became d)
   amid_stored k tl d stored.NotNeeded x = x
-  amid_stored k tl d stored.Done x = amid_noted k tl d (noted_store stored.Done d) (entry.Save saved.Done) refl refl refl x
-  amid_stored k tl d (stored.Failed count) x = amid_noted k tl d (noted_store (stored.Failed count) d) (entry.Save (saved.Failed count)) refl refl refl x
+  amid_stored k tl d stored.Done x = amid_noted k tl d (noted_store stored.Done d) (entry.Save saved.Done) refl refl refl refl x
+  amid_stored k tl d (stored.Failed count) x = amid_noted k tl d (noted_store (stored.Failed count) d) (entry.Save (saved.Failed count)) refl refl refl refl x
   amid_stored k tl d stored.TooLong x = x
   amid_stored k tl d stored.Memory x = x
 
@@ -181,7 +187,7 @@ module _ (policy : Judging) (first : Kernel) (hs : List Happened) (h : Happened)
   }
 
   replied : (tl : List Told) (said : Reply) (d : DaemonState) → h.answered.sweep ≡ (replying said d).sweep → told_if (was_done h.answered.reply) (changes_asked (ready_of h) h.event) ≡ tl → Amid h.kernel_answered (told_of hs ++ tl) d → Behind policy first hs h
-  replied tl said d is told x = behind_of tl told (amid_noted h.kernel_answered (told_of hs ++ tl) d h.answered (entry.Reply (answer_of said)) refl refl is x)
+  replied tl said d is told x = behind_of tl told (amid_noted h.kernel_answered (told_of hs ++ tl) d h.answered (entry.Reply (answer_of said)) refl refl refl is x)
 
   untold : (k : Kernel) (d : DaemonState) → Amid k (told_of hs) d → Amid k (told_of hs ++ []) d
   untold k d x = subst (λ (l : List Told). Amid k l d) (sym (append-nil (told_of hs))) x
@@ -359,7 +365,7 @@ module _ (policy : Judging) (first : Kernel) (hs : List Happened) (h : Happened)
         let noted : State Judging = record kept_in { entries = kept_in.entries ++ e ∷ [] } in
         let last : SoFar policy first h.kernel_answered all (tl ++ []) (journal hs ++ noted.entries) noted =
         subst (λ (es : List Entry). SoFar policy first h.kernel_answered all (tl ++ []) es noted) (append_assoc (journal hs) kept_in.entries (e ∷ []))
-        (noted_so policy first h.kernel_answered all (tl ++ []) (journal hs ++ kept_in.entries) (e ∷ []) kept_in noted refl refl refl refl (λ m. refl) (subst (λ (es : List Entry). SoFar policy first h.kernel_answered all (tl ++ []) es kept_in) same written)) in
+        (noted_so policy first h.kernel_answered all (tl ++ []) (journal hs ++ kept_in.entries) (e ∷ []) kept_in noted refl refl refl refl refl (λ m. refl) (subst (λ (es : List Entry). SoFar policy first h.kernel_answered all (tl ++ []) es kept_in) same written)) in
         let whole : h.answered.sweep ≡ noted = ap (λ (x : DaemonState). x.sweep) state in
         record {
           so = subst (λ (l : List Told). SoFar policy first h.kernel_answered all l (journal hs ++ h.answered.sweep.entries) h.answered.sweep)
@@ -401,7 +407,7 @@ module _ (policy : Judging) (first : Kernel) (hs : List Happened) (h : Happened)
   one_event : AnswersEvent h.event h.kernel (ready_of h) h.became h.kernel_answered h.answered → Handled h.kernel_answered h.answered h.kernel_after h.after → h.before.sweep.listed ≡ has_listed hs → SoFar policy first h.kernel hs (told_of hs) (journal hs) h.before.sweep → SoFar policy first h.kernel_after (hs ++ h ∷ []) (told_of (hs ++ h ∷ [])) (journal (hs ++ h ∷ [])) h.after.sweep × (h.after.sweep.listed ≡ has_listed (hs ++ h ∷ [])) × (h.after.sweep.hub ≡ h.before.sweep.hub)
   one_event answers law listed so =
       let longer = still_so policy first h.kernel h.kernel hs (h ∷ []) (told_of hs) (journal hs) h.before.sweep (quiet_refl h.kernel) so in
-      let begun = noted_so policy first h.kernel (hs ++ h ∷ []) (told_of hs) (journal hs) (ready_of h).sweep.entries h.before.sweep (ready_of h).sweep (first_decisions h.before.event h.event h.tried) refl refl refl (λ m. refl) longer in
+      let begun = noted_so policy first h.kernel (hs ++ h ∷ []) (told_of hs) (journal hs) (ready_of h).sweep.entries h.before.sweep (ready_of h).sweep (first_decisions h.before.event h.event h.tried) (first_writes h.before.event h.event h.tried) refl refl refl (λ m. refl) longer in
       let amid : Amid h.kernel (told_of hs) (ready_of h) = record { so = begun; plain = first_decisions h.before.event h.event h.tried; silent = first_listings h.before.event h.event h.tried; at = refl; listed = refl; hub = refl } in
       let b = behind_event h.event refl amid answers in
       let a : State Judging = h.answered.sweep in
@@ -429,7 +435,7 @@ module _ (policy : Judging) (first : Kernel) (hs : List Happened) (h : Happened)
       ∙ ap (λ (o : Option Reply). told_of hs ++ (told_if (was_done o) (changes_asked (ready_of h) h.event) ++ decided (unordered (decisions_in h.after.sweep.entries)))) (sym law.reply)
       ∙ sym (told_append hs h) in
       let swept = fair_so policy first (hs ++ h ∷ []) (told_of hs ++ first_told) (journal hs ++ a.entries) (moment_of h.event) (not a.listed) h.kernel_answered h.kernel_after a v b.at kept_hub law.law.defaults fair (λ r p. placed_new hs h fair.rest r entries (b.listed ∙ listed) p) b.so in
-      let last = noted_so policy first h.kernel_after (hs ++ h ∷ []) ((told_of hs ++ first_told) ++ ruled_told) ((journal hs ++ a.entries) ++ fair.rest) (y ∷ []) v h.after.sweep refl (ap (λ (z : State Judging). z.standings) law.entries) (ap (λ (z : State Judging). z.next) law.entries) (ap (λ (z : State Judging). z.hub) law.entries) (λ m. ap (λ (z : State Judging). at_moment m z.judge) law.entries) swept in (
+      let last = noted_so policy first h.kernel_after (hs ++ h ∷ []) ((told_of hs ++ first_told) ++ ruled_told) ((journal hs ++ a.entries) ++ fair.rest) (y ∷ []) v h.after.sweep refl refl (ap (λ (z : State Judging). z.standings) law.entries) (ap (λ (z : State Judging). z.next) law.entries) (ap (λ (z : State Judging). z.hub) law.entries) (λ m. ap (λ (z : State Judging). at_moment m z.judge) law.entries) swept in (
         subst (λ (l : List Told). SoFar policy first h.kernel_after (hs ++ h ∷ []) l (journal (hs ++ h ∷ [])) h.after.sweep) told
             (subst (λ (es : List Entry). SoFar policy first h.kernel_after (hs ++ h ∷ []) ((told_of hs ++ first_told) ++ ruled_told) es h.after.sweep) whole last),
         ap (λ (z : State Judging). z.listed) law.entries

@@ -26,6 +26,7 @@ use Rattle.ug_policy.specs.declared.entry.RuleEntry.{RuleEntry}
 use Rattle.ug_table.specs.Allowed.{allowed_records}
 use Rattle.ug_table.specs.Orders.{with_verdict, ordered_standing, with_order, verdict_entry, just_ordered}
 use Rattle.ug_table.specs.Standings.{numbered}
+use Rattle.ug_table.specs.Parts.{writes_in}
 use Rattle.ug_table.specs.State.{State, terms_of}
 use Rattle.ug_table.specs.Laws.{IsDevice, Stand, AreDefaulted, IsTold, swept_before, wrote_entries, numbers_of, Account, IsFair, IsUnlisted, IsListed}
 use Rattle.ug_table.specs.declared.standing.Standing.{Standing}
@@ -43,7 +44,7 @@ use Rattle.ug_core.specs.Rulings.{CanTake, Changed, Decided, PolicyStep, Ruled, 
 use Rattle.ug_core.specs.Chain.{Happened, ready_of, changes_asked, decided, journal, told_if, told_in, told_of, was_done, tells_unlisted, has_listed, IsPlaced, WasAsked, WasOrdered}
 use Rattle.ug_core.proofs.InForce.{told_numbers, in_force_append, on_itself, on_another, unordered_append, unordered_all, decisions_append, decisions_more, has_decision, standing_found, fresh, numbers_append, follow_append, lift, lift_agree}
 use Rattle.ug_core.proofs.Steps.{after_ruled, can_ruled, can_then, ruled, ruled_has, ruled_unchanged, steps_append, told_ruled, told_then}
-use Rattle.ug_core.proofs.Walk.{after_rulings, decisions_by, IsAt, WasWritten, written_more, walk}
+use Rattle.ug_core.proofs.Walk.{after_rulings, decisions_by, Effected, IsAt, None_written, Others, Uneffected, WasWritten, Written, walk}
 use Rattle.ug_core.proofs.Defaulted.{quiet_defaulted, ordered_defaulted}
 use Rattle.ug_core.proofs.Known.{IsKnown, AreKnown, known_grow, known_still, known_new}
 use Rattle.ug_rules.specs.declared.edit.Edit.TheVariants.{Insert, Remove, Retarget}
@@ -54,40 +55,32 @@ pub journal_append : (gs hs : List Happened) → journal (gs ++ hs) ≡ journal 
 journal_append [] hs = refl
 journal_append (g ∷ gs) hs = ap (λ (es : List Entry). g.after.sweep.entries ++ es) (journal_append gs hs) ∙ sym (append_assoc g.after.sweep.entries (journal gs) (journal hs))
 
--- a write of an event, behind what was told before it
-pub written_lifted : (hub : Option Write) (pre : List Entry) (ss : List Standing) (es : List Entry) (k : Kernel) (e : Effect) → Agree [] pre ss → WasWritten hub ss es k e → WasWritten hub [] (pre ++ es) k e
-written_lifted hub pre ss es k e agree w = record {
-  decision = w.decision;
-  judged = w.judged;
-  outcome = w.outcome;
-  front = pre ++ w.front;
-  back = w.back;
-  at = ap (λ (l : List Entry). pre ++ l) w.at ∙ sym (append_assoc pre w.front (wrote_entries w.decision.number w.decision.name e.write w.outcome ++ w.back));
-  may = w.may;
-  force = lift pre ss w.front w.decision.number w.decision agree w.force;
-  wanted = w.wanted;
-  device = w.device;
-}
+-- what was written in an event, behind what was written before it
+pub written_lifted : (hub : Option Write) (pre : List Entry) (log : List Effect) (ss : List Standing) (k : Kernel) (es : List Entry) (added : List Effect) → Agree [] pre ss → Written hub [] k pre log → Written hub ss k es added → Written hub [] k (pre ++ es) (log ++ added)
+written_lifted hub pre log ss k _ _ agree before None_written = subst (λ (x : List Entry). Written hub [] k x (log ++ [])) (sym (append-nil pre)) (subst (λ (x : List Effect). Written hub [] k pre x) (sym (append-nil log)) before)
+written_lifted hub pre log ss k _ _ agree before (Others es more added none w) =
+    subst (λ (x : List Entry). Written hub [] k x (log ++ added)) (append_assoc pre es more) (Others (pre ++ es) more (log ++ added) none (written_lifted hub pre log ss k es added agree before w))
+written_lifted hub pre log ss k _ _ agree before (Effected es added decision outcome effect is may w) =
+    let two : List Entry = wrote_entries decision.number decision.name effect.write outcome in
+    let this : WasWritten hub [] (pre ++ es) k decision effect = record { judged = is.judged; force = lift pre ss es decision.number decision agree is.force; wanted = is.wanted; device = is.device } in
+    let longer : Written hub [] k ((pre ++ es) ++ two) ((log ++ added) ++ effect ∷ []) = Effected (pre ++ es) (log ++ added) decision outcome effect this may (written_lifted hub pre log ss k es added agree before w) in
+    subst (λ (x : List Entry). Written hub [] k x (log ++ (added ++ effect ∷ []))) (append_assoc pre es two) (subst (λ (x : List Effect). Written hub [] k ((pre ++ es) ++ two) x) (append_assoc log added (effect ∷ [])) longer)
+written_lifted hub pre log ss k _ _ agree before (Uneffected es added number name what outcome may w) =
+    subst (λ (x : List Entry). Written hub [] k x (log ++ added)) (append_assoc pre es (wrote_entries number name what outcome)) (Uneffected (pre ++ es) (log ++ added) number name what outcome may (written_lifted hub pre log ss k es added agree before w))
 
-pub written_stays : (hub : Option Write) (before : List Standing) (es : List Entry) (k l : Kernel) (e : Effect) → Grows k l → WasWritten hub before es k e → WasWritten hub before es l e
-written_stays hub before es k l e g w = record {
-  decision = w.decision;
-  judged = w.judged;
-  outcome = w.outcome;
-  front = w.front;
-  back = w.back;
-  at = w.at;
-  may = w.may;
-  force = w.force;
-  wanted = w.wanted;
-  device = device_stays k l e.device w.decision.name w.decision.held w.judged g w.device;
-}
+pub written_stays : (hub : Option Write) (before : List Standing) (k l : Kernel) (es : List Entry) (log : List Effect) → Grows k l → Written hub before k es log → Written hub before l es log
+written_stays hub before k l _ _ g None_written = None_written
+written_stays hub before k l _ _ g (Others es more log none w) = Others es more log none (written_stays hub before k l es log g w)
+written_stays hub before k l _ _ g (Effected es log decision outcome effect is may w) =
+    let this : WasWritten hub before es l decision effect = record { judged = is.judged; force = is.force; wanted = is.wanted; device = device_stays k l effect.device decision.name decision.held is.judged g is.device } in
+    Effected es log decision outcome effect this may (written_stays hub before k l es log g w)
+written_stays hub before k l _ _ g (Uneffected es log number name what outcome may w) = Uneffected es log number name what outcome may (written_stays hub before k l es log g w)
 
 -- these effects were added to a log
 pub record AllWritten (hub : Option Write) (es : List Entry) (first k : Kernel) : Type 0 where
   pub added : List Effect
   pub log : k.log ≡ first.log ++ added
-  pub each : (e : Effect) → Has added e → WasWritten hub [] es k e
+  pub each : Written hub [] k es added
 
 -- the standings that a sweep leaves have the verdicts in force
 pub agree_left : (before : List Standing) (next0 next : ℕ) (rest : List Entry) (after : List Standing) (k : Kernel) → Stand k before next0 → Follow next0 (told_numbers rest) next → ((s : Standing) → Has after s → IsTold before rest s) → Agree before rest after
@@ -289,7 +282,7 @@ still_so policy first k l hs more tl es w quiet so =
       placed = λ r a. placed_stays hs more k l r g (so.placed r a);
       changed = λ c a. asked_stays hs more c (so.changed c a);
       ordered = λ d a is. ordered_stays hs more d (so.ordered d a is);
-      written = record { added = so.written.added; log = quiet.log ∙ so.written.log; each = λ e a. written_stays w.hub [] es k l e g (so.written.each e a) };
+      written = record { added = so.written.added; log = quiet.log ∙ so.written.log; each = written_stays w.hub [] k l es so.written.added g so.written.each };
       numbers = so.numbers;
       agree = so.agree;
       known = known_grow (decisions_in es) k l w.standings g so.known;
@@ -297,8 +290,8 @@ still_so policy first k l hs more tl es w quiet so =
     }
 
 -- entries that tell no decision, and a judge whose context alone is another
-pub noted_so : (policy : Judging) (first k : Kernel) (hs : List Happened) (tl : List Told) (es fs : List Entry) (w v : State Judging) → decisions_in fs ≡ [] → v.standings ≡ w.standings → v.next ≡ w.next → v.hub ≡ w.hub → Alike v.judge w.judge → SoFar policy first k hs tl es w → SoFar policy first k hs tl (es ++ fs) v
-noted_so policy first k hs tl es fs w v none standings next hub judge so =
+pub noted_so : (policy : Judging) (first k : Kernel) (hs : List Happened) (tl : List Told) (es fs : List Entry) (w v : State Judging) → decisions_in fs ≡ [] → writes_in fs ≡ [] → v.standings ≡ w.standings → v.next ≡ w.next → v.hub ≡ w.hub → Alike v.judge w.judge → SoFar policy first k hs tl es w → SoFar policy first k hs tl (es ++ fs) v
+noted_so policy first k hs tl es fs w v none unwritten standings next hub judge so =
     let same : decisions_in (es ++ fs) ≡ decisions_in es = decisions_more es fs none in
     record {
       stand = subst (λ (n : ℕ). Stand k v.standings n) (sym next) (subst (λ (ss : List Standing). Stand k ss w.next) (sym standings) so.stand);
@@ -309,7 +302,7 @@ noted_so policy first k hs tl es fs w v none standings next hub judge so =
       placed = so.placed;
       changed = so.changed;
       ordered = λ d a is. so.ordered d (subst (λ (ds : List Decision). Has ds d) same a) is;
-      written = subst (λ (o : Option Write). AllWritten o (es ++ fs) first k) (sym hub) (record { added = so.written.added; log = so.written.log; each = λ e a. written_more w.hub [] es fs k e (so.written.each e a) });
+      written = subst (λ (o : Option Write). AllWritten o (es ++ fs) first k) (sym hub) (record { added = so.written.added; log = so.written.log; each = Others es fs so.written.added unwritten so.written.each });
       numbers = subst (λ (n : ℕ). Follow 1 (given_numbers (es ++ fs)) n) (sym next) (subst (λ (ds : List Decision). Follow 1 (numbers_on (unordered ds)) w.next) (sym same) so.numbers);
       agree = λ s a. ap (λ (ds : List Decision). or_else (last_decision ds s.number) None) same ∙ so.agree s (subst (λ (ss : List Standing). Has ss s) standings a);
       known = subst (λ (ss : List Standing). AreKnown (decisions_in (es ++ fs)) k ss) (sym standings) (subst (λ (ds : List Decision). AreKnown ds k w.standings) (sym same) so.known);
@@ -324,6 +317,12 @@ entry_silent (Rules (Remove id)) next = refl
 entry_silent (Rules (Retarget id rule)) next = refl
 entry_silent (Set set) next = refl
 
+entry_unwritten : (change : Change) (next : ℕ) → writes_in (change_entry change next ∷ []) ≡ []
+entry_unwritten (Rules (Insert after rule temporary)) next = refl
+entry_unwritten (Rules (Remove id)) next = refl
+entry_unwritten (Rules (Retarget id rule)) next = refl
+entry_unwritten (Set set) next = refl
+
 pub at_changed : (change : Change) (p : Judging) (m : Moment) → at_moment m (changed_by change p) ≡ changed_by change (at_moment m p)
 at_changed (Rules edit) p m = refl
 at_changed (Set set) p m = refl
@@ -332,7 +331,7 @@ pub changed_so : (policy : Judging) (first k : Kernel) (hs : List Happened) (tl 
     → SoFar policy first k hs (tl ++ Was_changed change ∷ []) (es ++ change_entry change w.judge.next ∷ []) (record w { judge = changed_by change w.judge; entries = w.entries ++ change_entry change w.judge.next ∷ [] })
 changed_so policy first k hs tl es w change can was so =
     let e : Entry = change_entry change w.judge.next in
-    let noted = noted_so policy first k hs tl es (e ∷ []) w (record w { entries = w.entries ++ e ∷ [] }) (entry_silent change w.judge.next) refl refl refl (λ m. refl) so in
+    let noted = noted_so policy first k hs tl es (e ∷ []) w (record w { entries = w.entries ++ e ∷ [] }) (entry_silent change w.judge.next) (entry_unwritten change w.judge.next) refl refl refl (λ m. refl) so in
     let q : Judging = after_steps policy so.steps in
     let one : List PolicyStep = Changed change ∷ [] in
     let rules : w.judge.rules ≡ q.rules = ap (λ (j : Judging). j.rules) (so.judge (record { 0 = 0 })) in
@@ -405,7 +404,7 @@ ordered_so policy first k hs tl es w number verdict who x at was so =
         | inl b ↦ so.ordered d b is
         | inr b ↦ elim b [ inl e ↦ subst (λ (v : Decision). WasOrdered hs v) e was | inr none ↦ absurd none ]
       ];
-      written = record { added = so.written.added; log = so.written.log; each = λ e a. written_more w.hub [] es (verdict_entry y ∷ []) k e (so.written.each e a) };
+      written = record { added = so.written.added; log = so.written.log; each = Others es (verdict_entry y ∷ []) so.written.added refl so.written.each };
       numbers = subst (λ (l : List Decision). Follow 1 (numbers_on l) w.next) (sym same) so.numbers;
       agree = λ s a. in_force_append [] es (verdict_entry y ∷ []) s.number ∙ agree_one s (one_ordered number verdict who w.standings x s so.stand.distinct at a) numbered_x.1;
       defaulted = ordered_defaulted w.hub k number verdict who w.standings so.defaulted;
@@ -527,10 +526,7 @@ fair_so policy first hs tl es moment present k l w v at hub keeps fair placing s
       written = subst (λ (o : Option Write). AllWritten o (es ++ rest) first l) (sym hub) (record {
         added = so.written.added ++ x.added;
         log = x.log_is ∙ ap (λ (ws : List Effect). ws ++ x.added) so.written.log ∙ append_assoc first.log so.written.added x.added;
-        each = λ e a. elim (has_cases so.written.added x.added e a) [
-          | inl b ↦ written_more w.hub [] es rest l e (written_stays w.hub [] es k l e fair.grows (so.written.each e b))
-          | inr b ↦ written_lifted w.hub es ss rest l e so.agree (x.each e b)
-        ];
+        each = written_lifted w.hub es so.written.added ss l rest x.added so.agree (written_stays w.hub [] k l es so.written.added fair.grows so.written.each) x.written;
       });
       numbers = subst (λ (ds : List Decision). Follow 1 (numbers_on ds) v.next) (sym given) (subst (λ (ns : List ℕ). Follow 1 ns v.next) (sym (numbers_append (unordered (decisions_in es)) (decisions_in rest))) (follow_append 1 (given_numbers es) (told_numbers rest) w.next v.next so.numbers x.numbers));
       agree = lift_agree es ss v.standings rest so.agree (agree_left ss w.next v.next rest v.standings k so.stand x.numbers fair.left.told);

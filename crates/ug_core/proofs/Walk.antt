@@ -18,7 +18,8 @@ use Rattle.ug_audit.specs.declared.entry.Entry.{Entry}
 use Rattle.ug_audit.specs.declared.entry.Entry.TheVariants as entry
 use Rattle.ug_table.specs.Allowed.{allowed_records}
 use Rattle.ug_table.specs.Bring.{CallsFor}
-use Rattle.ug_table.specs.Laws.{IsDevice, IsProbed, Stand, AreLeft, AreMarkedIn, swept_before, MayHave, HasVerdict, wrote_entries, numbers_of, Account, Start, Note, Judge, Had, Had_not, Went}
+use Rattle.ug_table.specs.Laws.{IsDevice, IsProbed, Stand, AreLeft, AreMarkedIn, swept_before, MayHave, MayHaveNot, TellsNeither, HasVerdict, wrote_entries, numbers_of, Account, Start, Note, Judge, Had, Had_not, Went}
+use Rattle.ug_table.specs.Parts.{writes_in}
 use Rattle.ug_table.specs.State.{Terms}
 use Rattle.ug_table.specs.declared.standing.Standing.{Standing}
 use Rattle.ug_core.specs.Policy.{Judging, later_of, policy_answer, policy_later}
@@ -62,18 +63,19 @@ pub record IsAt (present : Bool) (moment : Moment) (start k : Kernel) (before : 
   pub left : AreLeft before front r.standings
   pub marked : AreMarkedIn swept_before r.name before front r.standings
 
--- the effect is that of a write that is told, which the verdict in force calls for, or the setting of the defaults
-pub record WasWritten (hub : Option Write) (before : List Standing) (es : List Entry) (k : Kernel) (effect : Effect) : Type 0 where
-  pub decision : Decision
+-- behind these entries the verdict in force calls for the effect, or the setting of the defaults does; it is on the decision's device
+pub record WasWritten (hub : Option Write) (before : List Standing) (front : List Entry) (k : Kernel) (decision : Decision) (effect : Effect) : Type 0 where
   pub judged : Judged
-  pub outcome : Wrote
-  pub front : List Entry
-  pub back : List Entry
-  pub at : es ≡ front ++ (wrote_entries decision.number decision.name effect.write outcome ++ back)
-  pub may : MayHave outcome
   pub force : in_force before front decision.number ≡ Some decision
   pub wanted : CallsFor hub decision.name decision.verdict effect.write
   pub device : IsDevice k effect.device decision.name decision.held judged
+
+-- The effects that a log gained, by the entries since: each is that of a write that is told, in the same order.
+pub data Written (hub : Option Write) (before : List Standing) (k : Kernel) : List Entry → List Effect → Type 0 where
+  None_written : Written hub before k [] []
+  Others : (es more : List Entry) (log : List Effect) → writes_in more ≡ [] → Written hub before k es log → Written hub before k (es ++ more) log
+  Effected : (es : List Entry) (log : List Effect) (decision : Decision) (outcome : Wrote) (effect : Effect) → WasWritten hub before es k decision effect → MayHave outcome → Written hub before k es log → Written hub before k (es ++ wrote_entries decision.number decision.name effect.write outcome) (log ++ effect ∷ [])
+  Uneffected : (es : List Entry) (log : List Effect) (number : ℕ) (name : List ℕ) (what : Write) (outcome : Wrote) → MayHaveNot outcome → Written hub before k es log → Written hub before k (es ++ wrote_entries number name what outcome) log
 
 pub record Walked (terms : Terms) (moment : Moment) (start k : Kernel) (before : List Standing) (log0 : List Effect) (policy : Judging) (next0 : ℕ) (es : List Entry) (log : List Effect) (judge : Judging) (next : ℕ) : Type 0 where
   pub rulings : List Ruling
@@ -83,7 +85,7 @@ pub record Walked (terms : Terms) (moment : Moment) (start k : Kernel) (before :
   pub numbers : Follow next0 (told_numbers es) next
   pub added : List Effect
   pub log_is : log ≡ log0 ++ added
-  pub each : (e : Effect) → Has added e → WasWritten terms.hub before es k e
+  pub written : Written terms.hub before k es added
 
 at_more : (present : Bool) (moment : Moment) (start k : Kernel) (before : List Standing) (es ws : List Entry) (r : Ruling) → IsAt present moment start k before es r → IsAt present moment start k before (es ++ ws) r
 at_more present moment start k before es ws r h = record {
@@ -101,25 +103,17 @@ at_more present moment start k before es ws r h = record {
   marked = h.marked;
 }
 
-pub written_more : (hub : Option Write) (before : List Standing) (es ws : List Entry) (k : Kernel) (e : Effect) → WasWritten hub before es k e → WasWritten hub before (es ++ ws) k e
-written_more hub before es ws k e w =
-    let two : List Entry = wrote_entries w.decision.number w.decision.name e.write w.outcome in
-    record {
-      decision = w.decision;
-      judged = w.judged;
-      outcome = w.outcome;
-      front = w.front;
-      back = w.back ++ ws;
-      at = ap (λ (l : List Entry). l ++ ws) w.at ∙ append_assoc w.front (two ++ w.back) ws ∙ ap (λ (l : List Entry). w.front ++ l) (append_assoc two w.back ws);
-      may = w.may;
-      force = w.force;
-      wanted = w.wanted;
-      device = w.device;
-    }
+-- an entry that tells no verdict, no write and no end tells no write
+neither_writes : (e : Entry) → TellsNeither e → writes_in (e ∷ []) ≡ []
+neither_writes (entry.Judged number name held verdict cause) h = absurd h
+neither_writes (entry.Intent number name what) h = absurd h
+neither_writes (entry.Wrote number name what outcome) h = absurd h
+neither_writes (entry.Gone number name) h = absurd h
+neither_writes e h = refl
 
 -- entries that tell no verdict
-more : (terms : Terms) (moment : Moment) (start k : Kernel) (before : List Standing) (log0 : List Effect) (policy : Judging) (next0 : ℕ) (es ws : List Entry) (log : List Effect) (judge : Judging) (next : ℕ) → decisions_in ws ≡ [] → Walked terms moment start k before log0 policy next0 es log judge next → Walked terms moment start k before log0 policy next0 (es ++ ws) log judge next
-more terms moment start k before log0 policy next0 es ws log judge next none h = record {
+more : (terms : Terms) (moment : Moment) (start k : Kernel) (before : List Standing) (log0 : List Effect) (policy : Judging) (next0 : ℕ) (es ws : List Entry) (log : List Effect) (judge : Judging) (next : ℕ) → decisions_in ws ≡ [] → ((added : List Effect) → Written terms.hub before k es added → Written terms.hub before k (es ++ ws) added) → Walked terms moment start k before log0 policy next0 es log judge next → Walked terms moment start k before log0 policy next0 (es ++ ws) log judge next
+more terms moment start k before log0 policy next0 es ws log judge next none writes h = record {
   rulings = h.rulings;
   told = decisions_more es ws none ∙ h.told;
   judge_is = h.judge_is;
@@ -127,7 +121,7 @@ more terms moment start k before log0 policy next0 es ws log judge next none h =
   numbers = subst (λ (ds : List Decision). Follow next0 (numbers_on ds) next) (sym (decisions_more es ws none)) h.numbers;
   added = h.added;
   log_is = h.log_is;
-  each = λ e a. written_more terms.hub before es ws k e (h.each e a);
+  written = writes h.added h.written;
 }
 
 -- the context is the same after a verdict
@@ -159,7 +153,7 @@ judged_more terms moment start k before log0 policy next0 es log judge next i na
       numbers = subst (λ (ds : List Decision). Follow next0 (numbers_on ds) (next + 1)) (sym whole) (subst (λ (l : List ℕ). Follow next0 l (next + 1)) (sym (numbers_append (decisions_in es) (this ∷ []))) (follow_append next0 (told_numbers es) (next ∷ []) next (next + 1) h.numbers (refl, refl)));
       added = h.added;
       log_is = h.log_is;
-      each = λ e y. written_more terms.hub before es (x ∷ []) k e (h.each e y);
+      written = Others es (x ∷ []) h.added refl h.written;
     }
 
 -- the verdict that a number has is in force
@@ -176,39 +170,25 @@ forced before es next0 next number name held verdict low distinct follow (inr t)
     (t.0, ap (λ (o : Option Decision). or_else o (standing_decision before number)) (f.told (record { number = number; name = name; held = held; verdict = verdict; cause = t.0 }) (has_decision es number name held verdict t.0 t.1)).1)
 
 pub walk : (terms : Terms) (moment : Moment) (start k : Kernel) (before : List Standing) (log0 : List Effect) (policy : Judging) (next0 : ℕ) → ((s : Standing) → Has before s → s.number < next0) → AllDistinct (numbers_of before) → (es : List Entry) (log : List Effect) (judge : Judging) (next : ℕ) → Account policy_answer policy_later terms swept_before start k before log0 (at_moment moment policy) next0 es log judge next → Walked terms moment start k before log0 policy next0 es log judge next
-walk terms moment start k before log0 policy next0 low distinct es log judge next Start = record { rulings = []; told = refl; judge_is = refl; placed = λ r h. absurd h; numbers = refl; added = []; log_is = sym (append-nil log0); each = λ e h. absurd h }
-walk terms moment start k before log0 policy next0 low distinct es log judge next (Note fs m j n e t a) = more terms moment start k before log0 policy next0 fs (e ∷ []) m j n (ap (λ (l : List Decision). l ++ []) (neither_none e t)) (walk terms moment start k before log0 policy next0 low distinct fs m j n a)
+walk terms moment start k before log0 policy next0 low distinct es log judge next Start = record { rulings = []; told = refl; judge_is = refl; placed = λ r h. absurd h; numbers = refl; added = []; log_is = sym (append-nil log0); written = None_written }
+walk terms moment start k before log0 policy next0 low distinct es log judge next (Note fs m j n e t a) = more terms moment start k before log0 policy next0 fs (e ∷ []) m j n (ap (λ (l : List Decision). l ++ []) (neither_none e t)) (λ added w. Others fs (e ∷ []) added (neither_writes e t) w) (walk terms moment start k before log0 policy next0 low distinct fs m j n a)
 walk terms moment start k before log0 policy next0 low distinct es log judge next (Judge fs m j n i name held dev on ss d b stand left so a) = judged_more terms moment start k before log0 policy next0 fs m j n i name held dev on ss d b stand left so (walk terms moment start k before log0 policy next0 low distinct fs m j n a)
-walk terms moment start k before log0 policy next0 low distinct es log judge next (Had_not fs m j n i number name held dev verdict what outcome d v due once may a) = more terms moment start k before log0 policy next0 fs (wrote_entries number name what outcome) m j n refl (walk terms moment start k before log0 policy next0 low distinct fs m j n a)
-walk terms moment start k before log0 policy next0 low distinct es log judge next (Went fs m j n i number name held dev verdict d o v a) = more terms moment start k before log0 policy next0 fs (entry.Gone number name ∷ []) m j n refl (walk terms moment start k before log0 policy next0 low distinct fs m j n a)
+walk terms moment start k before log0 policy next0 low distinct es log judge next (Had_not fs m j n i number name held dev verdict what outcome d v due once may a) = more terms moment start k before log0 policy next0 fs (wrote_entries number name what outcome) m j n refl (λ added w. Uneffected fs added number name what outcome may w) (walk terms moment start k before log0 policy next0 low distinct fs m j n a)
+walk terms moment start k before log0 policy next0 low distinct es log judge next (Went fs m j n i number name held dev verdict d o v a) = more terms moment start k before log0 policy next0 fs (entry.Gone number name ∷ []) m j n refl (λ added w. Others fs (entry.Gone number name ∷ []) added refl w) (walk terms moment start k before log0 policy next0 low distinct fs m j n a)
 walk terms moment start k before log0 policy next0 low distinct es log judge next (Had fs m j n i number name held dev verdict what outcome d v due once may a) =
     let old = walk terms moment start k before log0 policy next0 low distinct fs m j n a in
     let two : List Entry = wrote_entries number name what outcome in
     let new : Effect = record { device = i; write = what } in
-    let h = more terms moment start k before log0 policy next0 fs two m j n refl old in
     let given = forced before fs next0 n number name held verdict low distinct old.numbers v in
-    let this : WasWritten terms.hub before (fs ++ two) k new = record {
-      decision = record { number = number; name = name; held = held; verdict = verdict; cause = given.0 };
-      judged = dev;
-      outcome = outcome;
-      front = fs;
-      back = [];
-      at = ap (λ (l : List Entry). fs ++ l) (sym (append-nil two));
-      may = may;
-      force = given.1;
-      wanted = due;
-      device = d;
-    } in
+    let decision : Decision = record { number = number; name = name; held = held; verdict = verdict; cause = given.0 } in
+    let this : WasWritten terms.hub before fs k decision new = record { judged = dev; force = given.1; wanted = due; device = d } in
     record {
-      rulings = h.rulings;
-      told = h.told;
-      judge_is = h.judge_is;
-      placed = h.placed;
-      numbers = h.numbers;
-      added = h.added ++ new ∷ [];
-      log_is = ap (λ (l : List Effect). l ++ new ∷ []) h.log_is ∙ append_assoc log0 h.added (new ∷ []);
-      each = λ e y. elim (last_is h.added new e y) [
-        | inl z ↦ h.each e z
-        | inr same ↦ subst (λ (x : Effect). WasWritten terms.hub before (fs ++ two) k x) same this
-      ];
+      rulings = old.rulings;
+      told = decisions_more fs two refl ∙ old.told;
+      judge_is = old.judge_is;
+      placed = λ r y. at_more terms.present moment start k before fs two r (old.placed r y);
+      numbers = subst (λ (ds : List Decision). Follow next0 (numbers_on ds) n) (sym (decisions_more fs two refl)) old.numbers;
+      added = old.added ++ new ∷ [];
+      log_is = ap (λ (l : List Effect). l ++ new ∷ []) old.log_is ∙ append_assoc log0 old.added (new ∷ []);
+      written = Effected fs old.added decision outcome new this may old.written;
     }

@@ -29,7 +29,8 @@ use Rattle.ug_proto.specs.Requests.{request_read}
 use Rattle.ug_store.specs.Disk.{Disk, IsAsItWas}
 use Rattle.ug_table.specs.Allowed.{allowed_records}
 use Rattle.ug_table.specs.Bring.{CallsFor, default_write}
-use Rattle.ug_table.specs.Laws.{IsDevice, IsProbed, Stand, AreDefaulted, AreLeft, AreMarkedIn, swept_before, MayHave, wrote_entries, IsJudged, IsAsJudged}
+use Rattle.ug_table.specs.Laws.{IsDevice, IsProbed, Stand, AreDefaulted, AreLeft, AreMarkedIn, swept_before, MayHave, MayHaveNot, wrote_entries, IsJudged, IsAsJudged}
+use Rattle.ug_table.specs.Parts.{writes_in}
 use Rattle.ug_table.specs.Standings.{numbered}
 use Rattle.ug_table.specs.declared.standing.Standing.{Standing}
 use Rattle.ug_core.specs.Policy.{Judging}
@@ -200,24 +201,41 @@ WasDecided policy hs steps k i d =
     WasJudged policy hs steps k i d
     ⊎ (WasOrdered hs d × (slice_get k.held d.held.0 ≡ Some (record { device = i; control = Authorized })))
 
--- The effect is that of a write that is told. The verdict in force before its intent calls for it, or the setting of the defaults does; and
--- the verdict was given on that device.
-pub record IsExplained (hub : Option Write) (policy : Judging) (hs : List Happened) (steps : List PolicyStep) (k : Kernel) (effect : Effect) : Type 0 where
-  pub decision : Decision
-  pub outcome : Wrote
-  pub front : List Entry
-  pub back : List Entry
-  pub at : journal hs ≡ front ++ (wrote_entries decision.number decision.name effect.write outcome ++ back)
-  pub may : MayHave outcome
+-- Behind these entries the decision is in force, and calls for the effect, or the setting of the
+-- defaults does; and it was given on the effect's device.
+pub record IsExplained (hub : Option Write) (policy : Judging) (hs : List Happened)
+    (steps : List PolicyStep) (k : Kernel) (front : List Entry) (decision : Decision)
+    (effect : Effect) : Type 0 where
   pub force : in_force [] front decision.number ≡ Some decision
   pub wanted : CallsFor hub decision.name decision.verdict effect.write
   pub decided : WasDecided policy hs steps k effect.device decision
 
--- each effect since the first kernel is explained
-pub record AllExplained (hub : Option Write) (policy : Judging) (hs : List Happened) (steps : List PolicyStep) (first k : Kernel) : Type 0 where
+-- What a log gained, by the entries since, both in their order: an effect for each write that is
+-- told to have had one, and for no other but one that failed, which may have had its effect. Each is
+-- explained where its intent stands.
+pub data Explains (hub : Option Write) (policy : Judging) (hs : List Happened)
+    (steps : List PolicyStep) (k : Kernel) : List Entry → List Effect → Type 0 where
+  Nothing_told : Explains hub policy hs steps k [] []
+  No_write : (es more : List Entry) (log : List Effect) → writes_in more ≡ []
+      → Explains hub policy hs steps k es log → Explains hub policy hs steps k (es ++ more) log
+  Had_effect : (es : List Entry) (log : List Effect) (decision : Decision) (outcome : Wrote)
+      (effect : Effect) → MayHave outcome
+      → IsExplained hub policy hs steps k es decision effect
+      → Explains hub policy hs steps k es log
+      → Explains hub policy hs steps k
+      (es ++ wrote_entries decision.number decision.name effect.write outcome)
+      (log ++ effect ∷ [])
+  Had_none : (es : List Entry) (log : List Effect) (number : ℕ) (name : List ℕ) (what : Write)
+      (outcome : Wrote) → MayHaveNot outcome
+      → Explains hub policy hs steps k es log
+      → Explains hub policy hs steps k (es ++ wrote_entries number name what outcome) log
+
+-- each effect since the first kernel is explained, at its place in the log
+pub record AllExplained (hub : Option Write) (policy : Judging) (hs : List Happened)
+    (steps : List PolicyStep) (first k : Kernel) : Type 0 where
   pub added : List Effect
   pub log : k.log ≡ first.log ++ added
-  pub each : (effect : Effect) → Has added effect → IsExplained hub policy hs steps k effect
+  pub each : Explains hub policy hs steps k (journal hs) added
 
 -- the device was judged under the number of its standing and under no other, and stands as judged; and where it is a root hub whose default
 -- is written, it has that default

@@ -12,6 +12,7 @@ use Rattle.ug_types.specs.declared.rule.Rule.{Rule}
 use Rattle.ug_types.specs.declared.saved.Saved.{Saved}
 use Rattle.ug_types.specs.declared.record.Judged.TheVariants as judged
 use Rattle.ug_types.specs.declared.verdict.Target.{Target}
+use Rattle.ug_types.specs.declared.verdict.Target.TheVariants as target
 use Rattle.ug_kernel.specs.declared.calls.Probe.{Probe}
 use Rattle.ug_kernel.specs.declared.calls.Probe.TheVariants as probe
 use Rattle.ug_kernel.specs.Calls.{Call, Names, Ask_alive, Answer, Told}
@@ -22,6 +23,7 @@ use Rattle.ug_kernel.specs.Tree.{Runs}
 use Rattle.ug_kernel.specs.declared.sysfs.Sysfs
 use Rattle.ug_audit.specs.declared.entry.Entry.{Entry}
 use Rattle.ug_audit.specs.declared.entry.Entry.TheVariants as entry
+use Rattle.ug_proto.specs.declared.reply.Reply.{Reply}
 use Rattle.ug_proto.specs.declared.reply.Reply.TheVariants as replies
 use Rattle.ug_policy.specs.Edits.{IsThere}
 use Rattle.ug_proto.specs.declared.request.Request.{Request}
@@ -36,6 +38,7 @@ use Rattle.ug_store.specs.Store.{RunsDisk, TellsSaveFault}
 use Rattle.ug_store.specs.declared.disk.RuleDisk
 use Rattle.ug_table.specs.State.{State, Kept, with_kept}
 use Rattle.ug_table.specs.Laws.{Stand, Swept}
+use Rattle.ug_table.specs.Marks.{LeavesMarks, has_number}
 use Rattle.ug_table.specs.Orders.{with_verdict, verdict_entry, ProbedOne, GoesAsOrder, OrderedOne}
 use Rattle.ug_table.specs.Parts.{AllBear, failures_told, told_in_reply, unsettled_names, numbers_given, GoesInParts, TellsFaults}
 use Rattle.ug_table.specs.Standings.{numbered}
@@ -189,6 +192,14 @@ IsInForce p (Some change) stored.NotNeeded = CanChange change p.rules × (is_sav
 IsInForce p (Some change) stored.Done = CanChange change p.rules × (is_saved change p.rules ≡ true)
 IsInForce p (Some change) became = ⊥
 
+-- What an ordered verdict leaves, by what came of it. Where the reply tells of want of memory behind
+-- the verdict, a removal wanted it, so the verdict is Reject. The standing of that number is marked
+-- as it was brought to the verdict, and the others are as they were.
+pub record LeavesVerdict (number : ℕ) (verdict : Target) (before after : List Standing)
+    (how : Settled) (said : Option Reply) : Type 0 where
+  pub wanting : said ≡ Some (replies.Refused (refusal.Memory true)) → verdict ≡ target.Reject
+  pub marks : LeavesMarks None (has_number number) before after how
+
 -- A verdict that was ordered by one who may. The device of that number's standing was there, with that value. If the verdict is to be
 -- permanent, its rule is saved and in force. The verdict is set and told, and the device is brought to it; and the reply tells what came
 -- of it.
@@ -212,6 +223,7 @@ pub record CarriesOut (who : Named) (line : List ℕ) (k : Kernel) (d : DaemonSt
   pub how : Settled
   pub kept : Kept
   pub law : OrderedOne number verdict who on standing middle changed.sweep l (with_kept changed.sweep kept) how
+  pub leaves : LeavesVerdict number verdict changed.sweep.standings kept.standings how e.reply
   pub rest : List Entry
   pub entries : kept.entries ≡ changed.sweep.entries ++ verdict_entry (with_verdict verdict who standing) ∷ rest
   pub bears : AllBear standing.name rest
@@ -293,6 +305,7 @@ pub record GoesAsVerdict {S : Type 0} (gives : S → (call : Call) → Answer ca
   pub kept : Kept
   pub goes : GoesAsOrder gives calls faults (with_verdict verdict who standing) on behind changed.sweep.entries t kept.standings kept.entries how
   pub made_is : made ≡ answered (Ask_alive standing.held.0) found ∷ goes.made
+  pub leaves : LeavesVerdict number verdict changed.sweep.standings kept.standings how e.reply
   pub lines : List (List ℕ)
   pub state : e ≡ answered_with changed lines (how, kept)
 
