@@ -26,3 +26,4 @@ pub mod RowWalk
 pub mod Written
 pub mod Stopped
 pub mod Tried
+pub mod ValueLines

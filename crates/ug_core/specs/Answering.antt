@@ -15,6 +15,7 @@ use Rattle.ug_kernel.specs.declared.calls.Probe.TheVariants as probe
 use Rattle.ug_kernel.specs.Calls.{Ask_alive}
 use Rattle.ug_kernel.specs.Tree.{Prog, Return, Ask, Room, then}
 use Rattle.ug_audit.specs.declared.entry.Entry.TheVariants as entry
+use Rattle.ug_lines.specs.Splitting.{AreLines}
 use Rattle.ug_policy.specs.declared.entry.RuleEntry.{RuleEntry}
 use Rattle.ug_proto.specs.declared.request.Request.{Request}
 use Rattle.ug_proto.specs.declared.request.Request.TheVariants as request
@@ -178,6 +179,18 @@ CanDo d doing = Unit {0}
 abbrev pub CanMake : List RuleEntry → Option Change → Type 0
 CanMake rules (Some change) = CanChange change rules × ChangeReads change rules
 CanMake rules None = Unit {0}
+
+-- ---- the lines of a reply: none holds a newline
+
+-- those of a deed
+abbrev pub HasLines : Deed → Type 0
+HasLines (deed.Tell rows) = AreLines rows
+HasLines (deed.SetVerdict number verdict on lines) = AreLines lines
+HasLines doing = Unit {0}
+
+abbrev pub HasWholeLines : Reply → Type 0
+HasWholeLines (reply.Lines lines) = AreLines lines
+HasWholeLines (reply.Refused refused) = Unit {0}
 
 -- ---- and what is then done
 

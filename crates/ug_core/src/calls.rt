@@ -1,10 +1,11 @@
 // The daemon's calls.
-ghost use Rattle.std.specs.Prelude.{◌≡◌, ◌≤◌, ◌<◌, ◌+◌, ◌*◌, ◌^◌, [], false, IsTrue, None, Some, length};
+ghost use Rattle.std.specs.Prelude.{◌≡◌, ◌≤◌, ◌<◌, ◌+◌, ◌*◌, ◌^◌, [], false, IfSome, IsTrue, None, Some, length};
 ghost use Rattle.ug_kernel.specs.Tree.{Runs};
 ghost use Rattle.ug_audit.specs.Journal.{live_in, members};
 ghost use Rattle.ug_audit.specs.Noting.{NotesEntries, tells_drop, without_drops};
 ghost use Rattle.ug_store.specs.Store.{RunsDisk, pending_after};
 ghost use Rattle.ug_table.specs.Parts.{unsettled_names};
+ghost use Rattle.ug_core.specs.Answering.{HasWholeLines};
 ghost use Rattle.ug_core.specs.Event.{begun, daemon_of, first_entry, handling, has_numbers, is_low, moment_of, noting, NotesMore, saving_rules, tried_with, trying};
 ghost use Rattle.ug_core.specs.Laws.{Handles, HandlesEvent, NamesOnceIn, PassesEvent, TellsSweep, TellsTried};
 
@@ -100,6 +101,7 @@ impl<'z, R: Rng> Daemon<'z, R> {
         requires { IsTrue (has_numbers (daemon_of self.old) (Y.faults sysfs.old) (D.faults disk.old)) }
         ensures handles { HandlesEvent Y.Sysfs D.RuleDisk
             event.now sysfs.old disk.old (daemon_of self.old) sysfs.new disk.new (daemon_of self.new) }
+        ensures whole { IfSome self.new.report.reply (λ r. HasWholeLines r) }
         ensures number { self.new.report.event ≡ self.old.next_event }
         ensures noted { NotesEntries self.new.report.entries.entries
             (members (λ b. ⟦<dyn Auditor as Auditor>⟧ b.vtable) panel.old)
@@ -131,6 +133,7 @@ impl<'z, R: Rng> Daemon<'z, R> {
         requires { IsTrue (has_numbers (daemon_of self.old) (Y.faults sysfs.old) (D.faults disk.old)) }
         ensures passes { PassesEvent Y.Sysfs D.RuleDisk B.goes
             event.now sysfs.old disk.old (daemon_of self.old) sysfs.new disk.new (daemon_of self.new) }
+        ensures whole { IfSome self.new.report.reply (λ r. HasWholeLines r) }
         ensures number { self.new.report.event ≡ self.old.next_event }
         ensures noted { NotesEntries self.new.report.entries.entries
             (members (λ b. ⟦<dyn Auditor as Auditor>⟧ b.vtable) panel.old)

@@ -1,9 +1,10 @@
 // What an order comes to, before anything is changed: usbguard(1).
 ghost use Rattle.std.specs.Prelude.{◌≡◌, ◌⊎◌, ◌∷◌, [], ℕ, false, List, IfOk, IsSome, IsSomeAnd, Ok, OnErr, decimal};
 ghost use Rattle.ug_kernel.specs.Tree.{Room, Runs};
+ghost use Rattle.ug_lines.specs.Splitting.{AreLines, IsLine};
 ghost use Rattle.ug_rule.specs.Rules.{rule_read};
 ghost use Rattle.ug_types.specs.Parameters.{parameter_of};
-ghost use Rattle.ug_core.specs.Answering.{asking, asking_of, by_edit, by_id, by_name, by_request, by_rule, by_setting, by_standing, by_value, if_rule_read, CanDo, CanMake, IsChosenForGood, changing, only, refusing, telling};
+ghost use Rattle.ug_core.specs.Answering.{asking, asking_of, by_edit, by_id, by_name, by_request, by_rule, by_setting, by_standing, by_value, if_rule_read, CanDo, CanMake, HasLines, IsChosenForGood, changing, only, refusing, telling};
 ghost use Rattle.ug_core.specs.Changes.{change_lines, verdict_edit};
 ghost use Rattle.ug_core.specs.DeviceRows.{device_rows};
 ghost use Rattle.ug_core.specs.Event.{daemon_of};
@@ -75,6 +76,7 @@ fn change(change: Change, deed: Deed) -> Choice
 fn tell(rows: Result<List<Text>, NoMemory>) -> Choice
     ensures ok { (lines : List (List ℕ)) → rows ≡ Ok lines → result ≡ only (Deed.Tell lines) }
     ensures err { OnErr rows (result ≡ refusing (Refusal.Memory false)) }
+    ensures lines { IfOk rows (λ lines. AreLines lines) → HasLines result.deed }
 {
     match rows {
         Ok(rows) => only(Deed::Tell(rows)),
@@ -83,7 +85,8 @@ fn tell(rows: Result<List<Text>, NoMemory>) -> Choice
 }
 
 fn choose_value(alloc: Global, set: Option<Parameter>) -> Choice
-    ensures { result ≡ by_value set }
+    ensures chosen { result ≡ by_value set }
+    ensures lines { HasLines result.deed }
 {
     match set {
         Some(set) => change(Change::Set(set), Deed::Tell(List::new(alloc))),
@@ -93,7 +96,8 @@ fn choose_value(alloc: Global, set: Option<Parameter>) -> Choice
 
 // A setting is given a value.
 fn choose_setting(alloc: Global, name: &[u8], value: &[u8]) -> Choice
-    ensures { result ≡ by_setting (parameter_of name.now) value.now }
+    ensures chosen { result ≡ by_setting (parameter_of name.now) value.now }
+    ensures lines { HasLines result.deed }
 {
     match ParameterName::named(name) {
         Some(set) => choose_value(alloc, set.with_value(value)),
@@ -102,7 +106,8 @@ fn choose_setting(alloc: Global, name: &[u8], value: &[u8]) -> Choice
 }
 
 fn one_line(alloc: Global, line: &[u8]) -> Result<List<Text>, NoMemory>
-    ensures { IfOk result (λ lines. lines ≡ line.now ∷ []) }
+    ensures lines { IfOk result (λ lines. lines ≡ line.now ∷ []) }
+    ensures whole { IsLine line.now → IfOk result (λ lines. AreLines lines) }
 {
     let mut lines = List::new(alloc);
     lines.push(Text::of(alloc, line)?)?;
@@ -111,7 +116,8 @@ fn one_line(alloc: Global, line: &[u8]) -> Result<List<Text>, NoMemory>
 
 // The id of a rule as the line of a reply.
 fn id_line(alloc: Global, id: u64) -> Result<List<Text>, NoMemory>
-    ensures { IfOk result (λ lines. lines ≡ decimal id ∷ []) }
+    ensures lines { IfOk result (λ lines. lines ≡ decimal id ∷ []) }
+    ensures whole { IfOk result (λ lines. AreLines lines) }
 {
     let mut digits = Buffer::new();
     one_line(alloc, digits.format(id).as_bytes())
@@ -119,7 +125,8 @@ fn id_line(alloc: Global, id: u64) -> Result<List<Text>, NoMemory>
 
 // The lines of the reply to an edit that concerns one device, where that is the next rule's id.
 fn edit_lines(alloc: Global, edit: &Edit, next: u64) -> Result<List<Text>, NoMemory>
-    ensures { IfOk result (λ lines. lines ≡ change_lines (Change.Rules edit.now) next) }
+    ensures lines { IfOk result (λ lines. lines ≡ change_lines (Change.Rules edit.now) next) }
+    ensures whole { IfOk result (λ lines. AreLines lines) }
 {
     match edit {
         Edit::Insert { .. } => id_line(alloc, next),
@@ -141,6 +148,7 @@ impl<'z, R: Rng> Daemon<'z, R> {
         ensures runs { Runs Y.gives sysfs.old (asking (daemon_of self.now) who.now line.now)
             result sysfs.new }
         ensures can_do { CanDo (daemon_of self.now) result.deed }
+        ensures lines { HasLines result.deed }
         ensures can_make { CanMake (daemon_of self.now).sweep.judge.rules result.change }
     {
         match parse_request(alloc, line) {
@@ -161,6 +169,7 @@ impl<'z, R: Rng> Daemon<'z, R> {
         ensures runs { Runs Y.gives sysfs.old (by_request (daemon_of self.now) who.now (Ok request.now))
             result sysfs.new }
         ensures can_do { CanDo (daemon_of self.now) result.deed }
+        ensures lines { HasLines result.deed }
         ensures can_make { CanMake (daemon_of self.now).sweep.judge.rules result.change }
     {
         match denied(&self.acl, who, request) {
@@ -174,6 +183,7 @@ impl<'z, R: Rng> Daemon<'z, R> {
         ensures runs { Runs Y.gives sysfs.old (asking_of (daemon_of self.now) request.now)
             result sysfs.new }
         ensures can_do { CanDo (daemon_of self.now) result.deed }
+        ensures lines { HasLines result.deed }
         ensures can_make { CanMake (daemon_of self.now).sweep.judge.rules result.change }
     {
         match request {
@@ -203,6 +213,7 @@ impl<'z, R: Rng> Daemon<'z, R> {
         ensures runs { Runs Y.gives sysfs.now
             (by_name (daemon_of self.now).sweep.judge.classes (parameter_of name.now)) result sysfs.now }
         ensures can_do { CanDo (daemon_of self.now) result.deed }
+        ensures lines { HasLines result.deed }
         ensures can_make { CanMake (daemon_of self.now).sweep.judge.rules result.change }
     {
         match ParameterName::named(name) {
@@ -215,6 +226,7 @@ impl<'z, R: Rng> Daemon<'z, R> {
         ensures runs { Runs Y.gives sysfs.now
             (telling (device_rows (daemon_of self.now).sweep.standings)) result sysfs.now }
         ensures can_do { CanDo (daemon_of self.now) result.deed }
+        ensures lines { HasLines result.deed }
         ensures can_make { CanMake (daemon_of self.now).sweep.judge.rules result.change }
     {
         tell(list_devices(alloc, &self.table))
@@ -224,6 +236,7 @@ impl<'z, R: Rng> Daemon<'z, R> {
         ensures runs { Runs Y.gives sysfs.now
             (telling (rule_rows (daemon_of self.now).sweep.judge.rules)) result sysfs.now }
         ensures can_do { CanDo (daemon_of self.now) result.deed }
+        ensures lines { HasLines result.deed }
         ensures can_make { CanMake (daemon_of self.now).sweep.judge.rules result.change }
     {
         tell(self.policy.rule_rows(alloc))
@@ -241,6 +254,7 @@ impl<'z, R: Rng> Daemon<'z, R> {
         ensures runs { Runs Y.gives sysfs.now (Room
             (if_rule_read (daemon_of self.now).sweep.judge after permanent text.now)) result sysfs.now }
         ensures can_do { CanDo (daemon_of self.now) result.deed }
+        ensures lines { HasLines result.deed }
         ensures can_make { CanMake (daemon_of self.now).sweep.judge.rules result.change }
     {
         match parse_rule(alloc, text) {
@@ -263,6 +277,7 @@ impl<'z, R: Rng> Daemon<'z, R> {
         ensures chosen { (result ≡ by_rule (daemon_of self.now).sweep.judge after permanent (rule_read text.now))
             ⊎ (result ≡ refusing (Refusal.Memory false)) }
         ensures can_do { CanDo (daemon_of self.now) result.deed }
+        ensures lines { HasLines result.deed }
         ensures can_make { CanMake (daemon_of self.now).sweep.judge.rules result.change }
     {
         if let Some(refusal) = self.policy.refuse_rule(after) {
@@ -287,6 +302,7 @@ impl<'z, R: Rng> Daemon<'z, R> {
     fn choose_removal(&self, alloc: Global, id: u64) -> Choice
         ensures chosen { result ≡ by_id (daemon_of self.now).sweep.judge.rules id }
         ensures can_do { CanDo (daemon_of self.now) result.deed }
+        ensures lines { HasLines result.deed }
         ensures can_make { CanMake (daemon_of self.now).sweep.judge.rules result.change }
     {
         if !self.policy.has_rule(id) {
@@ -311,6 +327,7 @@ impl<'z, R: Rng> Daemon<'z, R> {
             (by_standing (daemon_of self.now).sweep.judge number verdict permanent
             (numbered number (daemon_of self.now).sweep.standings)) result sysfs.new }
         ensures can_do { CanDo (daemon_of self.now) result.deed }
+        ensures lines { HasLines result.deed }
         ensures can_make { CanMake (daemon_of self.now).sweep.judge.rules result.change }
     {
         match self.table.standing(number) {
@@ -335,6 +352,7 @@ impl<'z, R: Rng> Daemon<'z, R> {
             (by_standing (daemon_of self.now).sweep.judge number verdict permanent
             (numbered number (daemon_of self.now).sweep.standings)) result sysfs.new }
         ensures can_do { CanDo (daemon_of self.now) result.deed }
+        ensures lines { HasLines result.deed }
         ensures can_make { CanMake (daemon_of self.now).sweep.judge.rules result.change }
     {
         match self.table.probe(sysfs, number) {
@@ -366,6 +384,7 @@ impl<'z, R: Rng> Daemon<'z, R> {
         requires { IsSome (numbered number (daemon_of self.now).sweep.standings) }
         ensures chosen { IsChosenForGood (daemon_of self.now).sweep.judge number verdict on judged.now result }
         ensures can_do { CanDo (daemon_of self.now) result.deed }
+        ensures lines { HasLines result.deed }
         ensures can_make { CanMake (daemon_of self.now).sweep.judge.rules result.change }
     {
         match judged {
@@ -388,6 +407,7 @@ impl<'z, R: Rng> Daemon<'z, R> {
             (verdict_edit device.now verdict (daemon_of self.now).sweep.judge))
             ⊎ (result ≡ refusing (Refusal.Memory false)) }
         ensures can_do { CanDo (daemon_of self.now) result.deed }
+        ensures lines { HasLines result.deed }
         ensures can_make { CanMake (daemon_of self.now).sweep.judge.rules result.change }
     {
         let Ok(edit) = self.policy.verdict_edit(alloc, device, verdict) else {

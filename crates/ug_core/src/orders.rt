@@ -1,12 +1,13 @@
 // Orders of administrators: usbguard(1).
-ghost use Rattle.std.specs.Prelude.{◌≡◌, ◌≤◌, ◌<◌, ◌+◌, ◌-◌, ◌^◌, IsSome, None, Some, length, true};
+ghost use Rattle.std.specs.Prelude.{◌≡◌, ◌≤◌, ◌<◌, ◌+◌, ◌-◌, ◌^◌, IfSome, IsSome, None, Some, length, true};
 ghost use Rattle.ug_kernel.specs.Tree.{Runs};
 ghost use Rattle.ug_audit.specs.Journal.{live_in, members};
+ghost use Rattle.ug_lines.specs.Splitting.{AreLines};
 ghost use Rattle.ug_store.specs.Store.{DiskRoom, RunsDisk};
 ghost use Rattle.ug_table.specs.Orders.{ordering};
 ghost use Rattle.ug_table.specs.Standings.{numbered};
 ghost use Rattle.ug_table.specs.State.{kept_of};
-ghost use Rattle.ug_core.specs.Answering.{acting, answer_of, CanDo, CanMake, deed_after, keeping, reply_to, replying};
+ghost use Rattle.ug_core.specs.Answering.{acting, answer_of, CanDo, CanMake, deed_after, HasLines, HasWholeLines, keeping, reply_to, replying};
 ghost use Rattle.ug_core.specs.Changes.{CanChange, ChangeReads, ChangeSaves, HasRoom};
 ghost use Rattle.ug_core.specs.Durable.{WritesEvent, change_ordered};
 ghost use Rattle.ug_core.specs.Event.{daemon_of, NotesMore};
@@ -30,7 +31,8 @@ use ug_types::{List, Principal, Refusal, Target, Text};
 
 // The reply behind the writes. Where the device has left since, the order is done.
 fn reply_to(lines: List<Text>, settled: Settled) -> Reply
-    ensures { result ≡ reply_to lines settled }
+    ensures reply { result ≡ reply_to lines settled }
+    ensures whole { AreLines lines → HasWholeLines result }
 {
     match settled {
         Settled::Stands => Reply::Lines(lines),
@@ -45,7 +47,8 @@ fn reply_to(lines: List<Text>, settled: Settled) -> Reply
 
 // What isn't in force is refused.
 fn deed_after(stored: Stored, deed: Deed) -> Deed
-    ensures { result ≡ deed_after stored deed }
+    ensures deed { result ≡ deed_after stored deed }
+    ensures lines { HasLines deed → HasLines result }
 {
     match stored.refusal() {
         Some(refusal) => Deed::Refuse(refusal),
@@ -251,7 +254,9 @@ impl<'z, R: Rng> Daemon<'z, R> {
         panel: &mut Panel,
     ) -> Reply
         requires can { CanDo (daemon_of self.old) deed }
+        requires lines { HasLines deed }
         requires spare { 7 + live_in panel.old ≤ self.old.report.entries.spare }
+        ensures whole { HasWholeLines result }
         ensures runs { Runs Y.gives sysfs.old (acting who.now (daemon_of self.old) deed)
             (replying result (daemon_of self.new)) sysfs.new }
         ensures len { length self.new.table.standings ≤ length self.old.table.standings }
@@ -287,6 +292,7 @@ impl<'z, R: Rng> Daemon<'z, R> {
     fn reply(&mut self, reply: Reply, panel: &mut Panel)
         requires { live_in panel.old < self.old.report.entries.spare }
         ensures daemon { daemon_of self.new ≡ replying reply (daemon_of self.old) }
+        ensures reply { self.new.report.reply ≡ Some reply }
         ensures spare { self.new.report.entries.spare + 1 + live_in panel.old
             ≡ self.old.report.entries.spare + live_in panel.new }
         ensures number { self.new.report.event ≡ self.old.report.event }
@@ -314,6 +320,7 @@ impl<'z, R: Rng> Daemon<'z, R> {
             result sysfs.new disk.new (daemon_of self.new) }
         ensures written { WritesRules result (change_ordered who.now (daemon_of self.old) (request_read line.now))
             (daemon_of self.old).sweep.judge }
+        ensures whole { IfSome self.new.report.reply (λ r. HasWholeLines r) }
         ensures counted { TellsStored result (D.faults disk.old) (D.faults disk.new) }
         ensures len { length self.new.table.standings ≤ length self.old.table.standings }
         ensures next { self.new.table.next ≡ self.old.table.next }
@@ -344,9 +351,11 @@ impl<'z, R: Rng> Daemon<'z, R> {
     ) -> Stored
         requires id { (daemon_of self.old).sweep.judge.next < 2 ^ 64 - 1 }
         requires spare { 9 + live_in panel.old ≤ self.old.report.entries.spare }
+        requires silent { self.old.report.reply ≡ None }
         ensures runs { RunsAnswer Y.gives D.keeps event.now sysfs.old disk.old (daemon_of self.old)
             result sysfs.new disk.new (daemon_of self.new) }
         ensures written { WritesEvent event.now (daemon_of self.old) result }
+        ensures whole { IfSome self.new.report.reply (λ r. HasWholeLines r) }
         ensures counted { TellsStored result (D.faults disk.old) (D.faults disk.new) }
         ensures len { length self.new.table.standings ≤ length self.old.table.standings }
         ensures next { self.new.table.next ≡ self.old.table.next }

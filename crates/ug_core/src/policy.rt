@@ -9,6 +9,7 @@ ghost use Rattle.ug_rules.specs.RuleEdits.{EditReads, if_room_for};
 ghost use Rattle.ug_rules.specs.RuleFile.{FitsFile, IsSaveable, ReadsBack, permanent_rules, permanent_text};
 ghost use Rattle.ug_policy.specs.Rules.{rules_in};
 ghost use Rattle.ug_rules.specs.RulePlaces.{has_rule, if_taken};
+ghost use Rattle.ug_lines.specs.Splitting.{AreLines};
 ghost use Rattle.ug_rules.specs.RuleRows.{rule_rows};
 
 use crate::changes::Change;
@@ -221,7 +222,8 @@ impl<'z, R: Rng> Policy<'z, R> {
 
     /// The rows of a list of the rules.
     pub fn rule_rows(&self, alloc: Global) -> Result<List<Text>, NoMemory>
-        ensures { IfOk result (λ rows. rows ≡ rule_rows (judging_of R.stream self.now).rules) }
+        ensures rows { IfOk result (λ rows. rows ≡ rule_rows (judging_of R.stream self.now).rules) }
+        ensures one_line { IfOk result (λ rows. AreLines rows) }
     {
         self.rules.rows(alloc)
     }

@@ -36,6 +36,15 @@ well_permanent (e ∷ es) h = by_flag e.temporary e.rule (permanent_rules es) h.
     by_flag true rule rules r w = w
     by_flag false rule rules r w = (read_well rule (rule_text rule, r), w)
 
+-- each rule is one that some line reads as
+
+well_each : (es : List RuleEntry) → AllByRecursion ReadsBack (rules_in es) → AllByRecursion (λ (e : RuleEntry). WellFormed e.rule) es
+well_each [] h = tt
+well_each (e ∷ es) h = (read_well e.rule (rule_text e.rule, h.0), well_each es h.1)
+
+pub well_all : (es : List RuleEntry) → All ReadsBack (rules_in es) → All (λ (e : RuleEntry). WellFormed e.rule) es
+well_all es h = All-from_recursion (λ (e : RuleEntry). WellFormed e.rule) es (well_each es (recursion_from_All ReadsBack (rules_in es) h))
+
 permanent_reads : (es : List RuleEntry) → All ReadsBack (rules_in es) → All RuleOfBytes (permanent_rules es) → file_read (rules_text_of (permanent_rules es)) ≡ Ok (permanent_rules es)
 permanent_reads es h b = text_read (permanent_rules es) (All-from_recursion WellFormed (permanent_rules es) (well_permanent es (recursion_from_All ReadsBack (rules_in es) h))) b
 

@@ -19,13 +19,16 @@ digits_line : (ds : List ℕ) → AllByRecursion IsDigit ds → IsLine ds
 digits_line [] h = tt
 digits_line (d ∷ ds) h = (λ e. let low : 48 ≤ d = h.0.0 in omega arith, digits_line ds h.1)
 
+pub decimal_line : (number : ℕ) → number < 2 ^ 64 → IsLine (decimal number)
+decimal_line number h = digits_line (decimal number) (decimal_written number h).digits
+
 byte : (m : ℕ) → 31 < m → m ≡ 10 → ⊥
 byte m h e = omega arith
 
 pub row_line : (number : ℕ) (text : List ℕ) → number < 2 ^ 64 → IsLine text → IsLine (numbered_row number text)
 unfolding numbered_row
 row_line number text h k =
-    line_append (decimal number) (codes ": " ++ text) (digits_line (decimal number) (decimal_written number h).digits)
+    line_append (decimal number) (codes ": " ++ text) (decimal_line number h)
     (byte 58 (omega arith), (byte 32 (omega arith), k))
 
 mark_line : (temporary : Bool) → IsLine (mark_text temporary)

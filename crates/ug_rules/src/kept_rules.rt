@@ -1,5 +1,6 @@
 // The rules in order, each of which reads again from the text that is saved of it.
 ghost use Rattle.std.specs.Prelude.{◌≡◌, ◌<◌, ◌+◌, ◌-◌, ◌^◌, All, Err, IfOk, IfSome, IsTrue, None, Ok, OnOk, Some, if◌then◌else◌};
+ghost use Rattle.ug_lines.specs.Splitting.{AreLines};
 ghost use Rattle.ug_policy.specs.Deciding.{Judges};
 ghost use Rattle.ug_policy.specs.Edits.{inserted, new_entry, removed, retargeted};
 ghost use Rattle.ug_print.specs.Generated.{generated_of};
@@ -60,9 +61,10 @@ impl KeptRules {
         KeptRules { list }
     }
 
-    /// The rows of a list of the rules.
+    /// The rows of a list of the rules. None has a newline.
     pub fn rows(&self, alloc: Global) -> Result<List<Text>, NoMemory>
-        ensures { IfOk result (λ rows. rows ≡ rule_rows self.now.entries) }
+        ensures rows { IfOk result (λ rows. rows ≡ rule_rows self.now.entries) }
+        ensures one_line { IfOk result (λ rows. AreLines rows) }
     {
         list_rules(alloc, &self.list)
     }

@@ -1,3 +1,7 @@
+use Rattle.std.proofs.Common.{Option, sym, subst}
+use Rattle.std.specs.Prelude.{IfSome}
+use Rattle.ug_proto.specs.declared.reply.Reply.{Reply}
+use Rattle.ug_core.specs.Answering.{HasWholeLines}
 use Rattle.ug_core.specs.Event.{daemon_of}
 use Rattle.ug_core.proofs.Noted.{more_noted}
 use Rattle.ug_core.proofs.Written.{order_writes}
@@ -9,3 +13,6 @@ returns-clause-noted g c = more_noted _ _ _ _ _ _ (more_noted _ _ _ _ _ _ c.stor
 pub returns-clause-written : goal.returns-clause-written
 returns-clause-written g c =
     order_writes g.Y.Sysfs.gives g.D.RuleDisk.keeps c.args.who.now c.args.line.now (daemon_of c.args.self.now) c.choose-choice.result c.args.sysfs.now c.choose-choice.new.sysfs c.args.disk.now c.store-stored.new.disk c.store-stored.result c.choose-choice.ensures.runs c.store-stored.ensures.runs c.store-stored.ensures.written
+
+pub returns-clause-whole : goal.returns-clause-whole
+returns-clause-whole g c = subst (λ (r : Option Reply). IfSome r (λ (x : Reply). HasWholeLines x)) (sym c.reply.ensures.reply) c.carry_out-reply.ensures.whole

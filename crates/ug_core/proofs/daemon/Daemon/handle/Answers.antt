@@ -1,4 +1,7 @@
-use Rattle.std.proofs.Common.{◌≡◌, ℕ, [], sym, ap, subst, ◌∙◌}
+use Rattle.std.proofs.Common.{◌≡◌, ℕ, [], sym, ap, subst, ◌∙◌, Option}
+use Rattle.std.specs.Prelude.{IfSome}
+use Rattle.ug_proto.specs.declared.reply.Reply.{Reply}
+use Rattle.ug_core.specs.Answering.{HasWholeLines}
 use Rattle.ug_store.specs.Store.{RunsDisk}
 use Rattle.ug_table.specs.Order.{StandInOrder}
 use Rattle.ug_core.specs.Laws.{RunsAnswer}
@@ -72,6 +75,9 @@ returns-clause-handles g c =
       file = file_kept g.Y.Sysfs.gives g.D.RuleDisk.keeps g.D.RuleDisk.told g.met.D.RuleDisk.did event start o d tried q became middle p a t e tries answers tells (event_keeps_rules g.Y.Sysfs.gives middle a e t c.sweep.ensures.runs);
       saves = tries_save g.Y.Sysfs.gives g.Y.Sysfs.calls g.Y.Sysfs.faults g.D.RuleDisk.keeps event o d tried q start became made.made middle p a middle t e c.sweep.ensures.tells.swept tries answers made.goes c.sweep.ensures.tells.tells.goes c.sweep.ensures.tells.entries (event_keeps_pending g.Y.Sysfs.gives middle a e t c.sweep.ensures.runs);
     }
+
+pub returns-clause-whole : goal.returns-clause-whole
+returns-clause-whole g c = subst (λ (r : Option Reply). IfSome r (λ (x : Reply). HasWholeLines x)) (sym c.sweep.ensures.reply) c.answer-stored.ensures.whole
 
 pub returns-clause-noted : goal.returns-clause-noted
 returns-clause-noted g c =

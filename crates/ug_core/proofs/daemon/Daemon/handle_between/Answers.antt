@@ -1,4 +1,7 @@
-use Rattle.std.proofs.Common.{◌≡◌, ℕ, [], ap, subst, ◌∙◌}
+use Rattle.std.proofs.Common.{◌≡◌, ℕ, [], ap, subst, ◌∙◌, Option, sym}
+use Rattle.std.specs.Prelude.{IfSome}
+use Rattle.ug_proto.specs.declared.reply.Reply.{Reply}
+use Rattle.ug_core.specs.Answering.{HasWholeLines}
 use Rattle.ug_store.specs.Store.{RunsDisk}
 use Rattle.ug_table.specs.Order.{StandInOrder}
 use Rattle.ug_core.specs.Laws.{RunsAnswer}
@@ -70,6 +73,9 @@ returns-clause-passes g c =
       file = kept_event g.Y.Sysfs.gives g.D.RuleDisk.keeps g.D.RuleDisk.told g.met.D.RuleDisk.did event started o d tried q became middle p a e adds.0 tries answers adds.1 (event_keeps_rules g.Y.Sysfs.gives resumed a e t c.sweep.ensures.runs);
       saves = tries_save g.Y.Sysfs.gives g.Y.Sysfs.calls g.Y.Sysfs.faults g.D.RuleDisk.keeps event o d tried q started became made.made middle p a resumed t e c.sweep.ensures.tells.swept tries answers made.goes c.sweep.ensures.tells.tells.goes c.sweep.ensures.tells.entries (event_keeps_pending g.Y.Sysfs.gives resumed a e t c.sweep.ensures.runs);
     }
+
+pub returns-clause-whole : goal.returns-clause-whole
+returns-clause-whole g c = subst (λ (r : Option Reply). IfSome r (λ (x : Reply). HasWholeLines x)) (sym c.sweep.ensures.reply) c.answer-stored.ensures.whole
 
 pub returns-clause-noted : goal.returns-clause-noted
 returns-clause-noted g c =
