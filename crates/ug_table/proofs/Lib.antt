@@ -18,3 +18,5 @@ pub mod Faults
 pub mod Once
 pub mod One
 pub mod Ordered
+pub mod Entries
+pub mod Agreement

@@ -12,3 +12,4 @@ pub mod Marks
 pub mod Parts
 pub mod One
 pub mod Orders
+pub mod Slots

@@ -21,6 +21,10 @@ abbrev pub standing_of : List ℕ → List Standing → Option Known
 standing_of name [] = None
 standing_of name (s ∷ ss) = if same_name s.name name then Some (known_of s) else standing_of name ss
 
+-- the standing of that name, whole
+abbrev pub named : List ℕ → List Standing → Option Standing
+named name ss = find (λ s. same_name s.name name) ss
+
 -- the standing of that number
 abbrev pub numbered : ℕ → List Standing → Option Standing
 numbered number ss = find (λ s. nat_eq s.number number) ss

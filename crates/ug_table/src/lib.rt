@@ -3,8 +3,10 @@
 
 mod bring;
 mod judge;
+mod kept;
 mod order;
 mod settle;
+mod slots;
 mod standing;
 mod sweep;
 mod table;

@@ -13,9 +13,10 @@ ghost use Rattle.ug_table.specs.declared.standing.Standing.{Standing};
 ghost use Rattle.ug_table.specs.declared.standing.Settled.TheVariants.{Memory};
 
 use crate::bring::bring;
+use crate::kept::Standings;
 use crate::settle::remember;
-use crate::standing::{Known, Settled, Standing};
-use crate::table::{Table, find_numbered, set_verdict};
+use crate::standing::{Known, Settled};
+use crate::table::Table;
 use std::alloc::Global;
 use ug_audit::{Auditor, Entry, Journal};
 use ug_kernel::{Probe, Sysfs};
@@ -107,31 +108,23 @@ impl Table {
 }
 
 #[tactic(auto, unfolding(crate::specs::Orders::probing))]
-fn probe_numbered<Y: Sysfs>(standings: &[Standing], sysfs: &mut Y, number: u64) -> Probe
-    ensures runs { Runs Y.gives sysfs.old (probing number standings.now) result sysfs.new }
-    ensures call { (s : Standing) → numbered number standings.now ≡ Some s
+fn probe_numbered<Y: Sysfs>(standings: &Standings, sysfs: &mut Y, number: u64) -> Probe
+    ensures runs { Runs Y.gives sysfs.old (probing number standings.now.items) result sysfs.new }
+    ensures call { (s : Standing) → numbered number standings.now.items ≡ Some s
         → Y.gives sysfs.old (Ask_alive s.held.0)
         (record { answer = result; number = Y.calls sysfs.new; count = Y.faults sysfs.new })
         sysfs.new }
 {
-    match find_numbered(standings, number) {
+    match standings.numbered(number) {
         Some(s) => reprobe(sysfs, s.held),
         None => Probe::Gone,
     }
 }
 
-// The standing of that number gets the verdict.
-fn give_verdict(standings: &mut Vec<Standing>, number: u64, verdict: Target, who: Principal)
-    ensures standings { standings.new.items ≡ with_order number verdict who standings.old.items }
-    ensures len { length standings.new.items ≤ length standings.old.items }
-{
-    set_verdict(standings, number, verdict, who);
-}
-
 #[tactic(auto, unfolding(crate::specs::Orders::ordering))]
 fn order_standing<Y: Sysfs>(
     alloc: Global,
-    standings: &mut Vec<Standing>,
+    standings: &mut Standings,
     sysfs: &mut Y,
     number: u64,
     verdict: Target,
@@ -147,7 +140,7 @@ fn order_standing<Y: Sysfs>(
     ensures keeps { KeepsOrder standings.old.items standings.new.items }
     ensures len { length standings.new.items ≤ length standings.old.items }
 {
-    let (name, known) = match find_numbered(standings, number) {
+    let (name, known) = match standings.numbered(number) {
         Some(s) => (
             s.name,
             Known {
@@ -167,7 +160,7 @@ fn order_standing<Y: Sysfs>(
         verdict,
         cause: Cause::Order(who),
     });
-    give_verdict(standings, number, verdict, who);
+    standings.set_verdict(number, verdict, who);
     let settled = bring(alloc, sysfs, &name, known, on, out);
     remember(standings, &name, false, settled);
     settled

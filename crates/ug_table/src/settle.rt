@@ -1,7 +1,8 @@
 // The settling of one name.
-ghost use Rattle.std.specs.Prelude.{◌≡◌, ◌≤◌, ◌<◌, ◌+◌, ◌++◌, ◌∷◌, [], ◌-◌, ◌^◌, length, vec_capacity, is_none, IsSome, OnOk, Some, None};
+ghost use Rattle.std.specs.Prelude.{◌≡◌, ◌≤◌, ◌<◌, ◌+◌, ◌++◌, ◌∷◌, [], ◌-◌, ◌^◌, length, is_none, IsSome, Some, None};
 ghost use Rattle.ug_types.specs.Names.{parent_of};
-ghost use Rattle.ug_kernel.specs.Tree.{Runs};
+ghost use Rattle.ug_kernel.specs.Tree.{Runs, Room};
+ghost use Rattle.ug_table.specs.Slots.{HasPlace};
 ghost use Rattle.ug_audit.specs.Journal.{Notes, noted_in};
 ghost use Rattle.ug_audit.specs.declared.entry.Entry.TheVariants.{Unsettled};
 ghost use Rattle.ug_table.specs.State.{state_of, kept_of, terms_of};
@@ -11,18 +12,19 @@ ghost use Rattle.ug_table.specs.One.{resettling_numbered, GoesAsPart, SettlesOne
 ghost use Rattle.ug_table.specs.Marks.{LeavesMarks, has_name, has_number};
 ghost use Rattle.ug_table.specs.declared.standing.Standing.{Standing};
 ghost use Rattle.ug_table.specs.declared.standing.Settled.TheVariants.{Memory};
-ghost use Rattle.ug_table.specs.Settle.{stopped_by, unsettled_by, stands, kept_standings, tried_standings, no_room, to_judge, admitting, entering, settling, resettling};
+ghost use Rattle.ug_table.specs.Settle.{stopped_by, unsettled_by, stands, kept_standings, tried_standings, no_room, if_place, admitting, entering, settling, resettling};
 
 use crate::bring::{is_reject, treat};
 use crate::judge::Judge;
+use crate::kept::Standings;
 use crate::standing::{Known, Settled, Standing};
-use crate::table::{Table, find, forget, known_of, mark, mark_default, put_in};
+use crate::table::{Table, known_of};
 use std::alloc::Global;
 use ug_audit::{Auditor, Entry, Fault, Journal};
 use ug_kernel::{Probe, Sysfs, Write};
 use ug_node::{Binding, Bound, bind, failed_call, reprobe};
 use ug_record::record_of;
-use ug_types::{Held, Judged, NoMemory, NodeName};
+use ug_types::{Held, Judged, NodeName};
 
 // Whether the name is a root hub's.
 fn is_controller(name: &NodeName) -> bool
@@ -41,21 +43,21 @@ fn is_stands(settled: Settled) -> bool
 }
 
 /// Keeps a new standing, unless its device is gone.
-fn keep(standings: &mut Vec<Standing>, standing: Standing, wrote: bool, settled: Settled)
-    requires { length standings.old.items < vec_capacity standings.old }
+fn keep(standings: &mut Standings, standing: Standing, wrote: bool, settled: Settled)
+    requires { HasPlace standing.name standing.number standings.old }
     ensures standings { standings.new.items ≡ kept_standings standings.old.items (record standing { defaulted = wrote }) settled }
     ensures len { length standings.new.items ≤ length standings.old.items + 1 }
 {
     let mut standing = standing;
     standing.defaulted = wrote;
     match settled {
-        Settled::Nobody => {}
+        Settled::Nobody => standings.release(&standing.name, standing.number),
         Settled::Stands => {
             standing.settled = true;
             standing.removed = standing.removed || is_reject(standing.verdict);
-            put_in(standings, standing);
+            standings.put(standing);
         }
-        _ => put_in(standings, standing),
+        _ => standings.put(standing),
     }
 }
 
@@ -72,14 +74,14 @@ fn entry_of(s: &Standing) -> Entry
 }
 
 /// Notes how a standing was settled.
-pub fn remember(standings: &mut Vec<Standing>, name: &NodeName, wrote: bool, settled: Settled)
+pub fn remember(standings: &mut Standings, name: &NodeName, wrote: bool, settled: Settled)
     ensures standings { standings.new.items ≡ tried_standings (did_default name.now wrote standings.old.items) name.now settled }
     ensures len { length standings.new.items ≤ length standings.old.items }
 {
-    mark_default(standings, name, wrote);
+    standings.mark_default(name, wrote);
     match settled {
-        Settled::Nobody => forget(standings, name),
-        _ => mark(standings, name, is_stands(settled)),
+        Settled::Nobody => standings.forget(name),
+        _ => standings.mark(name, is_stands(settled)),
     }
 }
 
@@ -110,23 +112,6 @@ fn note_unsettled(out: &mut Journal, name: &NodeName, settled: Settled)
 }
 
 impl Table {
-    // Room for one standing more, and for its name.
-    fn make_room(&mut self) -> Result<(), NoMemory>
-        ensures standings { self.new.standings ≡ self.old.standings }
-        ensures next { self.new.next ≡ self.old.next }
-        ensures listed { self.new.listed ≡ self.old.listed }
-        ensures room { OnOk result (length self.new.standings < self.new.room) }
-    {
-        match self.names.reserve(self.standings.len() + 1) {
-            Ok(()) => {}
-            Err(_) => return Err(NoMemory),
-        }
-        match self.standings.reserve(1) {
-            Ok(()) => Ok(()),
-            Err(_) => Err(NoMemory),
-        }
-    }
-
     // There is no memory for a new standing: the file is closed.
     fn lack_memory<Y: Sysfs, A: Judge>(
         &self,
@@ -145,7 +130,7 @@ impl Table {
         note_fault(out, name, Fault::Memory)
     }
 
-    // A device that has a record and room gets the next number and a verdict, and the writes are made.
+    // A device that has a record gets a place, the next number and a verdict, and the writes are made.
     #[tactic(auto, using(ug_kernel::proofs::Runs::runs_then))]
     fn judge_bound<Y: Sysfs, A: Judge>(
         &mut self,
@@ -161,15 +146,20 @@ impl Table {
     ) -> Settled
         requires room { 9 ≤ (noted_in out.old).spare }
         requires next { self.old.next < 2 ^ 64 - 1 }
-        requires place { length self.old.standings < self.old.room }
         requires absent { standing_of name.now self.old.standings ≡ None }
-        ensures runs { Runs Y.gives sysfs.old (to_judge A.answer A.later name.now (terms_of present hub_default) (state_of hub_default self.old (A.meaning judge.old) (noted_in out.old).entries) bound.now judged) (result, state_of hub_default self.new (A.meaning judge.new) (noted_in out.new).entries) sysfs.new }
+        ensures runs { Runs Y.gives sysfs.old (Room (if_place A.answer A.later name.now (terms_of present hub_default) (state_of hub_default self.old (A.meaning judge.old) (noted_in out.old).entries) bound.now judged)) (result, state_of hub_default self.new (A.meaning judge.new) (noted_in out.new).entries) sysfs.new }
         ensures journal { Notes (λ b. ⟦<dyn Auditor as Auditor>⟧ b.vtable) 9 out.old out.new }
         ensures len { length self.new.standings ≤ length self.old.standings + 1 }
         ensures next { self.new.next ≤ self.old.next + 1 }
     {
         let number = self.next;
         let held = bound.held;
+        if self.names.reserve(self.standings.count() + 1).is_err() {
+            return self.lack_memory(sysfs, name, held, judge, hub_default, out);
+        }
+        if self.standings.reserve(name, number).is_err() {
+            return self.lack_memory(sysfs, name, held, judge, hub_default, out);
+        }
         let (verdict, cause) = judge.verdict(&judged, is_controller(name), present, bound.on, self);
         self.next += 1;
         let standing = Standing {
@@ -216,9 +206,6 @@ impl Table {
             Ok(judged) => judged,
             Err(_) => return self.lack_memory(sysfs, name, bound.held, judge, hub_default, out),
         };
-        if self.make_room().is_err() {
-            return self.lack_memory(sysfs, name, bound.held, judge, hub_default, out);
-        }
         self.judge_bound(
             alloc,
             sysfs,
@@ -365,7 +352,7 @@ impl Table {
         ensures len { length self.new.standings ≤ length self.old.standings + 1 }
         ensures next { self.new.next ≤ self.old.next + 1 }
     {
-        let known = match find(&self.standings, name) {
+        let known = match self.standings.find(name) {
             Some(known) => known,
             None => return self.enter(alloc, sysfs, name, present, judge, hub_default, out),
         };
@@ -385,7 +372,7 @@ impl Table {
                     name: *name,
                 });
                 sysfs.close(known.held);
-                forget(&mut self.standings, name);
+                self.standings.forget(name);
                 return self.enter(alloc, sysfs, name, present, judge, hub_default, out);
             }
         };
@@ -398,7 +385,7 @@ impl Table {
 #[tactic(auto, unfolding(crate::specs::Settle::resettling), using(ug_kernel::proofs::Runs::runs_then))]
 pub fn settle_known<Y: Sysfs>(
     alloc: Global,
-    standings: &mut Vec<Standing>,
+    standings: &mut Standings,
     sysfs: &mut Y,
     name: &NodeName,
     hub_default: Option<Write>,
@@ -410,7 +397,7 @@ pub fn settle_known<Y: Sysfs>(
     ensures keeps { KeepsOrder standings.old.items standings.new.items }
     ensures len { length standings.new.items ≤ length standings.old.items }
 {
-    let known = match find(standings, name) {
+    let known = match standings.find(name) {
         Some(known) => known,
         None => return Settled::Nobody,
     };

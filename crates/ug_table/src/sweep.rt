@@ -1,18 +1,22 @@
 // The sweep over all devices.
-ghost use Rattle.std.specs.Prelude.{◌≡◌, ◌≤◌, ◌<◌, ◌+◌, ◌-◌, ◌*◌, ◌^◌, ◌++◌, [], min, length, vec_capacity};
-ghost use Rattle.std.specs.List.{filter};
+ghost use Rattle.std.specs.Prelude.{◌≡◌, ◌≤◌, ◌<◌, ◌+◌, ◌-◌, ◌*◌, ◌^◌, ◌++◌, ◌∷◌, [], min, length, vec_capacity};
+ghost use Rattle.std.specs.List.Sorted.{IsSorted};
+ghost use Rattle.ug_types.specs.Names.{sweep_cmp};
+ghost use Rattle.ug_table.specs.Slots.{filled};
 ghost use Rattle.ug_types.specs.Sweep.{in_sweep_order};
 ghost use Rattle.ug_kernel.specs.Tree.{Runs};
 ghost use Rattle.ug_audit.specs.Journal.{Notes, SameEntries, noted_in};
 ghost use Rattle.ug_table.specs.State.{state_of, kept_of, terms_of};
 ghost use Rattle.ug_table.specs.Order.{KeepsOrder};
-ghost use Rattle.ug_table.specs.Standings.{lists, farewells};
+ghost use Rattle.ug_table.specs.Standings.{farewells};
 ghost use Rattle.ug_table.specs.Sweep.{settling_all, resettling_all, closing_unlisted, parted, unlisted, sweeping, names_of};
 ghost use Rattle.ug_table.specs.Laws.{Sweeps};
 ghost use Rattle.ug_table.specs.Parts.{TellsFaults, NamesOnce};
 
 use crate::judge::Judge;
+use crate::kept::Standings;
 use crate::settle::settle_known;
+use crate::slots::{Slots, has};
 use crate::standing::Standing;
 use crate::table::Table;
 use std::alloc::Global;
@@ -21,55 +25,90 @@ use ug_kernel::{Listing, Sysfs, Write};
 use ug_node::failed_call;
 use ug_types::{List, NodeName, sort_names};
 
-fn has(names: &[NodeName], name: &NodeName) -> bool
-    ensures { result ≡ lists names.now name.now }
+// An entry for a standing whose name isn't listed.
+fn bid_one(s: &Standing, names: &[NodeName], out: &mut Journal)
+    requires sorted { IsSorted sweep_cmp names.now }
+    requires room { 1 ≤ (noted_in out.old).spare }
+    ensures entries { (noted_in out.new).entries ≡ (noted_in out.old).entries ++ farewells names.now (s.now ∷ []) }
+    ensures journal { Notes (λ b. ⟦<dyn Auditor as Auditor>⟧ b.vtable) 1 out.old out.new }
 {
-    names.iter().any(|n| *n == *name)
+    if !has(names, &s.name) {
+        out.push(Entry::Gone {
+            number: s.number,
+            name: s.name,
+        });
+    }
 }
 
 /// An entry for each standing whose name isn't listed.
-fn bid(standings: &[Standing], names: &[NodeName], out: &mut Journal)
-    requires { length standings.now ≤ (noted_in out.old).spare }
-    ensures entries { (noted_in out.new).entries ≡ (noted_in out.old).entries ++ farewells names.now standings.now }
-    ensures journal { Notes (λ b. ⟦<dyn Auditor as Auditor>⟧ b.vtable) (length standings.now) out.old out.new }
+fn bid(slots: &Slots, names: &[NodeName], out: &mut Journal)
+    requires sorted { IsSorted sweep_cmp names.now }
+    requires room { length (filled slots.now.entries) ≤ (noted_in out.old).spare }
+    ensures entries { (noted_in out.new).entries ≡ (noted_in out.old).entries ++ farewells names.now (filled slots.now.entries) }
+    ensures journal { Notes (λ b. ⟦<dyn Auditor as Auditor>⟧ b.vtable) (length (filled slots.now.entries)) out.old out.new }
 {
-    for s in standings {
-        if !has(names, &s.name) {
-            out.push(Entry::Gone {
-                number: s.number,
-                name: s.name,
-            });
+    for (_name, slot) in slots {
+        if let Some(s) = slot {
+            bid_one(s, names, out);
         }
     }
 }
 
 /// Closes the held file of each standing whose name isn't listed.
-fn close_unlisted<Y: Sysfs>(standings: &[Standing], sysfs: &mut Y, names: &[NodeName])
-    ensures { Runs Y.gives sysfs.old (closing_unlisted names.now standings.now) tt sysfs.new }
+fn close_unlisted<Y: Sysfs>(slots: &Slots, sysfs: &mut Y, names: &[NodeName])
+    requires { IsSorted sweep_cmp names.now }
+    ensures { Runs Y.gives sysfs.old (closing_unlisted names.now (filled slots.now.entries)) tt sysfs.new }
 {
-    for s in standings {
-        if !has(names, &s.name) {
+    for (_name, slot) in slots {
+        if let Some(s) = slot
+            && !has(names, &s.name)
+        {
             sysfs.close(s.held);
         }
     }
 }
 
-fn retain_listed(standings: &mut Vec<Standing>, names: &[NodeName])
-    ensures standings { standings.new.items ≡ filter (λ s. lists names.now s.name) standings.old.items }
-    ensures len { length standings.new.items ≤ length standings.old.items }
-{
-    standings.retain(|s| has(names, &s.name));
-}
-
 /// The names of the standings, for which there is room.
-fn names_into(standings: &[Standing], names: &mut Vec<NodeName>)
+fn names_into(slots: &Slots, names: &mut Vec<NodeName>)
     requires empty { names.old.items ≡ [] }
-    requires room { length standings.now ≤ vec_capacity names.old }
-    ensures names { names.new.items ≡ names_of standings.now }
+    requires room { length (filled slots.now.entries) ≤ vec_capacity names.old }
+    ensures names { names.new.items ≡ names_of (filled slots.now.entries) }
     ensures capacity { vec_capacity names.new ≡ vec_capacity names.old }
 {
-    for s in standings {
-        names.push_reserved(s.name);
+    for (_name, slot) in slots {
+        if let Some(s) = slot {
+            names.push_reserved(s.name);
+        }
+    }
+}
+
+impl Standings {
+    /// An entry for each standing whose name isn't listed.
+    fn bid(&self, names: &[NodeName], out: &mut Journal)
+        requires sorted { IsSorted sweep_cmp names.now }
+        requires room { length self.now.items ≤ (noted_in out.old).spare }
+        ensures entries { (noted_in out.new).entries ≡ (noted_in out.old).entries ++ farewells names.now self.now.items }
+        ensures journal { Notes (λ b. ⟦<dyn Auditor as Auditor>⟧ b.vtable) (length self.now.items) out.old out.new }
+    {
+        bid(&self.by_name, names, out);
+    }
+
+    /// Closes the held file of each standing whose name isn't listed.
+    fn close_unlisted<Y: Sysfs>(&self, sysfs: &mut Y, names: &[NodeName])
+        requires { IsSorted sweep_cmp names.now }
+        ensures { Runs Y.gives sysfs.old (closing_unlisted names.now self.now.items) tt sysfs.new }
+    {
+        close_unlisted(&self.by_name, sysfs, names);
+    }
+
+    /// The names of the standings, for which there is room.
+    fn names_into(&self, names: &mut Vec<NodeName>)
+        requires empty { names.old.items ≡ [] }
+        requires room { length self.now.items ≤ vec_capacity names.old }
+        ensures names { names.new.items ≡ names_of self.now.items }
+        ensures capacity { vec_capacity names.new ≡ vec_capacity names.old }
+    {
+        names_into(&self.by_name, names);
     }
 }
 
@@ -77,7 +116,7 @@ fn names_into(standings: &[Standing], names: &mut Vec<NodeName>)
 #[tactic(auto, using(ug_kernel::proofs::Runs::runs_then))]
 fn resettle_all<Y: Sysfs>(
     alloc: Global,
-    standings: &mut Vec<Standing>,
+    standings: &mut Standings,
     sysfs: &mut Y,
     names: &[NodeName],
     hub_default: Option<Write>,
@@ -103,15 +142,16 @@ impl Table {
         hub_default: Option<Write>,
         out: &mut Journal,
     )
-        requires { length self.old.standings ≤ (noted_in out.old).spare }
+        requires sorted { IsSorted sweep_cmp names.now }
+        requires room { length self.old.standings ≤ (noted_in out.old).spare }
         ensures state { state_of hub_default self.new (A.meaning judge.now) (noted_in out.new).entries ≡ parted names.now (state_of hub_default self.old (A.meaning judge.now) (noted_in out.old).entries) }
         ensures journal { Notes (λ b. ⟦<dyn Auditor as Auditor>⟧ b.vtable) (length self.old.standings) out.old out.new }
         ensures next { self.new.next ≡ self.old.next }
         ensures len { length self.new.standings ≤ length self.old.standings }
     {
         let _ = hub_default;
-        bid(&self.standings, names, out);
-        retain_listed(&mut self.standings, names);
+        self.standings.bid(names, out);
+        self.standings.retain_listed(names);
     }
 
     /// Settles each listed name in order.
@@ -157,7 +197,7 @@ impl Table {
     {
         out.push(Entry::UnsettledAll { fault });
         self.names.clear();
-        names_into(&self.standings, &mut self.names);
+        self.standings.names_into(&mut self.names);
         resettle_all(
             alloc,
             &mut self.standings,
@@ -226,7 +266,7 @@ impl Table {
             return;
         }
         let present = !self.listed;
-        close_unlisted(&self.standings, sysfs, &names);
+        self.standings.close_unlisted(sysfs, &names);
         self.part(&names, judge, hub_default, out);
         self.listed = true;
         self.settle_all(alloc, sysfs, &names, present, judge, hub_default, out);
@@ -234,10 +274,10 @@ impl Table {
 }
 
 // Ten entries for each name, and some for the event.
-fn room_for(standings: &[Standing], names: &[NodeName]) -> usize
-    ensures { result ≡ min (2 ^ 64 - 1) (10 * (length standings.now + length names.now) + 65) }
+fn room_for(standings: &Standings, names: &[NodeName]) -> usize
+    ensures { min (2 ^ 64 - 1) (10 * (length standings.now.items + length names.now) + 65) ≤ result }
 {
-    let count = standings.len() as u128 + names.len() as u128;
+    let count = standings.count() as u128 + names.len() as u128;
     let room = 10 * count + 65;
     if room > usize::MAX as u128 {
         usize::MAX
@@ -249,6 +289,7 @@ fn room_for(standings: &[Standing], names: &[NodeName]) -> usize
 fn sorted(names: List<NodeName>) -> Vec<NodeName>
     ensures items { result.items ≡ in_sweep_order names }
     ensures len { length result.items ≡ length names }
+    ensures sorted { IsSorted sweep_cmp result.items }
 {
     let mut names = names.into_vec();
     sort_names(&mut names);

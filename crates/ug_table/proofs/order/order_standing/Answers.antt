@@ -13,16 +13,16 @@ returns-clause-runs g c =
     let x : Standing = c.in-Some.s.now in
     let ss : List Standing = c.args.standings.now.items in
     let copied : Option (Bor Standing) → Option Standing = option_copied in
-    let at : numbered c.args.number ss ≡ Some x = sym (c.find_numbered.ensures ∙ ap (numbered c.args.number) c.deref.ensures.value) ∙ ap copied c.in-Some.is in
+    let at : numbered c.args.number ss ≡ Some x = sym c.numbered.ensures ∙ ap copied c.in-Some.is in
     let h = c.bring-settled in
     let run = subst (λ (es : List Entry). Runs g.Y.Sysfs.gives c.args.sysfs.now (bringing x.name (known_of (with_verdict c.args.verdict c.args.who x)) c.args.on es) (h.result, (noted_in h.new.out).entries) h.new.sysfs) c.push.ensures.entries h.ensures.runs in
     ordering_goes g.Y.Sysfs.gives c.args.number c.args.verdict c.args.who c.args.on ss _ (noted_in c.args.out.now).entries _ x _ _ h.result at run
-    (c.remember.ensures.standings ∙ ap (λ (v : List Standing). tried_standings v x.name h.result) c.give_verdict.ensures.standings)
+    (c.remember.ensures.standings ∙ ap (λ (v : List Standing). tried_standings v x.name h.result) c.set_verdict.ensures.items)
 
 pub returns-clause-journal : goal.returns-clause-journal
 returns-clause-journal g c = notes_then _ 1 5 _ _ _ _ (c.push.ensures.same, c.push.ensures.room, omega (arith, c.push.ensures.spare)) c.bring-settled.ensures.journal (omega arith)
 
 pub returns-clause-keeps : goal.returns-clause-keeps
 returns-clause-keeps g c next o =
-    kept_as _ _ _ c.remember.ensures.standings (keeps_tried c.in-Some.s.now.name _ c.give_verdict.new.standings.items) next
-    (kept_as _ _ _ c.give_verdict.ensures.standings (keeps_ordered c.args.number c.args.verdict c.args.who c.args.standings.now.items) next o)
+    kept_as _ _ _ c.remember.ensures.standings (keeps_tried c.in-Some.s.now.name _ c.set_verdict.new.self.items) next
+    (kept_as _ _ _ c.set_verdict.ensures.items (keeps_ordered c.args.number c.args.verdict c.args.who c.args.standings.now.items) next o)

@@ -9,7 +9,6 @@ use Rattle.ug_table.proofs.table.Table.any_allowed.Goals as goal
 
 pub returns : goal.returns
 returns c =
-    c.has_allowed.ensures
-    ∙ ap (λ (v : List Standing). list_any (λ (s : Standing). list_any (query_matches c.args.query.now) (allowed_of s.settled s.verdict s.judged)) v) c.deref.ensures.value
+    c.any_allowed.ensures
     ∙ records_any c.args.query.now c.self.inside.standings.items
     ∙ ap (λ (v : TableState). list_any (query_matches c.args.query.now) (allowed_records v.standings)) c.self.view_is

@@ -13,9 +13,8 @@ pub returns-clause-journal : goal.returns-clause-journal
 returns-clause-journal g c = (
   search goes_on,
   search rules,
-  (let names = ap length c.deref-2.ensures.value ∙ ap length c.names_into.ensures.names in
-      let each = length-map c.deref.result.now (λ (s : Standing). s.name) in
-      let all = ap length c.deref.ensures.value in
+  (let names = ap length c.deref.ensures.value ∙ ap length c.names_into.ensures.names in
+      let each = length-map c.self.inside.standings.items (λ (s : Standing). s.name) in
       let standings = ap (λ (v : TableState). length v.standings) c.self.view_is in
-      omega (arith, names, each, all, standings, c.push.ensures.spare, c.resettle_all.ensures.journal.2)),
+      omega (arith, names, each, standings, c.push.ensures.spare, c.resettle_all.ensures.journal.2)),
 )

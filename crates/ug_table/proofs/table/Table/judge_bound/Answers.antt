@@ -1,12 +1,16 @@
-use Rattle.std.proofs.Common.{false, refl, ap, rules, arith}
+use Rattle.std.proofs.Common.{◌∙◌, false, refl, ap, sym, subst, rules, arith, min, List, length, ◌≤◌}
+use Rattle.std.specs.Prelude.{vec_capacity}
 use Rattle.ug_table.specs.Table.{TableState}
+use Rattle.ug_table.specs.Standings.{named, standing_of}
+use Rattle.ug_table.specs.Order.{StandInOrder}
 use Rattle.ug_table.specs.declared.standing.Standing.{Standing}
 use Rattle.ug_table.proofs.Marks.{kept_more}
 use Rattle.ug_audit.proofs.Noting.{goes_on}
+use Rattle.ug_table.proofs.Agreement.{unknown_named, next_unnumbered, ok_from}
 use Rattle.ug_table.proofs.table.Table.judge_bound.Goals as goal
 
-pub invariant_of-self : goal.invariant_of-self
-invariant_of-self g c =
+pub invariant_of-self-3 : goal.invariant_of-self-3
+invariant_of-self-3 g c =
     let x : Standing = record {
       number = c.self.inside.next;
       name = c.args.name.now;
@@ -18,7 +22,19 @@ invariant_of-self g c =
       removed = false;
       defaulted = c.treat-settled.result.1;
     } in
-    kept_more c.self.inside.next _ _ _ c.self.inside.standings.items _ _ x c.treat-settled.result.0 refl refl (ap (λ (v : TableState). v.standings) c.self.view_is) c.requires.absent (ap (λ (v : TableState). v.room) c.self.view_is) c.requires.place c.keep.ensures.standings c.keep.ensures.len c.self.invariant.0
+    let cap = vec_capacity c.reserve.new.self in
+    let fits = ok_from c.reserve.result _ (sym c.is_err.ensures.value ∙ c.if-is_err.false) c.reserve.ensures.ok in
+    let most = c.count.ensures.most in
+    let items = c.reserve-2.ensures.items in
+    let seen = ap (λ (v : TableState). v.standings) c.self.view_is in
+    let long = ap length seen in
+    kept_more c.self.inside.next cap cap (min cap cap) c.reserve-2.new.self.items _ _ x c.treat-settled.result.0 refl refl (items ∙ seen) c.requires.absent refl (omega (arith, fits, most, long)) c.keep.ensures.standings c.keep.ensures.len (subst (λ (v : List Standing). StandInOrder c.self.inside.next v) (sym items) c.self.invariant.0)
 
 pub returns-clause-journal : goal.returns-clause-journal
 returns-clause-journal g c = search (rules, arith, goes_on)
+
+pub reserve-requires-2-clause-unnamed : goal.reserve-requires-2-clause-unnamed
+reserve-requires-2-clause-unnamed g c = unknown_named c.args.name.now c.self.inside.standings.items (ap (λ (v : TableState). standing_of c.args.name.now v.standings) c.self.view_is ∙ c.requires.absent)
+
+pub reserve-requires-2-clause-unnumbered : goal.reserve-requires-2-clause-unnumbered
+reserve-requires-2-clause-unnumbered g c = next_unnumbered c.self.inside.next c.self.inside.standings.items c.self.invariant.0.numbers

@@ -12,10 +12,10 @@ pub invariant_of-self-2 : goal.invariant_of-self-2
 invariant_of-self-2 g c = kept_fields _ _ _ _ (kept_as _ _ _ c.remember.ensures.standings (keeps_treated c.args.name.now _ _ c.self.inside.standings.items)) c.remember.ensures.len c.self.invariant
 
 pub invariant_of-self : goal.invariant_of-self
-invariant_of-self g c = kept_fields _ _ _ _ (kept_as _ _ _ c.forget.ensures.standings (keeps_filter (λ (s : Standing). not (same_name s.name c.args.name.now)) c.self.inside.standings.items)) c.forget.ensures.len c.self.invariant
+invariant_of-self g c = kept_fields _ _ _ _ (kept_as _ _ _ c.forget.ensures.items (keeps_filter (λ (s : Standing). not (same_name s.name c.args.name.now)) c.self.inside.standings.items)) c.forget.ensures.len c.self.invariant
 
 pub enter-requires-in-Gone-clause-absent : goal.enter-requires-in-Gone-clause-absent
-enter-requires-in-Gone-clause-absent g c = ap (λ (v : List Standing). standing_of c.args.name.now v) c.forget.ensures.standings ∙ without_own c.args.name.now c.self.inside.standings.items
+enter-requires-in-Gone-clause-absent g c = ap (λ (v : List Standing). standing_of c.args.name.now v) c.forget.ensures.items ∙ without_own c.args.name.now c.self.inside.standings.items
 
 pub returns-in-Gone-clause-journal : goal.returns-in-Gone-clause-journal
 returns-in-Gone-clause-journal g c = search (rules, arith, goes_on)

@@ -5,4 +5,4 @@ use Rattle.ug_table.specs.Table.{TableState}
 use Rattle.ug_table.proofs.table.Table.standing.Goals as goal
 
 pub returns-clause-none : goal.returns-clause-none
-returns-clause-none c = none_numbered c.find_numbered.result c.args.number c.args.self.now.standings (c.find_numbered.ensures ∙ ap (numbered c.args.number) c.deref.ensures.value ∙ ap (λ (v : TableState). numbered c.args.number v.standings) c.self.view_is)
+returns-clause-none c = none_numbered c.numbered.result c.args.number c.args.self.now.standings (c.numbered.ensures ∙ ap (λ (v : TableState). numbered c.args.number v.standings) c.self.view_is)

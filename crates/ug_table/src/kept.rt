@@ -1,0 +1,286 @@
+// The standings in ordered maps.
+ghost use Rattle.std.specs.Prelude.{◌≡◌, ◌≤◌, ◌<◌, ◌+◌, ◌^◌, true, false, [], length, map, None, option_copied, Some, ℕ, IfSome, IsSome, OnOk, is_some, not, nat_eq, vec_capacity};
+ghost use Rattle.std.specs.BTreeMap.{get};
+ghost use Rattle.std.proofs.lemmas.Map.Entries.{option_filter};
+ghost use Rattle.std.specs.Ordering.{nat_cmp};
+ghost use Rattle.std.specs.List.{filter, list_any};
+ghost use Rattle.ug_match.specs.Queries.{query_matches};
+ghost use Rattle.ug_table.specs.Allowed.{allowed_of};
+ghost use Rattle.std.specs.List.Sorted.{IsSorted};
+ghost use Rattle.ug_types.specs.Names.{sweep_cmp};
+ghost use Rattle.ug_table.specs.Standings.{named, standing_of, numbered, marked, did_default, without, with_standing, lists};
+ghost use Rattle.ug_table.specs.Slots.{filled, HasPlace, IsRetry, noted};
+ghost use Rattle.ug_table.specs.Orders.{with_order};
+ghost use Rattle.ug_table.specs.Order.{IsNextNumbered};
+
+use crate::slots::{
+    Slots, fill, find, forget, has, make_place, mark, mark_default, order, retain_listed,
+};
+use crate::standing::{Known, Standing};
+use crate::table::{is_allowed, known_of};
+use std::alloc::Global;
+use std::collections::BTreeMap;
+use std::marker::Model;
+use std::ops::Bound;
+use ug_types::{NoMemory, NodeName, Principal, Query, Target};
+
+/// The standings, seen as their list in sweep order of their names, beside the places that are held for others.
+#[derive(Drop)]
+pub struct Standings {
+    pub(crate) by_name: Slots,
+    by_number: BTreeMap<u64, NodeName>,
+    // The numbers of those that aren't settled, with room for each.
+    retry: Vec<u64>,
+}
+
+impl Model for Standings {
+    ghost use Rattle.std.specs.Prelude.{vec_capacity};
+    ghost use Rattle.ug_table.specs.Slots.{Store, store, Agree};
+
+    ghost Value = { Store };
+
+    ghost view = { λ s. store s.by_name.entries s.by_number.entries };
+
+    ghost invariant = { λ s. Agree s.by_name s.by_number s.retry.items (vec_capacity s.retry) };
+}
+
+impl Standings {
+    /// No standing. It takes no memory.
+    pub fn new(alloc: Global) -> Standings
+        ensures { result.items ≡ [] }
+    {
+        Standings {
+            by_name: BTreeMap::new(alloc),
+            by_number: BTreeMap::new(alloc),
+            retry: Vec::new(alloc),
+        }
+    }
+
+    /// The standing of a name.
+    pub fn named(&self, name: &NodeName) -> Option<&Standing>
+        ensures { option_copied result ≡ named name.now self.now.items }
+    {
+        find(&self.by_name, name)
+    }
+
+    /// What is known of the standing of a name.
+    pub fn find(&self, name: &NodeName) -> Option<Known>
+        ensures { result ≡ standing_of name.now self.now.items }
+    {
+        match self.named(name) {
+            Some(s) => Some(known_of(s)),
+            None => None,
+        }
+    }
+
+    /// Whether a query matches a settled device whose verdict is to allow it.
+    pub fn any_allowed(&self, query: &Query) -> bool
+        ensures { result ≡ list_any (λ s. list_any (query_matches query.now) (allowed_of s.settled s.verdict s.judged)) self.now.items }
+    {
+        has_allowed(&self.by_name, query)
+    }
+
+    /// The standing of a number.
+    pub fn numbered(&self, number: u64) -> Option<&Standing>
+        ensures { option_copied result ≡ numbered number self.now.items }
+    {
+        let name = match self.by_number.get(&number) {
+            Some(name) => name,
+            None => return None,
+        };
+        match find(&self.by_name, name) {
+            Some(s) if s.number == number => Some(s),
+            _ => None,
+        }
+    }
+
+    /// The standing with the least number above that one.
+    pub fn first_after(&self, number: u64) -> Option<&Standing>
+        ensures { IsNextNumbered self.now.items number (option_copied result) }
+    {
+        let mut from = number;
+        while let Some(at) = next_key(&self.by_number, from) {
+            if let Some(s) = self.numbered(at) {
+                return Some(s);
+            }
+            from = at;
+        }
+        None
+    }
+
+    /// The numbers of the standings that aren't settled.
+    pub fn retry(&self) -> &[u64]
+        ensures { IsRetry self.now.items result.now }
+    {
+        &self.retry
+    }
+
+    /// Holds a place for a standing of that name and number. Where there is no memory, all is as before.
+    pub fn reserve(&mut self, name: &NodeName, number: u64) -> Result<(), NoMemory>
+        requires unnamed { named name.now self.old.items ≡ None }
+        requires unnumbered { numbered number self.old.items ≡ None }
+        ensures items { self.new.items ≡ self.old.items }
+        ensures place { OnOk result (HasPlace name.now number self.new) }
+    {
+        if self.retry.reserve(self.by_name.len() + 1).is_err() {
+            return Err(NoMemory);
+        }
+        if self.by_number.insert(number, *name).is_err() {
+            return Err(NoMemory);
+        }
+        if make_place(&mut self.by_name, name) {
+            return Ok(());
+        }
+        let _again = self.by_number.remove(&number);
+        Err(NoMemory)
+    }
+
+    /// Puts a standing in its place. It takes no memory.
+    pub fn put(&mut self, standing: Standing)
+        requires place { HasPlace standing.name standing.number self.old }
+        ensures items { self.new.items ≡ with_standing standing self.old.items }
+        ensures len { length self.new.items ≡ length self.old.items + 1 }
+    {
+        note_mark(&mut self.retry, standing.number, true, standing.settled);
+        fill(&mut self.by_name, standing);
+    }
+
+    /// Gives a place up.
+    pub fn release(&mut self, name: &NodeName, number: u64)
+        requires place { HasPlace name.now number self.old }
+        ensures items { self.new.items ≡ self.old.items }
+    {
+        let _number = self.by_number.remove(&number);
+        forget(&mut self.by_name, name);
+    }
+
+    /// Drops the standing of a name.
+    pub fn forget(&mut self, name: &NodeName)
+        ensures items { self.new.items ≡ without name.now self.old.items }
+        ensures len { length self.new.items ≤ length self.old.items }
+    {
+        let (number, settled) = match find(&self.by_name, name) {
+            Some(s) => (s.number, s.settled),
+            None => return,
+        };
+        note_mark(&mut self.retry, number, settled, true);
+        let _number = self.by_number.remove(&number);
+        forget(&mut self.by_name, name);
+    }
+
+    /// Notes whether the standing of a name is settled. It takes no memory.
+    pub fn mark(&mut self, name: &NodeName, settled: bool)
+        ensures items { self.new.items ≡ map (marked name.now settled) self.old.items }
+        ensures len { length self.new.items ≡ length self.old.items }
+    {
+        let (number, was) = match find(&self.by_name, name) {
+            Some(s) => (s.number, s.settled),
+            None => return,
+        };
+        note_mark(&mut self.retry, number, was, settled);
+        mark(&mut self.by_name, name, settled);
+    }
+
+    /// Notes that the default of a name's device was written, where it was. It takes no memory.
+    pub fn mark_default(&mut self, name: &NodeName, wrote: bool)
+        ensures items { self.new.items ≡ did_default name.now wrote self.old.items }
+        ensures len { length self.new.items ≡ length self.old.items }
+    {
+        if wrote {
+            mark_default(&mut self.by_name, name);
+        }
+    }
+
+    /// Gives the standing of a number the verdict that a user or group ordered.
+    pub fn set_verdict(&mut self, number: u64, verdict: Target, who: Principal)
+        ensures items { self.new.items ≡ with_order number verdict who self.old.items }
+        ensures len { length self.new.items ≡ length self.old.items }
+    {
+        let name = match self.numbered(number) {
+            Some(s) => s.name,
+            None => return,
+        };
+        order(&mut self.by_name, &name, number, verdict, who);
+    }
+
+    /// How many standings there are, and places for others.
+    pub fn count(&self) -> usize
+        ensures most { length self.now.items ≤ result }
+        ensures small { result < 2 ^ 63 }
+    {
+        self.by_name.len()
+    }
+
+    /// Drops the standings of other names than these, which are in order.
+    pub fn retain_listed(&mut self, names: &[NodeName])
+        requires { IsSorted sweep_cmp names.now }
+        ensures items { self.new.items ≡ filter (λ s. lists names.now s.name) self.old.items }
+        ensures len { length self.new.items ≤ length self.old.items }
+    {
+        retain_listed(&mut self.by_name, names);
+        keep_numbers(&mut self.by_number, names);
+        keep_known(&mut self.retry, &self.by_number);
+    }
+}
+
+// The least number above that one that has a name.
+fn next_key(by_number: &BTreeMap<u64, NodeName>, number: u64) -> Option<u64>
+    ensures none { result ≡ None → (q : ℕ) → number < q → get nat_cmp by_number.now q ≡ None }
+    ensures some { IfSome result (λ n. (number < n) × ((q : ℕ) → number < q → IsSome (get nat_cmp by_number.now q) → n ≤ q)) }
+{
+    match by_number
+        .range((Bound::Excluded(number), Bound::Unbounded))
+        .next()
+    {
+        Some((at, _name)) => Some(*at),
+        None => None,
+    }
+}
+
+fn keep_numbers(by_number: &mut BTreeMap<u64, NodeName>, names: &[NodeName])
+    requires { IsSorted sweep_cmp names.now }
+    ensures { (q : ℕ) → get nat_cmp by_number.new q ≡ option_filter (lists names.now) (get nat_cmp by_number.old q) }
+{
+    by_number.retain(|_number, name| has(names, name));
+}
+
+fn keep_known(retry: &mut Vec<u64>, by_number: &BTreeMap<u64, NodeName>)
+    ensures items { retry.new.items ≡ filter (λ n. is_some (get nat_cmp by_number.now n)) retry.old.items }
+    ensures capacity { vec_capacity retry.new ≡ vec_capacity retry.old }
+{
+    retry.retain(|n| by_number.contains_key(n));
+}
+
+// Notes that the mark of a number went from `was` to `now`.
+fn note_mark(retry: &mut Vec<u64>, number: u64, was: bool, now: bool)
+    requires { was ≡ true → now ≡ false → length retry.old.items < vec_capacity retry.old }
+    ensures items { retry.new.items ≡ noted number was now retry.old.items }
+    ensures capacity { vec_capacity retry.new ≡ vec_capacity retry.old }
+{
+    match (was, now) {
+        (true, false) => retry.push_reserved(number),
+        (false, true) => take_out(retry, number),
+        _ => {}
+    }
+}
+
+// Takes a number off the list.
+fn take_out(retry: &mut Vec<u64>, number: u64)
+    ensures items { retry.new.items ≡ filter (λ n. not (nat_eq n number)) retry.old.items }
+    ensures capacity { vec_capacity retry.new ≡ vec_capacity retry.old }
+{
+    retry.retain(|n| *n != number);
+}
+
+fn has_allowed(slots: &Slots, query: &Query) -> bool
+    ensures { result ≡ list_any (λ s. list_any (query_matches query.now) (allowed_of s.settled s.verdict s.judged)) (filled slots.now.entries) }
+{
+    for (_name, slot) in slots {
+        if let Some(s) = slot
+            && is_allowed(s, query)
+        {
+            return true;
+        }
+    }
+    false
+}
