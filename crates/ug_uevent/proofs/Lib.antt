@@ -1,0 +1,13 @@
+pub mod Counts
+pub mod Cuts
+pub mod Found
+pub mod Handing
+pub mod Loops
+pub mod Meaning
+pub mod Paths
+pub mod Pieces
+pub mod Scans
+pub mod Settings
+pub mod Steps
+pub mod StreamMessages
+pub mod Strings
