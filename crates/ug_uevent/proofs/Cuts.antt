@@ -4,7 +4,7 @@ use Rattle.std.proofs.lemmas.Bool.Decides.{nat_tests}
 use Rattle.std.proofs.lemmas.List.{drop_at}
 use Rattle.std.proofs.Math.Seq.{take-append_seam}
 use Rattle.ug_types.specs.Elements.{Has}
-use Rattle.ug_uevent.specs.Cuts.{length_before, IsCut}
+use Rattle.ug_uevent.specs.Cuts.{length_before, IsCutAtFirst}
 
 pub same_byte : (b sign : ℕ) → nat_eq b sign ≡ true → b ≡ sign
 same_byte b sign e = grind (arith, nat_tests)
@@ -33,25 +33,25 @@ whole_length sign (b ∷ text) h =
     behind_head sign b text (tested b sign (λ e. h (inl e))) ∙ ap (λ (n : ℕ). suc n) (whole_length sign text (λ k. h (inr k)))
 
 -- the parts of a cut
-pub cut_at : (sign : ℕ) (text front back : List ℕ) → IsCut sign text front back → length_before sign text ≡ length front
+pub cut_at : (sign : ℕ) (text front back : List ℕ) → IsCutAtFirst sign text front back → length_before sign text ≡ length front
 cut_at sign text front back c = ap (length_before sign) c.is ∙ cut_length sign front back c.first
 
-pub cut_front : (sign : ℕ) (text front back : List ℕ) → IsCut sign text front back → take (length_before sign text) text ≡ front
+pub cut_front : (sign : ℕ) (text front back : List ℕ) → IsCutAtFirst sign text front back → take (length_before sign text) text ≡ front
 cut_front sign text front back c =
     ap (λ (n : ℕ). take n text) (cut_at sign text front back c) ∙ ap (take (length front)) c.is ∙ take-append_seam front (sign ∷ back)
 
-pub cut_back : (sign : ℕ) (text front back : List ℕ) → IsCut sign text front back → drop (length_before sign text + 1) text ≡ back
+pub cut_back : (sign : ℕ) (text front back : List ℕ) → IsCutAtFirst sign text front back → drop (length_before sign text + 1) text ≡ back
 cut_back sign text front back c =
     ap (λ (n : ℕ). drop (n + 1) text) (cut_at sign text front back c)
     ∙ ap (drop (length front + 1)) (c.is ∙ sym (append_assoc front (sign ∷ []) back))
     ∙ drop_at (front ++ sign ∷ []) back (length front + 1) (length-append front (sign ∷ []))
 
-pub cut_within : (sign : ℕ) (text front back : List ℕ) → IsCut sign text front back → length_before sign text < length text
+pub cut_within : (sign : ℕ) (text front back : List ℕ) → IsCutAtFirst sign text front back → length_before sign text < length text
 cut_within sign text front back c = omega (arith, cut_at sign text front back c, ap length c.is, length-append front (sign ∷ back))
 
 -- each text has such a byte, or none
 abbrev pub CutAt : ℕ → List ℕ → ℕ → Type 0
-CutAt sign text n = IsCut sign text (take n text) (drop (n + 1) text)
+CutAt sign text n = IsCutAtFirst sign text (take n text) (drop (n + 1) text)
 
 further : (sign b : ℕ) (bytes : List ℕ) (n : ℕ) → (b ≡ sign → ⊥) → CutAt sign bytes n → CutAt sign (b ∷ bytes) (suc n)
 further sign b bytes n h c =
@@ -72,7 +72,7 @@ cut_or_none sign (b ∷ bytes) = by (nat_eq b sign) refl (cut_or_none sign bytes
     by false e (inr n) = inr (λ h. elim h [ inl k ↦ other_byte b sign e k | inr m ↦ n m ])
 
 -- one cut
-pub one_cut : (sign : ℕ) (text front back front' back' : List ℕ) → IsCut sign text front back → IsCut sign text front' back' → (front ≡ front') × (back ≡ back')
+pub one_cut : (sign : ℕ) (text front back front' back' : List ℕ) → IsCutAtFirst sign text front back → IsCutAtFirst sign text front' back' → (front ≡ front') × (back ≡ back')
 one_cut sign text front back front' back' c d = (
   sym (cut_front sign text front back c) ∙ cut_front sign text front' back' d,
   sym (cut_back sign text front back c) ∙ cut_back sign text front' back' d,

@@ -5,7 +5,7 @@ use Rattle.ug_types.proofs.Known.{to_end}
 use Rattle.ug_types.specs.TextFaults.{fault_of_kind}
 use Rattle.ug_uevent.specs.Cuts.{length_before}
 use Rattle.ug_uevent.specs.Faults.{SaidFault}
-use Rattle.ug_uevent.specs.Grammar.{IsHeader, IsMessage, IsBad}
+use Rattle.ug_uevent.specs.Grammar.{IsHeader, IsMessage, IsBadMessage}
 use Rattle.ug_uevent.specs.Reading.{nothing, strings_of, string_read, strings_read, Hints}
 use Rattle.ug_uevent.specs.declared.fault.UeventKind.{UeventKind}
 use Rattle.ug_uevent.specs.declared.fault.UeventKind.TheVariants as kind
@@ -56,12 +56,12 @@ ends act path found at (b ∷ rest) h = absurd (omega (arith, h))
 
 -- the header
 pub no_header : (message header : List ℕ) (n : ℕ) (wrong : SaidFault) → header ≡ first_of message → n ≡ length_before 64 header → (n ≡ 0) ⊎ (n ≡ length header)
-    → wrong ≡ fault_of_kind kind.NoHeader 0 → IsBad message wrong.kind wrong.place
+    → wrong ≡ fault_of_kind kind.NoHeader 0 → IsBadMessage message wrong.kind wrong.place
 no_header message header n wrong h l z e =
     let same : n ≡ length_before 64 (first_of message) = l ∙ ap (length_before 64) h in
     let test : (length_before 64 (first_of message) ≡ 0) ⊎ (length_before 64 (first_of message) ≡ length (first_of message)) =
     elim z [ inl a ↦ inl (sym same ∙ a) | inr b ↦ inr (sym same ∙ b ∙ ap length h) ] in
-    subst (λ (w : SaidFault). IsBad message w.kind w.place) (sym e) (inl (refl, refl, no_header_read message test))
+    subst (λ (w : SaidFault). IsBadMessage message w.kind w.place) (sym e) (inl (refl, refl, no_header_read message test))
 
 module _ (message header others : List ℕ) (n : ℕ) (h : header ≡ first_of message) (o : others ≡ behind_first message) (l : n ≡ length_before 64 header) (some : n ≡ 0 → ⊥) (sign : n ≡ length header → ⊥) where
   abbrev back : List ℕ
@@ -87,7 +87,7 @@ module _ (message header others : List ℕ) (n : ℕ) (h : header ≡ first_of m
   pub hint_told : (found : Found) (hint : Hint) → Read others ≡ Ok found → Hints (take n header) back found hint → IsMessage message hint
   hint_told found hint e k = message_read message (take n header) back found hint some_first is_header (on_message (Ok found) e) k
 
-  pub fault_told : (wrong : SaidFault) → Read others ≡ Err wrong → IsBad message wrong.kind wrong.place
+  pub fault_told : (wrong : SaidFault) → Read others ≡ Err wrong → IsBadMessage message wrong.kind wrong.place
   fault_told wrong e = fault_read message (take n header) back wrong some_first is_header (on_message (Err wrong) e)
 
 -- a byte that ends no message

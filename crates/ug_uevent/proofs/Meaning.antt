@@ -4,7 +4,7 @@ use Rattle.std.proofs.lemmas.List.{append-nil}
 use Rattle.ug_types.specs.TextFaults.{fault_of_kind}
 use Rattle.ug_uevent.specs.Cuts.{length_before}
 use Rattle.ug_uevent.specs.Faults.{SaidFault}
-use Rattle.ug_uevent.specs.Grammar.{AreStrings, Nothing, IsHeader, IsPair, AreGood, IsFaulty, IsAction, Says, IsMessage, HasNoHeader, length_of, IsBad, ReadsAs}
+use Rattle.ug_uevent.specs.Grammar.{AreStrings, Nothing, IsHeader, IsPair, AreGood, IsFaulty, IsAction, SaysOfDevice, IsMessage, HasNoHeader, length_of, IsBadMessage, ReadsAs}
 use Rattle.ug_uevent.specs.Reading.{strings_of, nothing, strings_read, Hints}
 use Rattle.ug_uevent.specs.declared.fault.UeventKind.{UeventKind}
 use Rattle.ug_uevent.specs.declared.fault.UeventKind.TheVariants as kind
@@ -54,7 +54,7 @@ same_option None None f g = refl
 same_option None (Some x) f g = g x refl
 same_option (Some x) b f g = sym (f x refl)
 
-one_hint : (act path : List ℕ) (texts : List (List ℕ)) (a b : Hint) → Says act path texts a → Says act path texts b → a ≡ b
+one_hint : (act path : List ℕ) (texts : List (List ℕ)) (a b : Hint) → SaysOfDevice act path texts a → SaysOfDevice act path texts b → a ≡ b
 one_hint act path texts a b s t =
     let does : a.action ≡ b.action = sym (action_only act a.action s.does) ∙ action_only act b.action t.does in
     let named : a.name ≡ b.name = same_option a.name b.name (λ n e. (t.named n).1 ((s.named n).0 e)) (λ n e. (s.named n).1 ((t.named n).0 e)) in
@@ -65,7 +65,7 @@ one_hint act path texts a b s t =
 record Told (message : List ℕ) (answer : Result Hint SaidFault) (header : List ℕ) (others : List (List ℕ)) (act path : List ℕ) : Type 0 where
   strings : AreStrings message (header ∷ others)
   is_header : IsHeader header act path
-  hint : (h : Hint) → answer ≡ Ok h → AreGood act path [] others × Says act path others h
+  hint : (h : Hint) → answer ≡ Ok h → AreGood act path [] others × SaysOfDevice act path others h
   bad : (f : SaidFault) → answer ≡ Err f → strings_read act path nothing (length header + 1) others ≡ Err f
 
 abbrev NoHeader : List ℕ → Result Hint SaidFault → Type 0
@@ -98,7 +98,7 @@ told message (Ok hint) m = inr (
   record {
     strings = m.strings;
     is_header = m.is_header;
-    hint = λ h e. (m.good, subst (Says m.act m.path m.others) (same_ok hint h e) m.says);
+    hint = λ h e. (m.good, subst (SaysOfDevice m.act m.path m.others) (same_ok hint h e) m.says);
     bad = λ f e. absurd (not_both hint f e);
   },
 )
@@ -168,7 +168,7 @@ pub with_header : (message : List ℕ) → (length_before 64 (first_of message) 
 with_header [] h = absurd (h refl)
 with_header (b ∷ bytes) h = subst (AreStrings (b ∷ bytes)) (split_first b bytes) (are_strings (b ∷ bytes))
 
-pub says_so : (act path : List ℕ) (texts : List (List ℕ)) (found : Found) (hint : Hint) → Stands texts found → Hints act path found hint → Says act path texts hint
+pub says_so : (act path : List ℕ) (texts : List (List ℕ)) (found : Found) (hint : Hint) → Stands texts found → Hints act path found hint → SaysOfDevice act path texts hint
 says_so act path texts found hint st h = record {
   does = subst (λ (a : Action). IsAction act a) (sym h.does) (action_read act);
   named = λ n. (
@@ -204,13 +204,13 @@ message_read message act path found hint some header e h = by (decide act path (
         absurd (not_both found (fault_of_kind f.k (length (first_of message) + 1 + length_of f.front)) (sym e ∙ ap (strings_read act path nothing (length (first_of message) + 1)) f.is ∙ r))
 
 pub fault_read : (message act path : List ℕ) (wrong : SaidFault) → (length_before 64 (first_of message) ≡ 0 → ⊥) → IsHeader (first_of message) act path
-    → strings_read act path nothing (length (first_of message) + 1) (strings_of (behind_first message)) ≡ Err wrong → IsBad message wrong.kind wrong.place
+    → strings_read act path nothing (length (first_of message) + 1) (strings_of (behind_first message)) ≡ Err wrong → IsBadMessage message wrong.kind wrong.place
 fault_read message act path wrong some header e = by (decide act path (strings_of (behind_first message)) [] nothing nothing_stands)
   where
     texts : List (List ℕ)
     texts = strings_of (behind_first message)
 
-    by : AreGood act path [] texts ⊎ FirstFaulty act path [] texts → IsBad message wrong.kind wrong.place
+    by : AreGood act path [] texts ⊎ FirstFaulty act path [] texts → IsBadMessage message wrong.kind wrong.place
     by (inl g) =
         let r = good_read act path texts (length (first_of message) + 1) g in
         absurd (not_both r.0 wrong (sym r.2 ∙ e))
@@ -236,5 +236,5 @@ fault_read message act path wrong some header e = by (decide act path (strings_o
 pub answers_good : (message : List ℕ) (answer : Result Hint SaidFault) → ReadsAs message answer → (hint : Hint) → (answer ≡ Ok hint) ↔ IsMessage message hint
 answers_good message answer r hint = (λ e. subst (ReadsAs message) e r, λ m. one_reading message answer (Ok hint) r m)
 
-pub answers_bad : (message : List ℕ) (answer : Result Hint SaidFault) → ReadsAs message answer → (k : UeventKind) (place : ℕ) → (answer ≡ Err (fault_of_kind k place)) ↔ IsBad message k place
+pub answers_bad : (message : List ℕ) (answer : Result Hint SaidFault) → ReadsAs message answer → (k : UeventKind) (place : ℕ) → (answer ≡ Err (fault_of_kind k place)) ↔ IsBadMessage message k place
 answers_bad message answer r k place = (λ e. subst (ReadsAs message) e r, λ b. one_reading message answer (Err (fault_of_kind k place)) r b)

@@ -6,15 +6,15 @@ use Rattle.ug_types.specs.Elements.{Has}
 use Rattle.ug_types.specs.NodeNames.{IsNodeName}
 use Rattle.ug_types.proofs.Elements.{has_cases, has_right}
 use Rattle.ug_types.proofs.Known.{to_end}
-use Rattle.ug_uevent.specs.Cuts.{IsLastCut, IsLast}
+use Rattle.ug_uevent.specs.Cuts.{IsLastCut, IsLastPlace}
 use Rattle.ug_uevent.specs.Grammar.{IsNameIn}
 
 -- one more byte
-pub last_here : (sign : ℕ) (text : List ℕ) (i : ℕ) → i < length text → get_or text i 0 ≡ sign → IsLast sign (take (i + 1) text) (Some i)
+pub last_here : (sign : ℕ) (text : List ℕ) (i : ℕ) → i < length text → get_or text i 0 ≡ sign → IsLastPlace sign (take (i + 1) text) (Some i)
 last_here sign text i h e =
     let more : take (i + 1) text ≡ take i text ++ get_or text i 0 ∷ [] = take_more text i 0 h in
     let long : length (take i text) ≡ i = omega (arith, length-take i text) in
-    subst (λ (t : List ℕ). IsLast sign t (Some i)) (sym more) (
+    subst (λ (t : List ℕ). IsLastPlace sign t (Some i)) (sym more) (
       omega (arith, length-append (take i text) (get_or text i 0 ∷ []), long),
       record { front = take i text; back = []; is = ap (λ (b : ℕ). take i text ++ b ∷ []) e; long = long; last = λ k. k },
     )
@@ -22,7 +22,7 @@ last_here sign text i h e =
 none_more : (sign : ℕ) (front : List ℕ) (b : ℕ) → (b ≡ sign → ⊥) → ¬ Has front sign → ¬ Has (front ++ b ∷ []) sign
 none_more sign front b h n = λ k. elim (has_cases front (b ∷ []) sign k) [ inl a ↦ n a | inr c ↦ elim c [ inl e ↦ h e | inr none ↦ none ] ]
 
-kept_more : (sign : ℕ) (front : List ℕ) (b : ℕ) (last : Option ℕ) → (b ≡ sign → ⊥) → IsLast sign front last → IsLast sign (front ++ b ∷ []) last
+kept_more : (sign : ℕ) (front : List ℕ) (b : ℕ) (last : Option ℕ) → (b ≡ sign → ⊥) → IsLastPlace sign front last → IsLastPlace sign (front ++ b ∷ []) last
 kept_more sign front b None h l = none_more sign front b h l
 kept_more sign front b (Some at) h l = (
   omega (arith, l.0, length-append front (b ∷ [])),
@@ -35,8 +35,8 @@ kept_more sign front b (Some at) h l = (
   },
 )
 
-pub last_kept : (sign : ℕ) (text : List ℕ) (i : ℕ) (last : Option ℕ) → i < length text → (get_or text i 0 ≡ sign → ⊥) → IsLast sign (take i text) last → IsLast sign (take (i + 1) text) last
-last_kept sign text i last h n l = subst (λ (t : List ℕ). IsLast sign t last) (sym (take_more text i 0 h)) (kept_more sign (take i text) (get_or text i 0) last n l)
+pub last_kept : (sign : ℕ) (text : List ℕ) (i : ℕ) (last : Option ℕ) → i < length text → (get_or text i 0 ≡ sign → ⊥) → IsLastPlace sign (take i text) last → IsLastPlace sign (take (i + 1) text) last
+last_kept sign text i last h n l = subst (λ (t : List ℕ). IsLastPlace sign t last) (sym (take_more text i 0 h)) (kept_more sign (take i text) (get_or text i 0) last n l)
 
 -- the part behind the last sign
 abbrev rest : List ℕ → List ℕ

@@ -8,8 +8,8 @@ use Rattle.ug_types.specs.TextFaults.{fault_of_kind}
 use Rattle.ug_decimals.specs.Numbers.{number_in}
 use Rattle.ug_decimals.proofs.Numerals.{is_number, number_found, no_number}
 use Rattle.ug_uevent.specs.Cuts.{length_before}
-use Rattle.ug_uevent.specs.Grammar.{IsPair, IsSetting, key_word, IsSet, IsNumber, IsGood, AreGood, Differs, IsFaulty, length_of}
-use Rattle.ug_uevent.specs.Reading.{field_of, is_usb, is_set, numbered, first_value, field_read, string_read, on_string, strings_read}
+use Rattle.ug_uevent.specs.Grammar.{IsPair, IsKeyValue, key_word, IsFieldSet, IsNumber, IsGood, AreGood, Differs, IsFaulty, length_of}
+use Rattle.ug_uevent.specs.Reading.{field_of, is_usb, is_field_set, number_read, first_value, field_read, string_read, on_string, strings_read}
 use Rattle.ug_uevent.specs.declared.fault.UeventKind.{UeventKind}
 use Rattle.ug_uevent.specs.declared.fault.UeventKind.TheVariants as kind
 use Rattle.ug_uevent.specs.declared.fields.Field.{Field}
@@ -57,7 +57,7 @@ tests n m h k =
 
 module _ (act path : List ℕ) where
   -- a string that is a setting is read by its key
-  setting_read : (found : Found) (text key value : List ℕ) → IsSetting text key value → string_read act path found text ≡ field_read act path found (field_of key) value
+  setting_read : (found : Found) (text key value : List ℕ) → IsKeyValue text key value → string_read act path found text ≡ field_read act path found (field_of key) value
   setting_read found text key value s =
       let n : ℕ = length_before 61 text in
       let t = pair_tests 61 text key value s in
@@ -78,21 +78,21 @@ module _ (act path : List ℕ) where
           let none : ⊥ = h (take n text) (drop (n + 1) text) (pair_at 61 text (λ z. grind (arith, nat_tests)) (λ z. grind (arith, nat_tests))) in
           absurd none
 
-  known_read : (found : Found) (text : List ℕ) (f : Field) (value : List ℕ) → IsSetting text (key_word f) value
-      → string_read act path found text ≡ cond (is_set found f) (Err kind.Repeated) (first_value act path found f value)
+  known_read : (found : Found) (text : List ℕ) (f : Field) (value : List ℕ) → IsKeyValue text (key_word f) value
+      → string_read act path found text ≡ cond (is_field_set found f) (Err kind.Repeated) (first_value act path found f value)
   known_read found text f value s =
       setting_read found text (key_word f) value s ∙ ap (λ (o : Option Field). field_read act path found o value) (key_read (key_word f) f refl)
 
-  first_read : (before : List (List ℕ)) (found : Found) (text : List ℕ) (f : Field) (value : List ℕ) → Stands before found → IsSetting text (key_word f) value
-      → (IsSet before f → ⊥) → string_read act path found text ≡ first_value act path found f value
+  first_read : (before : List (List ℕ)) (found : Found) (text : List ℕ) (f : Field) (value : List ℕ) → Stands before found → IsKeyValue text (key_word f) value
+      → (IsFieldSet before f → ⊥) → string_read act path found text ≡ first_value act path found f value
   first_read before found text f value st s h =
-      let t : is_set found f ≡ false = elim (st.set f) [ inl a ↦ absurd (h a.1) | inr b ↦ b.0 ] in
+      let t : is_field_set found f ≡ false = elim (st.set f) [ inl a ↦ absurd (h a.1) | inr b ↦ b.0 ] in
       known_read found text f value s ∙ ap (λ (v : Bool). cond v (Err kind.Repeated) (first_value act path found f value)) t
 
-  again_read : (before : List (List ℕ)) (found : Found) (text : List ℕ) (f : Field) (value : List ℕ) → Stands before found → IsSetting text (key_word f) value
-      → IsSet before f → string_read act path found text ≡ Err kind.Repeated
+  again_read : (before : List (List ℕ)) (found : Found) (text : List ℕ) (f : Field) (value : List ℕ) → Stands before found → IsKeyValue text (key_word f) value
+      → IsFieldSet before f → string_read act path found text ≡ Err kind.Repeated
   again_read before found text f value st s h =
-      let t : is_set found f ≡ true = elim (st.set f) [ inl a ↦ a.0 | inr b ↦ absurd (b.1 h) ] in
+      let t : is_field_set found f ≡ true = elim (st.set f) [ inl a ↦ a.0 | inr b ↦ absurd (b.1 h) ] in
       known_read found text f value s ∙ ap (λ (v : Bool). cond v (Err kind.Repeated) (first_value act path found f value)) t
 
   -- a good string is taken
@@ -101,13 +101,13 @@ module _ (act path : List ℕ) where
     is : string_read act path found text ≡ Ok next
     stands : Stands (before ++ text ∷ []) next
 
-  taken_field : (before : List (List ℕ)) (found : Found) (text : List ℕ) (f : Field) (value : List ℕ) → Stands before found → IsSetting text (key_word f) value → IsGood act path before text → Taken before found text
+  taken_field : (before : List (List ℕ)) (found : Found) (text : List ℕ) (f : Field) (value : List ℕ) → Stands before found → IsKeyValue text (key_word f) value → IsGood act path before text → Taken before found text
   taken_field before found text f value st s g = by f refl
     where
       same : (g.key ≡ key_word f) × (g.value ≡ value)
       same = one_pair 61 text g.key g.value (key_word f) value g.setting s
 
-      first : IsSet before f → ⊥
+      first : IsFieldSet before f → ⊥
       first = g.once f same.0
 
       read : string_read act path found text ≡ first_value act path found f value
@@ -120,7 +120,7 @@ module _ (act path : List ℕ) where
           record {
             next = record found { action = true };
             is = read ∙ ap (λ (h : Field). first_value act path found h value) e ∙ ap (λ (v : Bool). cond v (Ok (record found { action = true })) (Err kind.HeaderDiffers)) t;
-            stands = stands_action before found text value st (subst (λ (h : Field). IsSetting text (key_word h) value) e s);
+            stands = stands_action before found text value st (subst (λ (h : Field). IsKeyValue text (key_word h) value) e s);
           }
       by field.Path e =
           let key : g.key ≡ key_word field.Path = same.0 ∙ ap key_word e in
@@ -128,12 +128,12 @@ module _ (act path : List ℕ) where
           record {
             next = record found { path = true };
             is = read ∙ ap (λ (h : Field). first_value act path found h value) e ∙ ap (λ (v : Bool). cond v (Ok (record found { path = true })) (Err kind.HeaderDiffers)) t;
-            stands = stands_path before found text value st (subst (λ (h : Field). IsSetting text (key_word h) value) e s);
+            stands = stands_path before found text value st (subst (λ (h : Field). IsKeyValue text (key_word h) value) e s);
           }
       by field.Subsystem e = record {
         next = record found { subsystem = true; usb = is_usb value };
         is = read ∙ ap (λ (h : Field). first_value act path found h value) e;
-        stands = stands_subsystem before found text value st (subst (λ (h : Field). IsSetting text (key_word h) value) e s) (subst (λ (h : Field). IsSet before h → ⊥) e first);
+        stands = stands_subsystem before found text value st (subst (λ (h : Field). IsKeyValue text (key_word h) value) e s) (subst (λ (h : Field). IsFieldSet before h → ⊥) e first);
       }
       by field.Number e =
           let key : g.key ≡ key_word field.Number = same.0 ∙ ap key_word e in
@@ -141,13 +141,13 @@ module _ (act path : List ℕ) where
           let r : number_in value ≡ Some n.0 = is_number value n.0 n.2 (sym same.1 ∙ n.1) in
           record {
             next = record found { seq = Some n.0 };
-            is = read ∙ ap (λ (h : Field). first_value act path found h value) e ∙ ap (numbered found) r;
-            stands = stands_number before found text value st n.0 (subst (λ (h : Field). IsSetting text (key_word h) value) e s) (subst (λ (h : Field). IsSet before h → ⊥) e first) r;
+            is = read ∙ ap (λ (h : Field). first_value act path found h value) e ∙ ap (number_read found) r;
+            stands = stands_number before found text value st n.0 (subst (λ (h : Field). IsKeyValue text (key_word h) value) e s) (subst (λ (h : Field). IsFieldSet before h → ⊥) e first) r;
           }
 
   good_taken : (before : List (List ℕ)) (found : Found) (text : List ℕ) → Stands before found → IsGood act path before text → Taken before found text
   good_taken before found text st g = elim (known_or_other g.key) [
-    | inl k ↦ taken_field before found text k.0 g.value st (subst (λ (w : List ℕ). IsSetting text w g.value) k.1 g.setting) g
+    | inl k ↦ taken_field before found text k.0 g.value st (subst (λ (w : List ℕ). IsKeyValue text w g.value) k.1 g.setting) g
     | inr o ↦ record {
       next = found;
       is = setting_read found text g.key g.value g.setting ∙ ap (λ (p : Option Field). field_read act path found p g.value) o.0;
@@ -168,26 +168,26 @@ module _ (act path : List ℕ) where
       differs field.Subsystem value d = absurd d
       differs field.Number value d = absurd d
   faulty_refused before found text kind.BadSeq st h =
-      first_read before found text field.Number h.0 st h.1 h.2 ∙ ap (numbered found) (no_number h.0 (λ n l e. h.3 (n, e, l)))
+      first_read before found text field.Number h.0 st h.1 h.2 ∙ ap (number_read found) (no_number h.0 (λ n l e. h.3 (n, e, l)))
   faulty_refused before found text kind.TooLong st h = absurd h
 
   -- each string is good or faulty
   abbrev Faulty : List (List ℕ) → List ℕ → Type 0
   Faulty before text = (k : UeventKind) × IsFaulty act path before text k
 
-  good_so : (before : List (List ℕ)) (text : List ℕ) (f : Field) (value : List ℕ) → IsSetting text (key_word f) value → (IsSet before f → ⊥)
+  good_so : (before : List (List ℕ)) (text : List ℕ) (f : Field) (value : List ℕ) → IsKeyValue text (key_word f) value → (IsFieldSet before f → ⊥)
       → (f ≡ field.Action → value ≡ act) → (f ≡ field.Path → value ≡ path) → (f ≡ field.Number → IsNumber value) → IsGood act path before text
   good_so before text f value s first a p n = record {
     key = key_word f;
     value = value;
     setting = s;
-    once = λ g e. subst (λ (h : Field). IsSet before h → ⊥) (one_word f g e) first;
+    once = λ g e. subst (λ (h : Field). IsFieldSet before h → ⊥) (one_word f g e) first;
     same_action = λ e. a (one_word f field.Action e);
     same_path = λ e. p (one_word f field.Path e);
     number = λ e. n (one_word f field.Number e);
   }
 
-  decide_field : (before : List (List ℕ)) (text : List ℕ) (f : Field) (value : List ℕ) → IsSetting text (key_word f) value → (IsSet before f → ⊥) → IsGood act path before text ⊎ Faulty before text
+  decide_field : (before : List (List ℕ)) (text : List ℕ) (f : Field) (value : List ℕ) → IsKeyValue text (key_word f) value → (IsFieldSet before f → ⊥) → IsGood act path before text ⊎ Faulty before text
   decide_field before text field.Action value s first = by (pointwise nat_eq value act) refl
     where
       by : (v : Bool) → pointwise nat_eq value act ≡ v → IsGood act path before text ⊎ Faulty before text
@@ -217,7 +217,7 @@ module _ (act path : List ℕ) where
       on : PairAt 61 text n → IsGood act path before text ⊎ Faulty before text
       on s = elim (known_or_other (take n text)) [
         | inl k ↦
-            let t : IsSetting text (key_word k.0) (drop (n + 1) text) = subst (λ (w : List ℕ). IsSetting text w (drop (n + 1) text)) k.1 s in
+            let t : IsKeyValue text (key_word k.0) (drop (n + 1) text) = subst (λ (w : List ℕ). IsKeyValue text w (drop (n + 1) text)) k.1 s in
             elim (st.set k.0) [
               | inl a ↦ inr (kind.Repeated, (k.0, drop (n + 1) text, t, a.1))
               | inr b ↦ decide_field before text k.0 (drop (n + 1) text) t b.1

@@ -5,15 +5,15 @@ use Rattle.std.proofs.lemmas.List.{append-nil}
 use Rattle.std.proofs.lemmas.Bool.{cases_order}
 use Rattle.ug_types.specs.Elements.{Has}
 use Rattle.ug_types.proofs.Elements.{has_cases}
-use Rattle.ug_uevent.specs.Streams.{Begun, Partial, Overlong, Message, Whole, TooLong, Stream, after, stream_of, whole_stream, AreTexts, with_zero, HasNoEnd, AreWhole, closed, IsCutInto, IsOverlong}
+use Rattle.ug_uevent.specs.Streams.{BegunMessage, Partial, Overlong, Message, Whole, TooLong, Stream, behind_messages, stream_of, whole_stream, AreTexts, with_zero, HasNoEnd, AreWholeMessages, closed_message, IsCutIntoMessages, IsOverlongStream}
 use Rattle.ug_uevent.proofs.Cuts.{same_byte, other_byte}
 use Rattle.ug_uevent.proofs.Pieces.{message_ends, grows, too_long}
 use Rattle.ug_uevent.proofs.Scans.{is_nil, no_end, through, overruns}
 
 -- what stands behind the messages
-abbrev CutsAs : List ℕ → List Message → Begun → Type 0
-CutsAs bytes messages (Partial rest fresh) = IsCutInto bytes messages rest
-CutsAs bytes messages Overlong = IsOverlong bytes messages
+abbrev CutsAs : List ℕ → List Message → BegunMessage → Type 0
+CutsAs bytes messages (Partial rest fresh) = IsCutIntoMessages bytes messages rest
+CutsAs bytes messages Overlong = IsOverlongStream bytes messages
 
 abbrev Cuts : List ℕ → Stream → Type 0
 Cuts bytes s = CutsAs bytes s.messages s.begun
@@ -21,12 +21,12 @@ Cuts bytes s = CutsAs bytes s.messages s.begun
 nothing : HasNoEnd [] []
 nothing = record { strings = []; each = tt; last_open = λ h. h; is = refl }
 
-closed_front : (m bytes rest : List ℕ) (ms : List Message) → bytes ≡ flat_map closed ms ++ rest → m ++ 0 ∷ bytes ≡ flat_map closed (Whole m ∷ ms) ++ rest
+closed_front : (m bytes rest : List ℕ) (ms : List Message) → bytes ≡ flat_map closed_message ms ++ rest → m ++ 0 ∷ bytes ≡ flat_map closed_message (Whole m ∷ ms) ++ rest
 closed_front m bytes rest ms e =
-    ap (λ (t : List ℕ). m ++ 0 ∷ t) e ∙ sym (append_assoc m (0 ∷ []) (flat_map closed ms ++ rest)) ∙ sym (append_assoc (m ++ 0 ∷ []) (flat_map closed ms) rest)
+    ap (λ (t : List ℕ). m ++ 0 ∷ t) e ∙ sym (append_assoc m (0 ∷ []) (flat_map closed_message ms ++ rest)) ∙ sym (append_assoc (m ++ 0 ∷ []) (flat_map closed_message ms) rest)
 
 -- one more message in front
-one_more : (m bytes : List ℕ) (ms : List Message) (begun : Begun) → HasNoEnd m [] → length m < 8192 → CutsAs bytes ms begun → CutsAs (m ++ 0 ∷ bytes) (Whole m ∷ ms) begun
+one_more : (m bytes : List ℕ) (ms : List Message) (begun : BegunMessage) → HasNoEnd m [] → length m < 8192 → CutsAs bytes ms begun → CutsAs (m ++ 0 ∷ bytes) (Whole m ∷ ms) begun
 one_more m bytes ms (Partial rest fresh) h l c = record {
   whole = closed_front m bytes rest ms c.whole;
   each = ((h, l), c.each);
@@ -83,7 +83,7 @@ record Goes (m last : List ℕ) (b : ℕ) : Type 0 where
   no_end : HasNoEnd (m ++ b ∷ []) next
   fresh : nat_eq b 0 ≡ is_nil next
 
-over_now : (m last : List ℕ) (b : ℕ) (bytes : List ℕ) → length m ≡ 8191 → Goes m last b → IsOverlong (m ++ b ∷ bytes) (TooLong ∷ [])
+over_now : (m last : List ℕ) (b : ℕ) (bytes : List ℕ) → length m ≡ 8191 → Goes m last b → IsOverlongStream (m ++ b ∷ bytes) (TooLong ∷ [])
 over_now m last b bytes l g = record {
   before = [];
   front = m ++ b ∷ [];
@@ -123,7 +123,7 @@ cuts (b ∷ bytes) m last h l = by (nat_eq b 0) last refl h (cuts bytes)
     by true [] e k later =
         let read = one_more m bytes (whole_stream bytes).messages (whole_stream bytes).begun k l (later [] [] nothing (omega arith)) in
         let t : (nat_eq b 0 && true) ≡ true = ap (λ (v : Bool). v && true) e in
-        let there : Cuts (m ++ b ∷ bytes) (after (Whole m ∷ []) (whole_stream bytes)) = subst (λ (c : ℕ). Cuts (m ++ c ∷ bytes) (after (Whole m ∷ []) (whole_stream bytes))) (sym (same_byte b 0 e)) read in
+        let there : Cuts (m ++ b ∷ bytes) (behind_messages (Whole m ∷ []) (whole_stream bytes)) = subst (λ (c : ℕ). Cuts (m ++ c ∷ bytes) (behind_messages (Whole m ∷ []) (whole_stream bytes))) (sym (same_byte b 0 e)) read in
         subst (Cuts (m ++ b ∷ bytes)) (sym (message_ends m true b bytes t)) there
     by true (c ∷ rest) e k later =
         let t : (nat_eq b 0 && false) ≡ false = ap (λ (v : Bool). v && false) e in
@@ -136,41 +136,41 @@ cuts (b ∷ bytes) m last h l = by (nat_eq b 0) last refl h (cuts bytes)
 read : (bytes : List ℕ) → Cuts bytes (whole_stream bytes)
 read bytes = cuts bytes [] [] nothing (omega arith)
 
-pub is_cut : (bytes rest : List ℕ) (fresh : Bool) → (whole_stream bytes).begun ≡ Partial rest fresh → IsCutInto bytes (whole_stream bytes).messages rest
+pub is_cut : (bytes rest : List ℕ) (fresh : Bool) → (whole_stream bytes).begun ≡ Partial rest fresh → IsCutIntoMessages bytes (whole_stream bytes).messages rest
 is_cut bytes rest fresh e = subst (CutsAs bytes (whole_stream bytes).messages) e (read bytes)
 
-pub is_overlong : (bytes : List ℕ) → (whole_stream bytes).begun ≡ Overlong → IsOverlong bytes (whole_stream bytes).messages
+pub is_overlong : (bytes : List ℕ) → (whole_stream bytes).begun ≡ Overlong → IsOverlongStream bytes (whole_stream bytes).messages
 is_overlong bytes e = subst (CutsAs bytes (whole_stream bytes).messages) e (read bytes)
 
 -- messages in front are read first
-messages_read : (messages : List Message) (more : List ℕ) → AreWhole messages → whole_stream (flat_map closed messages ++ more) ≡ after messages (whole_stream more)
+messages_read : (messages : List Message) (more : List ℕ) → AreWholeMessages messages → whole_stream (flat_map closed_message messages ++ more) ≡ behind_messages messages (whole_stream more)
 messages_read [] more h = refl
 messages_read (TooLong ∷ messages) more h = absurd h.0
 messages_read (Whole m ∷ messages) more h =
-    let rest : List ℕ = flat_map closed messages ++ more in
+    let rest : List ℕ = flat_map closed_message messages ++ more in
     let scanned = no_end m [] h.0.0 in
-    ap whole_stream (append_assoc (m ++ 0 ∷ []) (flat_map closed messages) more ∙ append_assoc m (0 ∷ []) rest)
+    ap whole_stream (append_assoc (m ++ 0 ∷ []) (flat_map closed_message messages) more ∙ append_assoc m (0 ∷ []) rest)
     ∙ through [] true true m (0 ∷ rest) scanned (omega (arith, h.0.1))
     ∙ message_ends m true 0 rest refl
-    ∙ ap (after (Whole m ∷ [])) (messages_read messages more h.1)
+    ∙ ap (behind_messages (Whole m ∷ [])) (messages_read messages more h.1)
 
-abbrev stream : List Message → Begun → Stream
+abbrev stream : List Message → BegunMessage → Stream
 stream ms b = record { messages = ms; begun = b }
 
-pub cut_only : (bytes rest : List ℕ) (messages : List Message) → IsCutInto bytes messages rest
+pub cut_only : (bytes rest : List ℕ) (messages : List Message) → IsCutIntoMessages bytes messages rest
     → ((fresh : Bool) × ((whole_stream bytes).begun ≡ Partial rest fresh)) × (messages ≡ (whole_stream bytes).messages)
 cut_only bytes rest messages c =
     let begun : whole_stream rest ≡ stream [] (Partial rest (is_nil c.last)) =
     ap whole_stream (sym (append-nil rest)) ∙ through [] true (is_nil c.last) rest [] (no_end rest c.last c.no_end) (omega (arith, c.short)) in
-    let all : whole_stream bytes ≡ after messages (stream [] (Partial rest (is_nil c.last))) =
-    ap whole_stream c.whole ∙ messages_read messages rest c.each ∙ ap (after messages) begun in
+    let all : whole_stream bytes ≡ behind_messages messages (stream [] (Partial rest (is_nil c.last))) =
+    ap whole_stream c.whole ∙ messages_read messages rest c.each ∙ ap (behind_messages messages) begun in
     ((is_nil c.last, ap (λ (s : Stream). s.begun) all), sym (ap (λ (s : Stream). s.messages) all ∙ append-nil messages))
 
-pub overlong_only : (bytes : List ℕ) (messages : List Message) → IsOverlong bytes messages
+pub overlong_only : (bytes : List ℕ) (messages : List Message) → IsOverlongStream bytes messages
     → ((whole_stream bytes).begun ≡ Overlong) × (messages ≡ (whole_stream bytes).messages)
 overlong_only bytes messages o =
     let over : whole_stream (o.front ++ o.behind) ≡ stream (TooLong ∷ []) Overlong =
     overruns [] true (is_nil o.last) o.front o.behind (no_end o.front o.last o.no_end) (omega arith) (omega (arith, o.long)) in
-    let all : whole_stream bytes ≡ after o.before (stream (TooLong ∷ []) Overlong) =
-    ap whole_stream o.whole ∙ messages_read o.before (o.front ++ o.behind) o.each ∙ ap (after o.before) over in
+    let all : whole_stream bytes ≡ behind_messages o.before (stream (TooLong ∷ []) Overlong) =
+    ap whole_stream o.whole ∙ messages_read o.before (o.front ++ o.behind) o.each ∙ ap (behind_messages o.before) over in
     (ap (λ (s : Stream). s.begun) all, o.are ∙ sym (ap (λ (s : Stream). s.messages) all))

@@ -9,7 +9,7 @@ length_before sign [] = 0
 length_before sign (b ∷ bytes) = if nat_eq b sign then 0 else suc (length_before sign bytes)
 
 -- a text is two parts about its first such byte
-pub record IsCut (sign : ℕ) (text front back : List ℕ) : Type 0 where
+pub record IsCutAtFirst (sign : ℕ) (text front back : List ℕ) : Type 0 where
   pub is : text ≡ front ++ sign ∷ back
   pub first : ¬ Has front sign
 
@@ -22,6 +22,6 @@ pub record IsLastCut (sign : ℕ) (text : List ℕ) (at : ℕ) : Type 0 where
   pub last : ¬ Has back sign
 
 -- the place of the last such byte
-abbrev pub IsLast : ℕ → List ℕ → Option ℕ → Type 0
-IsLast sign text None = ¬ Has text sign
-IsLast sign text (Some at) = (at < length text) × IsLastCut sign text at
+abbrev pub IsLastPlace : ℕ → List ℕ → Option ℕ → Type 0
+IsLastPlace sign text None = ¬ Has text sign
+IsLastPlace sign text (Some at) = (at < length text) × IsLastCut sign text at

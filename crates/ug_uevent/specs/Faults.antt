@@ -6,13 +6,13 @@ use Rattle.ug_uevent.specs.declared.fault.UeventKind.TheVariants.{NoHeader, BadK
 use Rattle.ug_uevent.specs.declared.fault.UeventKind.TheVariants.{Repeated, BadSeq, TooLong}
 
 -- the number of a kind of fault
-abbrev pub number_of_kind : UeventKind → ℕ
-number_of_kind NoHeader = 1
-number_of_kind BadKey = 2
-number_of_kind HeaderDiffers = 3
-number_of_kind Repeated = 4
-number_of_kind BadSeq = 5
-number_of_kind TooLong = 6
+abbrev pub number_of_uevent_kind : UeventKind → ℕ
+number_of_uevent_kind NoHeader = 1
+number_of_uevent_kind BadKey = 2
+number_of_uevent_kind HeaderDiffers = 3
+number_of_uevent_kind Repeated = 4
+number_of_uevent_kind BadSeq = 5
+number_of_uevent_kind TooLong = 6
 
 abbrev pub SaidFault : Type 0
 SaidFault = types.Fault UeventKind

@@ -4,7 +4,7 @@ use Rattle.std.specs.Prelude.{◌≡◌, ◌≢◌, ◌↔◌, ◌⊎◌, ℕ, �
 use Rattle.std.specs.Prelude.{length, codes, decimal, Some, Result, Ok, Err}
 use Rattle.ug_types.specs.Elements.{Has}
 use Rattle.ug_types.specs.NodeNames.{IsNodeName}
-use Rattle.ug_uevent.specs.Cuts.{IsCut}
+use Rattle.ug_uevent.specs.Cuts.{IsCutAtFirst}
 use Rattle.ug_uevent.specs.Faults.{SaidFault}
 use Rattle.ug_uevent.specs.declared.fault.UeventKind.{UeventKind}
 use Rattle.ug_uevent.specs.declared.fault.UeventKind.TheVariants as kind
@@ -24,7 +24,7 @@ pub data AreStrings : List ℕ → List (List ℕ) → Type 0 where
 
 -- a string is two parts about a sign, of which the first isn't empty
 pub record IsPair (sign : ℕ) (text front back : List ℕ) : Type 0 where
-  pub cut : IsCut sign text front back
+  pub cut : IsCutAtFirst sign text front back
   pub filled : front ≢ []
 
 -- the header is ACTION@DEVPATH, cut at its first at sign
@@ -32,8 +32,8 @@ abbrev pub IsHeader : List ℕ → List ℕ → List ℕ → Type 0
 IsHeader text action path = IsPair 64 text action path
 
 -- a later string is KEY=VALUE, cut at its first equals sign
-abbrev pub IsSetting : List ℕ → List ℕ → List ℕ → Type 0
-IsSetting text key value = IsPair 61 text key value
+abbrev pub IsKeyValue : List ℕ → List ℕ → List ℕ → Type 0
+IsKeyValue text key value = IsPair 61 text key value
 
 unfoldable pub key_word : Field → List ℕ
 key_word field.Action = codes "ACTION"
@@ -42,11 +42,11 @@ key_word field.Subsystem = codes "SUBSYSTEM"
 key_word field.Number = codes "SEQNUM"
 
 -- one of the strings sets the field to that value
-abbrev pub Sets : List (List ℕ) → Field → List ℕ → Type 0
-Sets strings f value = (text : List ℕ) × Has strings text × IsSetting text (key_word f) value
+abbrev pub SetsField : List (List ℕ) → Field → List ℕ → Type 0
+SetsField strings f value = (text : List ℕ) × Has strings text × IsKeyValue text (key_word f) value
 
-abbrev pub IsSet : List (List ℕ) → Field → Type 0
-IsSet strings f = (value : List ℕ) × Sets strings f value
+abbrev pub IsFieldSet : List (List ℕ) → Field → Type 0
+IsFieldSet strings f = (value : List ℕ) × SetsField strings f value
 
 -- a decimal number below 2^64, without a sign or a leading zero
 abbrev pub IsNumber : List ℕ → Type 0
@@ -56,8 +56,8 @@ IsNumber value = (n : ℕ) × (value ≡ decimal n) × (n < 2 ^ 64)
 pub record IsGood (act path : List ℕ) (before : List (List ℕ)) (text : List ℕ) : Type 0 where
   pub key : List ℕ
   pub value : List ℕ
-  pub setting : IsSetting text key value
-  pub once : (f : Field) → key ≡ key_word f → IsSet before f → ⊥
+  pub setting : IsKeyValue text key value
+  pub once : (f : Field) → key ≡ key_word f → IsFieldSet before f → ⊥
   pub same_action : key ≡ key_word field.Action → value ≡ act
   pub same_path : key ≡ key_word field.Path → value ≡ path
   pub number : key ≡ key_word field.Number → IsNumber value
@@ -79,13 +79,13 @@ Differs act path field.Number value = ⊥
 -- differs, no number
 abbrev pub IsFaulty : List ℕ → List ℕ → List (List ℕ) → List ℕ → UeventKind → Type 0
 IsFaulty act path before text kind.NoHeader = ⊥
-IsFaulty act path before text kind.BadKey = (key value : List ℕ) → IsSetting text key value → ⊥
+IsFaulty act path before text kind.BadKey = (key value : List ℕ) → IsKeyValue text key value → ⊥
 IsFaulty act path before text kind.Repeated = (f : Field) × (value : List ℕ)
-    × IsSetting text (key_word f) value × IsSet before f
+    × IsKeyValue text (key_word f) value × IsFieldSet before f
 IsFaulty act path before text kind.HeaderDiffers = (f : Field) × (value : List ℕ)
-    × IsSetting text (key_word f) value × (¬ IsSet before f) × Differs act path f value
+    × IsKeyValue text (key_word f) value × (¬ IsFieldSet before f) × Differs act path f value
 IsFaulty act path before text kind.BadSeq = (value : List ℕ)
-    × IsSetting text (key_word field.Number) value × (¬ IsSet before field.Number)
+    × IsKeyValue text (key_word field.Number) value × (¬ IsFieldSet before field.Number)
     × (¬ IsNumber value)
 IsFaulty act path before text kind.TooLong = ⊥
 
@@ -112,12 +112,12 @@ unfoldable pub usb : List ℕ
 usb = codes "usb"
 
 -- what a header and good strings say
-pub record Says (act path : List ℕ) (strings : List (List ℕ)) (hint : Hint) : Type 0 where
+pub record SaysOfDevice (act path : List ℕ) (strings : List (List ℕ)) (hint : Hint) : Type 0 where
   pub does : IsAction act hint.action
   pub named : (name : List ℕ)
-      → (hint.name ≡ Some name) ↔ (Sets strings field.Subsystem usb × IsNameIn path name)
+      → (hint.name ≡ Some name) ↔ (SetsField strings field.Subsystem usb × IsNameIn path name)
   pub numbered : (n : ℕ)
-      → (hint.seq ≡ Some n) ↔ (Sets strings field.Number (decimal n) × (n < 2 ^ 64))
+      → (hint.seq ≡ Some n) ↔ (SetsField strings field.Number (decimal n) × (n < 2 ^ 64))
 
 -- a message is well formed, and says this
 pub record IsMessage (message : List ℕ) (hint : Hint) : Type 0 where
@@ -128,7 +128,7 @@ pub record IsMessage (message : List ℕ) (hint : Hint) : Type 0 where
   pub strings : AreStrings message (header ∷ others)
   pub is_header : IsHeader header act path
   pub good : AreGood act path [] others
-  pub says : Says act path others hint
+  pub says : SaysOfDevice act path others hint
 
 -- the first string is missing, or no header
 abbrev pub HasNoHeader : List ℕ → Type 0
@@ -156,10 +156,10 @@ pub record IsBadAt (message : List ℕ) (kind : UeventKind) (place : ℕ) : Type
   pub stands : place ≡ length_of (header ∷ before)
 
 -- the first fault of a message
-abbrev pub IsBad : List ℕ → UeventKind → ℕ → Type 0
-IsBad message k place = ((k ≡ kind.NoHeader) × (place ≡ 0) × HasNoHeader message)
+abbrev pub IsBadMessage : List ℕ → UeventKind → ℕ → Type 0
+IsBadMessage message k place = ((k ≡ kind.NoHeader) × (place ≡ 0) × HasNoHeader message)
     ⊎ IsBadAt message k place
 
 abbrev pub ReadsAs : List ℕ → Result Hint SaidFault → Type 0
 ReadsAs message (Ok hint) = IsMessage message hint
-ReadsAs message (Err fault) = IsBad message fault.kind fault.place
+ReadsAs message (Err fault) = IsBadMessage message fault.kind fault.place

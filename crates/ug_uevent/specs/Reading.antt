@@ -19,13 +19,15 @@ use Rattle.ug_uevent.specs.declared.hint.Action.TheVariants as action
 use Rattle.ug_uevent.specs.declared.hint.Hint.{Hint}
 
 -- the strings of a message
-abbrev pub in_front : ℕ → List (List ℕ) → List (List ℕ)
-in_front b [] = (b ∷ []) ∷ []
-in_front b (text ∷ texts) = (b ∷ text) ∷ texts
+abbrev pub string_in_front : ℕ → List (List ℕ) → List (List ℕ)
+string_in_front b [] = (b ∷ []) ∷ []
+string_in_front b (text ∷ texts) = (b ∷ text) ∷ texts
 
 unfoldable pub strings_of : List ℕ → List (List ℕ)
 strings_of [] = []
-strings_of (b ∷ bytes) = if nat_eq b 0 then [] ∷ strings_of bytes else in_front b (strings_of bytes)
+strings_of (b ∷ bytes) = if nat_eq b 0
+    then [] ∷ strings_of bytes
+    else string_in_front b (strings_of bytes)
 
 unfoldable pub field_of : List ℕ → Option Field
 field_of key =
@@ -46,15 +48,15 @@ action_of word =
 abbrev pub nothing : Found
 nothing = record { action = false; path = false; subsystem = false; usb = false; seq = None }
 
-abbrev pub is_set : Found → Field → Bool
-is_set found field.Action = found.action
-is_set found field.Path = found.path
-is_set found field.Subsystem = found.subsystem
-is_set found field.Number = is_some found.seq
+abbrev pub is_field_set : Found → Field → Bool
+is_field_set found field.Action = found.action
+is_field_set found field.Path = found.path
+is_field_set found field.Subsystem = found.subsystem
+is_field_set found field.Number = is_some found.seq
 
-abbrev pub numbered : Found → Option ℕ → Result Found UeventKind
-numbered found None = Err kind.BadSeq
-numbered found (Some n) = Ok (record found { seq = Some n })
+abbrev pub number_read : Found → Option ℕ → Result Found UeventKind
+number_read found None = Err kind.BadSeq
+number_read found (Some n) = Ok (record found { seq = Some n })
 
 -- a field that isn't set yet
 abbrev pub first_value : List ℕ → List ℕ → Found → Field → List ℕ → Result Found UeventKind
@@ -66,22 +68,22 @@ first_value act path found field.Path value = if pointwise nat_eq value path
     else Err kind.HeaderDiffers
 first_value act path found field.Subsystem value =
     Ok (record found { subsystem = true; usb = is_usb value })
-first_value act path found field.Number value = numbered found (number_in value)
+first_value act path found field.Number value = number_read found (number_in value)
 
 abbrev pub field_read : List ℕ → List ℕ → Found → Option Field → List ℕ → Result Found UeventKind
 field_read act path found None value = Ok found
-field_read act path found (Some f) value = if is_set found f
+field_read act path found (Some f) value = if is_field_set found f
     then Err kind.Repeated
     else first_value act path found f value
 
-abbrev pub cut_read : List ℕ → List ℕ → Found → List ℕ → ℕ → Result Found UeventKind
-cut_read act path found text n = if nat_eq n 0 || nat_eq n (length text)
+abbrev pub pair_read : List ℕ → List ℕ → Found → List ℕ → ℕ → Result Found UeventKind
+pair_read act path found text n = if nat_eq n 0 || nat_eq n (length text)
     then Err kind.BadKey
     else field_read act path found (field_of (take n text)) (drop (n + 1) text)
 
 -- a string behind those that have set what was found
 abbrev pub string_read : List ℕ → List ℕ → Found → List ℕ → Result Found UeventKind
-string_read act path found text = cut_read act path found text (length_before 61 text)
+string_read act path found text = pair_read act path found text (length_before 61 text)
 
 abbrev pub on_string : ℕ → Result Found UeventKind → (Found → Result Found SaidFault)
     → Result Found SaidFault

@@ -1,7 +1,7 @@
 // How many messages a stream has.
 ghost use Rattle.std.specs.Prelude.{◌+◌, ◌-◌, ◌≤◌, ◌<◌, ◌^◌, length, [], ◌∷◌};
-ghost use Rattle.ug_uevent.specs.Streams.{Stream, with_piece};
-ghost use Rattle.ug_uevent.specs.Counts.{Counts};
+ghost use Rattle.ug_uevent.specs.Streams.{Stream, stream_with_piece};
+ghost use Rattle.ug_uevent.specs.Counts.{CountsStream};
 
 const LAST: usize = 8191;
 
@@ -18,7 +18,8 @@ pub struct Progress {
 
 fn pass(progress: Progress, byte: u8) -> Progress
     requires { progress.messages < 2 ^ 64 - 1 }
-    ensures counts { (s : Stream) → Counts progress s → Counts result (with_piece s (byte ∷ [])) }
+    ensures counts { (s : Stream) → CountsStream progress s
+        → CountsStream result (stream_with_piece s (byte ∷ [])) }
     ensures few { result.messages ≤ progress.messages + 1 }
 {
     let mut next = progress;
@@ -43,7 +44,8 @@ fn pass(progress: Progress, byte: u8) -> Progress
 /// Reads on. Linear in the number of bytes.
 pub fn pass_all(progress: Progress, bytes: &[u8]) -> Progress
     requires { progress.messages + length bytes.now < 2 ^ 64 }
-    ensures counts { (s : Stream) → Counts progress s → Counts result (with_piece s bytes.now) }
+    ensures counts { (s : Stream) → CountsStream progress s
+        → CountsStream result (stream_with_piece s bytes.now) }
     ensures few { result.messages ≤ progress.messages + length bytes.now }
 {
     let mut now = progress;

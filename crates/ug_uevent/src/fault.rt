@@ -1,6 +1,6 @@
 // Why a message isn't taken.
 ghost use Rattle.std.specs.Prelude.{◌≡◌};
-ghost use Rattle.ug_uevent.specs.Faults.{number_of_kind};
+ghost use Rattle.ug_uevent.specs.Faults.{number_of_uevent_kind};
 ghost use Rattle.ug_types.specs.TextFaults.{fault_of_kind};
 
 use ug_types::{Fault, Numbered};
@@ -26,9 +26,9 @@ pub enum UeventKind {
 pub type UeventFault = Fault<UeventKind>;
 
 impl Numbered for UeventKind {
-    ghost use Rattle.ug_uevent.specs.Faults.{number_of_kind};
+    ghost use Rattle.ug_uevent.specs.Faults.{number_of_uevent_kind};
 
-    ghost number_of = { number_of_kind };
+    ghost number_of = { number_of_uevent_kind };
 
     /// 1 for `NoHeader`, 2 for `BadKey`, 3 for `HeaderDiffers`, 4 for `Repeated`, 5 for `BadSeq`, 6
     /// for `TooLong`.

@@ -32,7 +32,7 @@ pub struct Found {
 
 impl Found {
     fn has(&self, field: Field) -> bool
-        ensures { result ≡ reading.is_set self.now field }
+        ensures { result ≡ reading.is_field_set self.now field }
     {
         match field {
             Field::Action => self.action,

@@ -1,7 +1,7 @@
 // The hints of a stream, as its bytes come.
 ghost use Rattle.std.specs.Prelude.{◌≡◌, ◌++◌, [], true, length, MatchResult};
-ghost use Rattle.ug_uevent.specs.Streams.{Partial, with_piece};
-ghost use Rattle.ug_uevent.specs.Answers.{HandsOut};
+ghost use Rattle.ug_uevent.specs.Streams.{Partial, stream_with_piece};
+ghost use Rattle.ug_uevent.specs.Answers.{HandsOutHint};
 
 use crate::count::{Progress, pass_all};
 use crate::fault::{UeventFault, UeventKind, fault_at};
@@ -59,7 +59,8 @@ impl Hints {
     /// piece can be fed again. Linear in the number of bytes of the piece and of those that were
     /// not handed out.
     pub fn feed(&mut self, piece: &[u8]) -> Result<(), NoMemory>
-        ensures { MatchResult result (λ _. self.new ≡ with_piece self.old piece.now) (λ _. self.new ≡ self.old) }
+        ensures { MatchResult result
+            (λ _. self.new ≡ stream_with_piece self.old piece.now) (λ _. self.new ≡ self.old) }
     {
         if self.ended {
             return Ok(());
@@ -73,7 +74,7 @@ impl Hints {
     /// not handed out: so many calls of `next_hint` answer something. Linear as `feed`, and takes
     /// no memory.
     pub fn messages_with(&self, piece: &[u8]) -> usize
-        ensures { result ≡ length (with_piece self.now piece.now).messages }
+        ensures { result ≡ length (stream_with_piece self.now piece.now).messages }
     {
         if self.ended {
             return 0;
@@ -91,7 +92,7 @@ impl Hints {
     /// Hands out what the next message says, or its fault. There is none exactly where no message
     /// is left. It takes no memory.
     pub fn next_hint(&mut self) -> Option<Result<Hint, UeventFault>>
-        ensures { HandsOut self.old result self.new }
+        ensures { HandsOutHint self.old result self.new }
     {
         if self.ended {
             return None;

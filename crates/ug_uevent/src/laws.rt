@@ -3,8 +3,8 @@ ghost use Rattle.std.specs.Prelude.{◌≡◌, ◌++◌, ℕ, Bool, List, Result
 ghost use Rattle.ug_uevent.specs.declared.hint.Hint.{Hint};
 ghost use Rattle.ug_uevent.specs.Faults.{SaidFault};
 ghost use Rattle.ug_uevent.specs.Grammar.{ReadsAs};
-ghost use Rattle.ug_uevent.specs.Streams.{Begun, Partial, Overlong, Message, with_piece};
-ghost use Rattle.ug_uevent.specs.Streams.{stream_of, whole_stream, IsCutInto, IsOverlong};
+ghost use Rattle.ug_uevent.specs.Streams.{BegunMessage, Partial, Overlong, Message, stream_with_piece};
+ghost use Rattle.ug_uevent.specs.Streams.{stream_of, whole_stream, IsCutIntoMessages, IsOverlongStream};
 
 /// A message says one thing, or has one first fault, and never both.
 pub fn one_reading_law()
@@ -14,8 +14,8 @@ pub fn one_reading_law()
 
 /// However the bytes of a stream are cut, its messages and what has begun are the same.
 pub fn messages_in_any_pieces()
-    ensures { (begun : Begun) (a b : List ℕ)
-        → stream_of begun (a ++ b) ≡ with_piece (stream_of begun a) b }
+    ensures { (begun : BegunMessage) (a b : List ℕ)
+        → stream_of begun (a ++ b) ≡ stream_with_piece (stream_of begun a) b }
 {}
 
 /// A stream is its messages, each closed by a zero byte, and the beginning of one more; or behind
@@ -24,12 +24,14 @@ pub fn messages_in_any_pieces()
 pub fn messages_in_one_way()
     ensures whole { (bytes rest : List ℕ) (fresh : Bool)
         → (whole_stream bytes).begun ≡ Partial rest fresh
-        → IsCutInto bytes (whole_stream bytes).messages rest }
-    ensures only { (bytes rest : List ℕ) (messages : List Message) → IsCutInto bytes messages rest
+        → IsCutIntoMessages bytes (whole_stream bytes).messages rest }
+    ensures only { (bytes rest : List ℕ) (messages : List Message)
+        → IsCutIntoMessages bytes messages rest
         → ((fresh : Bool) × ((whole_stream bytes).begun ≡ Partial rest fresh))
         × (messages ≡ (whole_stream bytes).messages) }
     ensures overlong { (bytes : List ℕ) → (whole_stream bytes).begun ≡ Overlong
-        → IsOverlong bytes (whole_stream bytes).messages }
-    ensures overlong_only { (bytes : List ℕ) (messages : List Message) → IsOverlong bytes messages
+        → IsOverlongStream bytes (whole_stream bytes).messages }
+    ensures overlong_only { (bytes : List ℕ) (messages : List Message)
+        → IsOverlongStream bytes messages
         → ((whole_stream bytes).begun ≡ Overlong) × (messages ≡ (whole_stream bytes).messages) }
 {}

@@ -3,7 +3,7 @@ ghost use Rattle.std.specs.Prelude.{◌≡◌, ◌↔◌, ℕ, ◌+◌, ◌≤�
 ghost use Rattle.ug_types.specs.TextFaults.{fault_of_kind};
 ghost use Rattle.ug_uevent.specs.declared.hint.Hint.{Hint as SaidHint};
 ghost use Rattle.ug_uevent.specs.declared.fault.UeventKind.{UeventKind as SaidKind};
-ghost use Rattle.ug_uevent.specs.Grammar.{IsMessage, IsBad, ReadsAs};
+ghost use Rattle.ug_uevent.specs.Grammar.{IsMessage, IsBadMessage, ReadsAs};
 ghost use Rattle.ug_uevent.specs.Reading as reading;
 
 use crate::cut::{length_before, next_string};
@@ -19,7 +19,7 @@ use crate::path::name_in;
 pub fn parse_uevent(message: &[u8]) -> Result<Hint, UeventFault>
     ensures good { (hint : SaidHint) → (result ≡ Ok hint) ↔ IsMessage message.now hint }
     ensures bad { (kind : SaidKind) (place : ℕ)
-        → (result ≡ Err (fault_of_kind kind place)) ↔ IsBad message.now kind place }
+        → (result ≡ Err (fault_of_kind kind place)) ↔ IsBadMessage message.now kind place }
 {
     read_message(message)
 }
@@ -75,8 +75,8 @@ fn read_strings(
     strings: &[u8],
 ) -> Result<Found, UeventFault>
     requires { place + length strings.now ≤ 9223372036854775808 }
-    ensures { result
-        ≡ reading.strings_read action.now path.now reading.nothing place (reading.strings_of strings.now) }
+    ensures { result ≡ reading.strings_read action.now path.now reading.nothing place
+        (reading.strings_of strings.now) }
 {
     let mut found = Found {
         action: false,

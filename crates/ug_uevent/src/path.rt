@@ -1,13 +1,13 @@
 // The name at the end of a device's path.
 ghost use Rattle.std.specs.Prelude.{◌≡◌, ◌↔◌, ℕ, List, Some};
 ghost use Rattle.ug_uevent.specs.Grammar.{IsNameIn};
-ghost use Rattle.ug_uevent.specs.Cuts.{IsLast};
+ghost use Rattle.ug_uevent.specs.Cuts.{IsLastPlace};
 
 use ug_types::NodeName;
 
 // The place of the last slash.
 fn last_slash(path: &[u8]) -> Option<usize>
-    ensures { IsLast 47 path.now result }
+    ensures { IsLastPlace 47 path.now result }
 {
     let mut last = None;
     for (i, byte) in path.iter().enumerate() {
