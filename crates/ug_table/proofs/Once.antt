@@ -5,7 +5,7 @@ use Rattle.ug_table.proofs.Common.{Has, AllDistinct, Call, Answer, Names, Ask_al
 use Rattle.ug_table.proofs.Marks.{order_distinct, ends_only, named_only, farewell_none}
 use Rattle.ug_table.proofs.Says.{none_named}
 use Rattle.ug_table.proofs.Chains.{Chain, Over, First, Goes, Listed, Unlisted, goes_entries, sweeping_run}
-use Rattle.ug_table.proofs.OnePart.{flat_is_part}
+use Rattle.ug_table.proofs.OnePart.{flat_is_part, lacks_needs}
 use Rattle.ug_table.proofs.Shapes.{told_at}
 use Rattle.ug_table.proofs.Standings.{farewells_by, IsFileOf, file_later, LiveAs, lives_between, gone_no, open_named, stands_one, listed_is, listed_stand}
 use Rattle.ug_table.proofs.Lived.{lives_first, lives_last, stand_files}
@@ -110,7 +110,7 @@ part_spared hub name known i k l ss rs ms es part lives a told = elim (part.memo
         (subst (λ (v : Known). IsFileOf u v.held.0 i) (sym same) (file_later k u known.held.0 i g lives.file))
         (lives_between k u l i name g (along_grows gone.1 u l step.2) lives.first lives.last)
   ])
-  | inr lacks ↦ subst (λ (v : Known). NeedsMemory hub name v) (some_same (standing_of name ss) lacks.0.0 known lacks.0.1 lives.at) lacks.0.2
+  | inr lacks ↦ subst (λ (v : Known). NeedsMemory hub name v) (some_same (standing_of name ss) lacks.0 known lacks.1 lives.at) (lacks_needs hub name lacks.0 ms lacks.2)
 ]
 
 name_told : (es : List Entry) (name : List ℕ) (why : Fault) → Has es (Entry.Unsettled name why) → Has (unsettled_names es) name

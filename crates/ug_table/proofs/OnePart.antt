@@ -1,11 +1,11 @@
 -- One name's part of a sweep, from its shapes: one law on its calls, and one on its entries.
 use Rattle.std.proofs.Common.{◌≡◌, ℕ, ◌≤◌, Bool, true, false, not, ◌||◌, List, [], ◌∷◌, ◌++◌, map, length, Option, Some, None, ◌⊎◌, inl, inr, refl, sym, ◌∙◌, ap, subst, append_assoc, append-nil, arith}
-use Rattle.ug_table.proofs.Common.{Has, Held, Control, Default, Target, Authorized, Remove, IsOnce, has_cases, map_has, did_default, Write, FailedCall, Probe, Wrote, Open, Ask_alive, Put, Close, Told, Made, answered, failures, count_calls, Bound, Binding, RemoveHold, Entry, Fault, known_of, with_standing, standing_of, wrote_entries, OpenFile, open_file, Behind, behind_more, IsWriteDue, PutMade, AtMostOneEach, told_by, failure_in, failures_told, write_in, writes_in, TellsWrites, EndsUnsettled, IsBoundAnew, LacksRoom, control_of, known_files, AllBear, number_of, AreOfNumber, numbers_given, Part, Standing, Known, Settled, unsettled_by, tried_standings, has_right, wants, write_of, is_to_go, why_in, whys, why_of}
+use Rattle.ug_table.proofs.Common.{Has, Held, Control, Default, Target, Authorized, Remove, IsOnce, has_cases, map_has, did_default, Write, FailedCall, Probe, Wrote, Open, Ask_alive, Put, Close, Told, Made, answered, failures, count_calls, Bound, Binding, RemoveHold, Entry, Fault, known_of, with_standing, standing_of, wrote_entries, OpenFile, open_file, Behind, behind_more, IsWriteDue, PutMade, AtMostOneEach, told_by, failure_in, failures_told, write_in, writes_in, TellsWrites, EndsUnsettled, IsBoundAnew, FoundNoRoom, LacksRoom, control_of, known_files, AllBear, number_of, AreOfNumber, numbers_given, Part, Standing, Known, Settled, unsettled_by, tried_standings, has_right, wants, write_of, is_to_go, why_in, whys, why_of}
 use Rattle.ug_node.proofs.BindShapes.{way_binds, Holds_by, way_holds}
-use Rattle.ug_table.specs.Bring.{NeedsMemory}
+use Rattle.ug_table.specs.Bring.{NeedsMemory, default_due}
 use Rattle.ug_table.proofs.Shapes.{Written, Done, Went, Valued, Same, Set, Unheld, Gone_by, Short_by, OnceMade, Not_held, Put_on, Carried, By_value, And_removal, Brought, Left_open, Let_go, Treated, No_default, And_default, Cut_default, Gone_default, due_is, due_once, Opening, Fresh, Lost, Unbound_end, Absent_so, Vanished_so, Flat, Unprobed, Tried, Stopped, Unbound, No_place, Judged_so, told_at, opening_none, flat_rest, new_known}
 use Rattle.ug_table.proofs.Standings.{known_as, did_stands, others_stand, stands_file, stands_number, without_own, tried_own}
-use Rattle.ug_table.proofs.PartCalls.{has_want, failed_by, are_short, behind_after, CallsOf, calls_are, calls_more, calls_within, calls_as, closed_first, binding_faults, binding_files, binds_calls, bound_few, treating_most, both_most, treating_least, root_most, IsFound, bound_found, hold_faults, hold_files, holds_calls, ready_due, default_found, IsShort, hold_short}
+use Rattle.ug_table.proofs.PartCalls.{has_want, failed_by, are_short, behind_after, CallsOf, calls_are, calls_more, calls_within, calls_as, closed_first, binding_faults, binding_files, binds_calls, bound_few, treating_most, both_most, treating_least, root_most, IsFound, bound_found, hold_faults, hold_files, holds_calls, ready_due, default_found, hold_short}
 
 -- entries
 
@@ -256,7 +256,7 @@ unheld_goes : {what : Write} {name : List ℕ} {known : Known} {held : ℕ} {ms 
     {es : List Entry} {how : Settled} {files : List OpenFile} {b : Behind}
     → Unheld name known.number r es how → Holds_by (control_of what) name held ms r
     → CallsOf name files b ms (hold_files (control_of what) r files) (hold_faults r) [] 2
-    → Goes (AreOnce what) (IsShort (control_of what) ms) name known files b ms es how files 3
+    → Goes (AreOnce what) (FoundNoRoom (control_of what) name ms) name known files b ms es how files 3
 unheld_goes Gone_by h c =
     goes_are (calls_as refl (omega arith) c)
     (entries_are (refl, refl) refl refl (tt, tt) (refl, tt) refl) (inl refl)
@@ -271,7 +271,7 @@ unheld_goes x h c =
 once_goes : {what : Write} {name : List ℕ} {known : Known} {ms : List Made} {es : List Entry} {how : Settled}
     (b : Behind) → IsOnce (control_of what) → OnceMade name known what ms es how
     → let own = open_file known.held.0 Authorized ∷ [] in
-    Goes (AreOnce what) (IsShort (control_of what) ms) name known own b ms es how own 3
+    Goes (AreOnce what) (FoundNoRoom (control_of what) name ms) name known own b ms es how own 3
 once_goes {what} {name} {known} b once (Not_held ms r es how way u) =
     let by = way_holds (control_of what) name known.held.0 ms r way in
     let own : List OpenFile = open_file known.held.0 Authorized ∷ [] in
@@ -290,18 +290,21 @@ once_goes {what} {name} {known} b once (Put_on ms file t shut es how way w) =
 
 -- both
 
-abbrev pub ToGo : Known → List Made → Type 0
-ToGo known ms = (is_to_go known ≡ true) × IsShort Remove ms
+abbrev pub ToGo : List ℕ → Known → List Made → Type 0
+ToGo name known ms = (is_to_go known ≡ true) × FoundNoRoom Remove name ms
+
+no_room_behind : (control : Control) (name : List ℕ) (ds ms : List Made) → FoundNoRoom control name ms → FoundNoRoom control name (ds ++ ms)
+no_room_behind control name ds ms h = (h.0, has_right ds ms (answered (Open name control) h.0) h.1, h.2)
 
 carried_goes : {name : List ℕ} {known : Known} {on : Bool} {ms : List Made} {es : List Entry}
     {how : Settled} (b : Behind) → IsFound b known.held.0 on → Carried name known on ms es how
     → let own = open_file known.held.0 Authorized ∷ [] in
-    Goes AreVerdicts (ToGo known ms) name known own b ms es how own 4
+    Goes AreVerdicts (ToGo name known ms) name known own b ms es how own 4
 carried_goes b f (By_value ms es how v k) =
     let h = valued_goes b f v in
     goes_are (calls_as refl (omega arith) h.calls) h.entries (single_value h.ps h.single, value_verdicts h.ps h.single)
     (λ e. absurd (h.short e))
-carried_goes b f (And_removal ms ns es fs how go v r) =
+carried_goes {name} b f (And_removal ms ns es fs how go v r) =
     let h = valued_goes b f v in
     let k = once_goes (behind_after b ms) tt r in
     goes_are (calls_more h.calls k.calls) (entries_more h.entries k.entries) (
@@ -311,9 +314,7 @@ carried_goes b f (And_removal ms ns es fs how go v r) =
         | inr x ↦ removal_verdicts k.ps k.single p x e
       ],
     )
-    (λ e.
-    let y = k.short e in
-    (go, (y.0, y.1, has_right ms ns (answered (Open y.0 Remove) y.1) y.2, y.3)))
+    (λ e. (go, no_room_behind Remove name ms ns (k.short e)))
 
 still_open : (how : Settled) (held : ℕ) → (how ≡ Settled.Nobody → ⊥)
     → open_file held Authorized ∷ [] ≡ ended_files how held
@@ -323,7 +324,7 @@ still_open how held n = refl
 pub brought_goes : {name : List ℕ} {known : Known} {on : Bool} {ms : List Made} {es : List Entry}
     {how : Settled} (b : Behind) → IsFound b known.held.0 on → Brought name known on ms es how
     → let own = open_file known.held.0 Authorized ∷ [] in
-    Goes AreVerdicts (ToGo known ms) name known own b ms es how (ended_files how known.held.0) 4
+    Goes AreVerdicts (ToGo name known ms) name known own b ms es how (ended_files how known.held.0) 4
 brought_goes {known = known} b f (Left_open ms es how c n) =
     let h = carried_goes b f c in
     goes_are (calls_as (still_open how known.held.0 n) (omega arith) h.calls) h.entries h.single
@@ -343,9 +344,19 @@ brought_goes {name} {known} b f (Let_go ms es shut c) =
 
 -- all writes of a sweep
 
--- memory may be wanted for it, and an opening was short of it
+-- memory was wanted for it, and an opening was short of it
 abbrev pub Lacks : Option Write → List ℕ → Known → List Made → Type 0
-Lacks hub name known ms = NeedsMemory hub name known × ((control : Control) × IsShort control ms)
+Lacks hub name known ms =
+    ToGo name known ms
+    ⊎ ((what : Write) × (default_due hub name known ≡ Some what) × FoundNoRoom Default name ms)
+
+pub lacks_needs : (hub : Option Write) (name : List ℕ) (known : Known) (ms : List Made) → Lacks hub name known ms → NeedsMemory hub name known
+lacks_needs hub name known ms (inl h) = inl h.0
+lacks_needs hub name known ms (inr h) = inr (h.0, h.1)
+
+lacks_behind : (hub : Option Write) (name : List ℕ) (known : Known) (ds ms : List Made) → Lacks hub name known ms → Lacks hub name known (ds ++ ms)
+lacks_behind hub name known ds ms (inl h) = inl (h.0, no_room_behind Remove name ds ms h.1)
+lacks_behind hub name known ds ms (inr h) = inr (h.0, h.1, no_room_behind Default name ds ms h.2)
 
 unheld_stops : {name : List ℕ} {number : ℕ} {r : RemoveHold} {es : List Entry} {how : Settled} → Unheld name number r es how → how ≡ Settled.Stands → ⊥
 unheld_stops Gone_by e = let none : ⊥ = cc in none
@@ -358,20 +369,20 @@ once_found {what} {name} {known} b file (Put_on ms held t shut es how way w) e f
 pub treated_goes : {hub : Option Write} {name : List ℕ} {known : Known} {on d : Bool} {ms : List Made} {es : List Entry} {how : Settled} (b : Behind) → IsFound b known.held.0 on → Treated hub name known on d ms es how → let own = open_file known.held.0 Authorized ∷ [] in Goes AtMostOneEach (Lacks hub name known ms) name known own b ms es how (ended_files how known.held.0) (treating_most name)
 treated_goes {name = name} b f (No_default ms es how e x) =
     let h = brought_goes b f x in
-    goes_are (calls_as refl (treating_least name) h.calls) h.entries h.single.0 (λ m. let y = h.short m in (inl y.0, (Remove, y.1)))
+    goes_are (calls_as refl (treating_least name) h.calls) h.entries h.single.0 (λ m. inl (h.short m))
 treated_goes {hub} {name} {known} b f (And_default what ds ms fs es how e w x) =
     let due = due_is hub name known what e in
     let k = once_goes b (due_once due) w in
     let h = brought_goes (behind_after b ds) (once_found b due.file w refl f) x in
     let most = root_most name due.root in
     goes_are (calls_as refl (omega (arith, most)) (calls_more k.calls h.calls)) (entries_more k.entries h.entries) (single_default what k.ps h.ps due.file k.single h.single)
-    (λ m. let y = h.short m in (inl y.0, (Remove, (y.1.0, y.1.1, has_right ds ms (answered (Open y.1.0 Remove) y.1.1) y.1.2, y.1.3))))
+    (λ m. lacks_behind hub name known ds ms (inl (h.short m)))
 treated_goes {hub} {name} {known} b f (Cut_default what ds fs how e w cut) =
     let due = due_is hub name known what e in
     let k = once_goes b (due_once due) w in
     let most = root_most name due.root in
     goes_are (calls_as (still_open how known.held.0 cut.1) (omega (arith, most)) k.calls) k.entries (single_once what k.ps k.single)
-    (λ m. (inr (what, e), (control_of what, k.short m)))
+    (λ m. inr (what, e, subst (λ (c : Control). FoundNoRoom c name ds) due.file (k.short m)))
 treated_goes {hub} {name} {known} b f (Gone_default what ds fs shut e w) =
     let due = due_is hub name known what e in
     let k = once_goes b (due_once due) w in
@@ -543,7 +554,7 @@ flat_goes {hub} {binds} {name = name} {ss = ss} {rs = rs} (Tried known on failed
     (flat_are (calls_as (known_file d known how ∙ so.0) (omega (arith, most)) (calls_more one h.calls))
     (entries_to (known_number d known how ∙ so.1) (told_entries known.number how h.entries))
     h.single refl refl
-    (λ e. let x = h.short e in inr ((known, refl, x.0), (x.1.0, x.1.1.0, x.1.1.1, inr x.1.1.2, x.1.1.3))) refl)
+    (λ e. inr (known, refl, lacks_behind hub name known (m ∷ []) ms (h.short e))) refl)
 flat_goes (Stopped ms es rs f opening) =
     let h = opening_goes start opening in
     let none = sym (opening_none opening) in
@@ -654,7 +665,7 @@ module _ {hub : Option Write} {binds : Bool} {given : List Standing → Bound �
       → (known : Known) × (standing_of name ss ≡ Some known) × NeedsMemory hub name known
   flat_room unbound e = elim ((flat_goes f).memory e) [
     | inl x ↦ let bound = x.0 in absurd (let none : ⊥ = cc in none)
-    | inr x ↦ x.0
+    | inr x ↦ (x.0, x.1, lacks_needs hub name x.0 ms x.2)
   ]
 
   pub flat_is_part : Part hub name ss rs ms rest

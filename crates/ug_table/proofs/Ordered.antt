@@ -134,7 +134,7 @@ order_part gives calls faults counted next number verdict who on k x s p t order
     let kept = keeps_ordered number verdict who k.standings next order in
     let one = stands_one y.name ss y (names_distinct (names_of ss) kept.order) (has_ordered number verdict who k.standings x at) refl in
     let so = tried_so y.name ss p.0 (known_of y) one in
-    let goes : (t : Told Probe) → t.answer ≡ Probe.Alive on → Goes AreVerdicts (ToGo (known_of y) ms) y.name (known_of y) (open_file y.held.0 Authorized ∷ []) (behind_probe y.held.0 t) ms o.rest p.0 (ended_files p.0 y.held.0) 4 = λ t e. brought_goes (behind_probe y.held.0 t) (t, refl, e) o.brought in
+    let goes : (t : Told Probe) → t.answer ≡ Probe.Alive on → Goes AreVerdicts (ToGo y.name (known_of y) ms) y.name (known_of y) (open_file y.held.0 Authorized ∷ []) (behind_probe y.held.0 t) ms o.rest p.0 (ended_files p.0 y.held.0) 4 = λ t e. brought_goes (behind_probe y.held.0 t) (t, refl, e) o.brought in
     let g = goes (told_at (Probe.Alive on) (record { call = 0; count = 0 })) refl in
     let now : standing_of y.name (tried_standings ss y.name p.0) ≡ standing_of y.name p.1.standings = ap (standing_of y.name) (sym o.standings) in
     record {

@@ -2,7 +2,7 @@
 use Rattle.std.proofs.Common.{◌≡◌, ℕ, ◌+◌, ◌≤◌, Bool, true, false, cond, ◌||◌, is_none, List, [], ◌∷◌, ◌++◌, Option, Some, None, inl, inr, refl, sym, ◌∙◌, ap, subst, append_assoc, append-nil, arith}
 use Rattle.std.specs.Prelude.{if◌then◌else◌, nat_eq}
 use Rattle.std.proofs.lemmas.List.Folds.{list_any-append}
-use Rattle.ug_table.proofs.Common.{parent_of, Has, Held, Control, Authorized, IsOnce, IsOnceDue, control_of, Default, Put, Wrote, opens_default, FailedCall, Listing, Probe, Call, Names, Open, Read, Ask_alive, Close, Closing, Told, Answer, failed_read, Made, answered, failure, failures, count_calls, Bound, Binding, RemoveHold, Fault, OpenFile, open_file, close_file, files_left, files_after, AreAbout, EndsAtFailure, Behind, behind_more, IsWriteDue, AreDue, PutMade, put_of, puts_of, told_by, Write, failures_more, list_any, binding_of}
+use Rattle.ug_table.proofs.Common.{parent_of, Has, Held, Control, Authorized, IsOnce, IsOnceDue, control_of, Default, Put, Wrote, opens_default, FailedCall, Listing, Probe, Call, Names, Open, Read, Ask_alive, Close, Closing, Told, Answer, failed_read, Made, answered, failure, failures, count_calls, Bound, Binding, RemoveHold, Fault, FoundNoRoom, OpenFile, open_file, close_file, files_left, files_after, AreAbout, EndsAtFailure, Behind, behind_more, IsWriteDue, AreDue, PutMade, put_of, puts_of, told_by, Write, failures_more, list_any, binding_of}
 use Rattle.ug_types.specs.declared.control.Attr.{Attr}
 use Rattle.ug_types.specs.declared.record.Attrs.{Attrs}
 use Rattle.ug_kernel.specs.declared.calls.Opened.{Opened}
@@ -361,12 +361,6 @@ default_found {name} {held} {ms} {file} {h} {on} what t shut b e by f =
     let mid : IsFound (behind_after b ms) h on = held_found b (subst (λ (c : Control). Holds_by c name held ms (RemoveHold.Ready file)) e by) f in
     subst (λ (v : Behind). IsFound v h on) (sym (behind_join b ms ns)) (put_found what file.0 h on t shut (behind_after b ms) e mid)
 
--- an opening that was short of memory is among the calls
-abbrev pub IsShort : Control → List Made → Type 0
-IsShort control ms =
-    (name : List ℕ) × (t : Told Opened) × Has ms (answered (Open name control) t) ×
-    (t.answer ≡ Opened.Memory)
-
 pub hold_short : {control : Control} {name : List ℕ} {held : ℕ} {ms : List Made} → Holds_by control name held ms RemoveHold.Memory
-    → IsShort control ms
-hold_short {control} {name} (No_memory call count) = (name, told Opened.Memory call count, inl refl, refl)
+    → FoundNoRoom control name ms
+hold_short (No_memory call count) = (told Opened.Memory call count, inl refl, refl)

@@ -33,7 +33,7 @@ use Rattle.ug_table.specs.declared.standing.Standing.{Standing}
 use Rattle.ug_table.specs.declared.standing.Known.{Known}
 use Rattle.ug_types.specs.declared.verdict.Held.{Held}
 use Rattle.ug_table.specs.Done.{control_of}
-use Rattle.ug_table.specs.Bring.{NeedsMemory}
+use Rattle.ug_table.specs.Bring.{is_to_go, default_due}
 
 -- the failed call that an `unsettled` entry tells
 abbrev pub told_by : Fault → List FailedCall
@@ -292,9 +292,18 @@ abbrev pub known_files : Option Known → List OpenFile
 known_files None = []
 known_files (Some known) = open_file known.held.0 Authorized ∷ []
 
--- the device of a standing is still to be removed, or its default is still to be written, and there was no memory to open a file
+-- an opening of that file of the name found no memory
+abbrev pub FoundNoRoom : Control → List ℕ → List Made → Type 0
+FoundNoRoom control name calls =
+    (t : Told Opened) × Has calls (answered (Open name control) t) × (t.answer ≡ opened.Memory)
+
+-- The device of a standing is still to be removed, and there was no memory to open its `remove`; or its default is still to be written,
+-- and there was none to open that.
 abbrev pub LacksRoom : Option Write → List ℕ → Option Known → List Made → Type 0
-LacksRoom hub name stands calls = ((known : Known) × (stands ≡ Some known) × NeedsMemory hub name known) × ((control : Control) × (other : List ℕ) × (t : Told Opened) × Has calls (answered (Open other control) t) × (t.answer ≡ opened.Memory))
+LacksRoom hub name stands calls =
+    (known : Known) × (stands ≡ Some known)
+    × (((is_to_go known ≡ true) × FoundNoRoom Remove name calls)
+    ⊎ ((what : Write) × (default_due hub name known ≡ Some what) × FoundNoRoom Default name calls))
 
 -- One name's part of a sweep, from the standings before it to those after it: its calls are about the name, and are over with
 -- one that fails; the files that are open after them are those that the name's standing holds; its entries tell that failure, and no
