@@ -127,8 +127,8 @@ has_listed (h ∷ hs) = not (list_any tells_unlisted h.after.sweep.entries) || h
 
 -- The place of a ruling in a run: its event, and in that the `judged` entry of its number. The moment is the event's. Devices count as
 -- present where no listing of an earlier event had succeeded. The record is that of the very device of the held file, which in this
--- event lived from the opening of that file to the probe that gave its value. The standings are those that are left there of the ones
--- that the sweep began with, and each is marked as settled as is told there.
+-- event lived from the opening of that file to the probe that gave its value, and had that value when the sweep began, if it was there
+-- then. The standings are those that are left there of the ones that the sweep began with, and each is marked as settled as is told there.
 pub record IsPlaced (hs : List Happened) (k : Kernel) (r : Ruling) : Type 0 where
   pub earlier : List Happened
   pub event : Happened

@@ -38,10 +38,7 @@ pub gone_stays : (k l : Kernel) (i : ℕ) → Grows k l → IsGone k i → IsGon
 gone_stays k l i g h = let x = g.devices i h.0 h.1 in (x.0, x.1, x.2.gone h.2)
 
 pub probed_stays : (start k l : Kernel) (name : List ℕ) (held i : ℕ) (on : Bool) → Grows k l → IsProbed start k name held i on → IsProbed start l name held i on
-probed_stays start k l name held i on g h = record { first = h.first; last = h.last; since = h.since; lived = h.lived; until = grows_trans h.last k l h.until g }
-
-pub probed_from : (start mid k : Kernel) (name : List ℕ) (held i : ℕ) (on : Bool) → Grows start mid → IsProbed mid k name held i on → IsProbed start k name held i on
-probed_from start mid k name held i on g h = record { first = h.first; last = h.last; since = grows_trans start mid h.first g h.since; lived = h.lived; until = h.until }
+probed_stays start k l name held i on g h = record { first = h.first; last = h.last; since = h.since; lived = h.lived; until = grows_trans h.last k l h.until g; met = h.met }
 
 pub stand_stays : (k l : Kernel) (ss : List Standing) (next : ℕ) → Grows k l → Stand k ss next → Stand l ss next
 stand_stays k l ss next g h = record {

@@ -1,14 +1,15 @@
 -- A part is fair, and so is a sweep.
 use Rattle.std.proofs.Common.{◌≡◌, ℕ, Bool, true, false, not, ◌&&◌, List, [], ◌∷◌, ◌++◌, ◌⊎◌, Some, slice_get, inl, inr, refl, sym, ◌∙◌, ap, subst, append_assoc, append-nil, ◌+◌, ◌<◌, is_none, Option, None, arith, cond, map, true≢false}
 use Rattle.std.proofs.lemmas.Bool.{and_parts, and_cases, both_ways, not-true, not-false, cond_both, cases_Bool}
-use Rattle.ug_table.proofs.Common.{Has, IsOpenable, AllDistinct, Terms, terms_for, did_default, with_default, defaulted_known, default_due, default_write, Default, Target, Control, Authorized, Remove, Write, Wrote, Put, Close, Told, Closing, Ask_alive, Names, Kernel, Moves, IsKernel, Live, IsWritten, IsGoneAt, says_put, Called, says_listing, Grows, Quiet, calls, Runs, RemoveHold, Entry, State, Answers, Laters, known_of, standing_of, without, with_standing, place_for, lists, farewells, Tries, IsDevice, MayHave, MayHaveNot, wrote_entries, HasDone, WasDone, IsOnce, control_of, is_done, IsFirst, Account, Start, Had, Had_not, AreInOrder, none_before, IsProbed, Stand, numbers_of, Judge, IsOne, IsTold, HasStanding, IsFair, IsDoneMarked, swept_before, IsGone, Went as WentAway, gone_of, Standing, Settled, Made, answered, Along, failure_of, FailedCall, parent_of, Judged, Held, Cause, Bound, Binding, Known, in_sweep_order, unlisted_files, Fault, Probe, Listing, names_of, parted, marked_listed, sweeping, unsettled_by, standing_for, judged_entry, tried_standings, dropped, has_right, distinct_one, has_map, has_new, has_old, filter_has, has_filter, write_of, is_reject, CallsFor, is_to_go, Way, way_runs, along_split, filter, some_same, called_grows, quiet_grows, grows_refl, judged_of, binding, map_has, distinct_filter}
+use Rattle.ug_table.proofs.Common.{Has, IsOpenable, AllDistinct, Terms, terms_for, did_default, with_default, defaulted_known, default_due, default_write, Default, Target, Control, Authorized, Remove, Write, Wrote, Put, Close, Told, Closing, Ask_alive, Names, Device, Kernel, Moves, IsKernel, Live, IsWritten, IsGoneAt, says_put, Called, says_listing, Grows, Quiet, calls, Runs, RemoveHold, Entry, State, Answers, Laters, known_of, standing_of, without, with_standing, place_for, lists, farewells, Tries, IsDevice, MayHave, MayHaveNot, wrote_entries, HasDone, WasDone, IsOnce, control_of, is_done, IsFirst, Account, Start, Had, Had_not, AreInOrder, none_before, IsProbed, Stand, numbers_of, Judge, IsOne, IsTold, HasStanding, IsFair, IsDoneMarked, swept_before, IsGone, Went as WentAway, gone_of, Standing, Settled, Made, answered, Along, failure_of, FailedCall, parent_of, Judged, Held, Cause, Bound, Binding, Known, in_sweep_order, unlisted_files, Fault, Probe, Listing, names_of, parted, marked_listed, sweeping, unsettled_by, standing_for, judged_entry, tried_standings, dropped, has_right, distinct_one, has_map, has_new, has_old, filter_has, has_filter, write_of, is_reject, CallsFor, is_to_go, Way, way_runs, along_split, filter, some_same, called_grows, called_quiet, quiet_grows, grows_refl, judged_of, binding, map_has, distinct_filter}
 use Rattle.ug_kernel.specs.declared.device.HeldFile.{HeldFile}
 use Rattle.ug_kernel.specs.declared.device.Effect.{Effect}
 use Rattle.ug_node.specs.Removal.{holding, HoldSays}
 use Rattle.ug_node.proofs.Laws.{holding_law, gone_later, binding_law}
-use Rattle.ug_table.proofs.Standings.{did_stands, IsHeldAs, file_same, file_later, IsFileOf, found, with_own, each_with, listed_is, IsOpen, open_name}
+use Rattle.ug_table.proofs.Standings.{did_stands, Owned, owned_refl, owned_quiet, owned_apart, IsHeldAs, file_same, file_later, IsFileOf, found, with_own, each_with, listed_is, IsOpen, open_name}
 use Rattle.ug_table.proofs.OnePart.{value_twice}
-use Rattle.ug_table.proofs.Devices.{device_stays, stand_stays, probed_from}
+use Rattle.ug_table.proofs.Devices.{device_stays, stand_stays}
+use Rattle.ug_table.proofs.Lived.{piece_apart, stand_files}
 use Rattle.ug_table.proofs.Steps.{did_same, default_marks, Same as Alike, Marks, KeepMarks, none_of, NoneDone, AreMarked, keeps_itself, done_marks, done_more, marks_keep, keep_one, keep_marks, FairFrom, fair_trans, StepFrom, fair_by, After, same_refl, plain_fair, keep_fair, fair_end, then_quiet, then_called, then_note, then_same, then_went, one_itself, without_less, tried_after, left_all, in_order, stand_by, stand_of, fair_refl, gone_device, account_stays}
 use Rattle.ug_table.proofs.Shapes.{Written, Done, Went, Broke, Valued, Same, Set, Unheld, Gone_by, Failed_by, Short_by, OnceMade, Not_held, Put_on, Carried, By_value, And_removal, Brought, Left_open, Let_go, Treated, No_default, And_default, Cut_default, Gone_default, due_is, told_at, Piece, Opening, Fresh, Lost, Unbound_end, Failed_so, Short_so, Flat, Unprobed, Tried, Stopped, Unbound, No_place, Judged_so, IsGiven, next_after, judge_after, opening_none, opening_absent}
 use Rattle.ug_types.specs.declared.record.Attrs.{Attrs}
@@ -308,16 +309,28 @@ bound_device name k l b x =
     let own : judged_of x.d.name b.attrs b.parent ≡ judged_of x.d.name (attrs_of x.d) b.parent = ap (λ (v : Attrs). judged_of x.d.name v b.parent) x.own in
     record { d = x.d; device = x.device; file = x.file; named = x.named; of = (b.parent, x.parents, cc (named, own)) }
 
-bound_fair : {J : Type 0} {answer : Answers J} {later : Laters J} {terms : Terms} {tried : Tries} {k n : Kernel} {w u : State J} (m : Kernel) (name : List ℕ) (b : Bound) → IsKernel m → Quiet n m → IsBound name n m b → (Has (names_of u.standings) name → ⊥) → AreIn tried name w u → FairFrom answer later terms tried k w n u → FairFrom answer later terms tried k w m (just_judged answer later u name b.held.0 (judged_of name b.attrs b.parent) terms b.on)
+-- the value that was probed is the one that the device had where its name's devices kept theirs
+met_by : (name : List ℕ) (k n m : Kernel) (b : Bound) (x : IsBound name n m b) → Grows k n → Quiet n m → Owned name k n → (d : Device) → slice_get k.devices x.i ≡ Some d → d.on ≡ b.on
+met_by name k n m b x g q own d at =
+    let p = g.devices x.i d at in
+    let r = q.devices x.i p.0 p.1 in
+    let same : r.0 ≡ x.d = some_same (slice_get m.devices x.i) r.0 x.d r.1 x.device in
+    let named : d.name ≡ name = sym p.2.name ∙ sym r.2.stays.name ∙ ap (λ (v : Device). v.name) same ∙ x.named in
+    let now = own x.i d.on d at named (d, at, refl) in
+    let here : now.0 ≡ p.0 = some_same (slice_get n.devices x.i) now.0 p.0 now.1 p.1 in
+    sym now.2 ∙ ap (λ (v : Device). v.on) here ∙ sym r.2.on ∙ ap (λ (v : Device). v.on) same ∙ x.value
+
+bound_fair : {J : Type 0} {answer : Answers J} {later : Laters J} {terms : Terms} {tried : Tries} {k n : Kernel} {w u : State J} (m : Kernel) (name : List ℕ) (b : Bound) → IsKernel m → Quiet n m → IsBound name n m b → (Has (names_of u.standings) name → ⊥) → AreIn tried name w u → Owned name k n → FairFrom answer later terms tried k w n u → FairFrom answer later terms tried k w m (just_judged answer later u name b.held.0 (judged_of name b.attrs b.parent) terms b.on)
 unfolding judged_fair
-bound_fair {J} {answer} {later} {terms} {tried} {k} {n} {w} {u} m name b sound q x absent so h =
-    let probed : IsProbed n m name b.held.0 x.i b.on = record { first = n; last = m; since = grows_refl n; lived = x.lived; until = grows_refl m } in
+bound_fair {J} {answer} {later} {terms} {tried} {k} {n} {w} {u} m name b sound q x absent so own h =
+    let probed : IsProbed n m name b.held.0 x.i b.on = record { first = n; last = m; since = grows_refl n; lived = x.lived; until = grows_refl m; met = met_by name n n m b x (grows_refl n) q (owned_refl name n) } in
+    let since : IsProbed k m name b.held.0 x.i b.on = record { first = n; last = m; since = h.fair.grows; lived = x.lived; until = grows_refl m; met = met_by name k n m b x h.fair.grows q own } in
     let judged = judged_of name b.attrs b.parent in
     let device = bound_device name n m b x in
     let step = judged_fair answer later terms n m u name b.held.0 x.i judged b.on sound q device probed absent h.fair.stand in
     let now = just_judged answer later u name b.held.0 judged terms b.on in
     let before = account_stays answer later terms tried k n m w.standings k.log w.judge w.next h.fair.rest n.log u.judge u.next (quiet_grows n m q) h.fair.account in
-    let whole : Account answer later terms tried k m w.standings k.log w.judge w.next (h.fair.rest ++ judged_entry u name b.held.0 (given_of answer u name judged terms b.on) ∷ []) n.log now.judge now.next = Judge h.fair.rest n.log u.judge u.next x.i name b.held judged b.on u.standings device (probed_from k n m name b.held.0 x.i b.on h.fair.grows probed) (stand_stays n m u.standings u.next (quiet_grows n m q) h.fair.stand) h.fair.left (so h.fair.rest h.fair.entries) before in
+    let whole : Account answer later terms tried k m w.standings k.log w.judge w.next (h.fair.rest ++ judged_entry u name b.held.0 (given_of answer u name judged terms b.on) ∷ []) n.log now.judge now.next = Judge h.fair.rest n.log u.judge u.next x.i name b.held judged b.on u.standings device since (stand_stays n m u.standings u.next (quiet_grows n m q) h.fair.stand) h.fair.left (so h.fair.rest h.fair.entries) before in
     fair_by h step (subst (λ (v : List Effect). Account answer later terms tried k m w.standings k.log w.judge w.next (h.fair.rest ++ judged_entry u name b.held.0 (given_of answer u name judged terms b.on) ∷ []) v now.judge now.next) (sym q.log) whole)
 
 -- a known device is brought to its verdict
@@ -415,14 +428,18 @@ then_failed {m = m} {u = u} name known failed at h =
 -- before a binding, the name has no standing left
 record OpensFair {J : Type 0} (answer : Answers J) (later : Laters J) (terms : Terms) (tried : Tries) (k : Kernel) (w : State J) (l : Kernel) (v : State J) (name : List ℕ) (binds : Bool) : Type 0 where
   fair : FairFrom answer later terms tried k w l v
-  so : binds ≡ true → AreIn tried name w v
+  so : binds ≡ true → AreIn tried name w v × Owned name k l
 
-opening_fair : {J : Type 0} {answer : Answers J} {later : Laters J} {terms : Terms} {tried : Tries} {binds : Bool} {k m : Kernel} {w u : State J} {name : List ℕ} {ms : List Made} {es : List Entry} {rs : List Standing} (l : Kernel) → Opening name u.standings ms es rs → (binds ≡ true → AreIn tried name w u) → FairFrom answer later terms tried k w m u → Along calls m ms l → OpensFair answer later terms tried k w l (record u { standings = rs; entries = u.entries ++ es }) name binds
+opening_fair : {J : Type 0} {answer : Answers J} {later : Laters J} {terms : Terms} {tried : Tries} {binds : Bool} {k m : Kernel} {w u : State J} {name : List ℕ} {ms : List Made} {es : List Entry} {rs : List Standing} (l : Kernel) → Opening name u.standings ms es rs → (binds ≡ true → AreIn tried name w u × Owned name k m) → FairFrom answer later terms tried k w m u → Along calls m ms l → OpensFair answer later terms tried k w l (record u { standings = rs; entries = u.entries ++ es }) name binds
 opening_fair {J} {answer} {later} {terms} {tried} {binds} {k} {m} {w} {u} {name} l (Fresh e) so h a =
-    subst (λ (v : List Entry). OpensFair answer later terms tried k w l (record u { entries = v }) name binds) (sym (append-nil u.entries)) (record { fair = fair_end l u refl a h; so = so })
-opening_fair {tried = tried} {w = w} {u = u} {name = name} l (Lost known failed shut e) so h a = record {
+    subst (λ (v : List Entry). OpensFair answer later terms tried k w l (record u { entries = v }) name binds) (sym (append-nil u.entries)) (record { fair = fair_end l u refl a h; so = λ b. subst (λ (v : Kernel). AreIn tried name w u × Owned name k v) (sym a) (so b) })
+opening_fair {tried = tried} {k = k} {m = m} {w = w} {u = u} {name = name} l (Lost known failed shut e) so h a = record {
   fair = fair_end l _ refl a.2.2 (then_called (Close known.held.0) shut a.2.0 tt a.2.1 (then_dropped name known e a.1.says (then_called (Ask_alive known.held.0) (told_at Probe.Gone failed) a.0 tt a.1 h)));
-  so = λ b. dropped_in tried w u name known.number h.fair.rest h.fair.entries (so b);
+  so = λ b.
+      let q = called_quiet (Ask_alive known.held.0) (told_at Probe.Gone failed) m a.0 tt a.1 in
+      let r = called_quiet (Close known.held.0) shut a.0 a.2.0 tt a.2.1 in
+      let own = owned_quiet name k a.0 a.2.0 (owned_quiet name k m a.0 (so b).1 q) r in
+      (dropped_in tried w u name known.number h.fair.rest h.fair.entries (so b).0, subst (λ (v : Kernel). Owned name k v) (sym a.2.2) own);
 }
 
 -- the state after a name's part
@@ -446,7 +463,7 @@ binds_fair {n = n} m name ns r way h a =
     let law = binding_law name (parent_of name) r n m refl h.fair.sound (way_runs calls (binding name (parent_of name)) ns n r m way a) in
     (law.sound, law.quiet, law.says, then_quiet m law.sound law.quiet h)
 
-flat_fair : {J : Type 0} {answer : Answers J} {later : Laters J} {terms : Terms} {tried : Tries} {binds : Bool} {given : List Standing → Bound → Standing → Type 0} {k m : Kernel} {w u : State J} {name : List ℕ} {ok : Bool} {ms : List Made} {rest : List Entry} {how : Settled} {rs : List Standing} {o : Option (List Standing × Bound)} (l : Kernel) → Flat terms.hub binds given name u.standings ok ms rest how rs o → ((ss : List Standing) (b : Bound) (x : Standing) → given ss b x → IsGiven answer terms name u ss b x) → (binds ≡ true → AreIn tried name w u) → FairFrom answer later terms tried k w m u → Along calls m ms l → FairFrom answer later terms tried k w l (ended_as later terms name u o rs rest)
+flat_fair : {J : Type 0} {answer : Answers J} {later : Laters J} {terms : Terms} {tried : Tries} {binds : Bool} {given : List Standing → Bound → Standing → Type 0} {k m : Kernel} {w u : State J} {name : List ℕ} {ok : Bool} {ms : List Made} {rest : List Entry} {how : Settled} {rs : List Standing} {o : Option (List Standing × Bound)} (l : Kernel) → Flat terms.hub binds given name u.standings ok ms rest how rs o → ((ss : List Standing) (b : Bound) (x : Standing) → given ss b x → IsGiven answer terms name u ss b x) → (binds ≡ true → AreIn tried name w u × Owned name k m) → FairFrom answer later terms tried k w m u → Along calls m ms l → FairFrom answer later terms tried k w l (ended_as later terms name u o rs rest)
 flat_fair {name = name} l (Unprobed known failed at) is so h a = fair_end l _ refl a.2 (then_failed name known failed at (then_called (Ask_alive known.held.0) (told_at Probe.Failed failed) a.0 tt a.1 h))
 flat_fair {name = name} l (Tried known on failed d ms es how at b) is so h a = known_settled l name known on at (then_called (Ask_alive known.held.0) (told_at (Probe.Alive on) failed) a.0 tt a.1 h) b a.2
 flat_fair l (Stopped ms es rs f opening) is so h a = (opening_fair l opening so h a).fair
@@ -467,7 +484,7 @@ flat_fair {J} {answer} {later} {terms} {tried} {k = k} {m = m} {w = w} {u = u} {
     let n = far.0 in
     let y = binds_fair n name ns (Binding.Bound b) way o.fair far.1 in
     let judged : Judged = judged_of name b.attrs b.parent in
-    let first = bound_fair n name b y.0 y.1 y.2 (opening_absent opening) (o.so t) o.fair in
+    let first = bound_fair n name b y.0 y.1 y.2 (opening_absent opening) (o.so t).0 (o.so t).1 o.fair in
     let now = just_judged answer later v name b.held.0 judged terms b.on in
     let s = new_standing answer v name b.held.0 judged terms b.on in
     let e = judged_entry v name b.held.0 (given_of answer v name judged terms b.on) in
@@ -479,7 +496,7 @@ flat_fair {J} {answer} {later} {terms} {tried} {k = k} {m = m} {w = w} {u = u} {
 
 pub piece_fair : {J : Type 0} {answer : Answers J} {later : Laters J} {binds : Bool} {terms : Terms}
     {tried : Tries} {name : List ℕ} {how : Settled} {ok : Bool} {ms : List Made} {k m l : Kernel}
-    {w u v : State J} → (binds ≡ true → AreIn tried name w u)
+    {w u v : State J} → (binds ≡ true → AreIn tried name w u × Owned name k m)
     → FairFrom answer later terms tried k w m u
     → Piece answer later binds terms name u ok ms how v → Along calls m ms l
     → FairFrom answer later terms tried k w l v
@@ -497,24 +514,30 @@ piece_fair {J} {answer} {later} {terms = terms} {tried = tried} {name = name} {k
 abbrev Awaits : {J : Type 0} → List (List ℕ) → State J → State J → Type 0
 Awaits names w u = AllDistinct names × AreInOrder names × AreSplit names w u × AreFresh names w u
 
+-- the devices of those names keep their values
+abbrev AreOwned : List (List ℕ) → Kernel → Kernel → Type 0
+AreOwned names k l = (name : List ℕ) → Has names name → Owned name k l
+
 chain_fair : {J : Type 0} {answer : Answers J} {later : Laters J} {binds : Bool} {terms : Terms}
     {names : List (List ℕ)} {k m : Kernel} {w u v : State J} {ok : Bool} {ms : List Made}
-    {es : List Entry} (l : Kernel) → (binds ≡ true → Awaits names w u)
+    {es : List Entry} (l : Kernel) → (binds ≡ true → Awaits names w u × AreOwned names k m)
     → FairFrom answer later terms swept_before k w m u
     → Chain answer later binds terms names u ok ms es v → Along calls m ms l
     → FairFrom answer later terms swept_before k w l v
 chain_fair {answer = answer} {later = later} {terms = terms} {k = k} {w = w} l so h (Over x) a =
     subst (λ (n : Kernel). FairFrom answer later terms swept_before k w n x) (sym a) h
-chain_fair {m = m} {w = w} l so h (First name names how u x v ok more ms ns es p c) a =
+chain_fair {k = k} {m = m} {w = w} l so h (First name names how u x v ok more ms ns es p c) a =
     let rest = h.fair.rest in
     let e = h.fair.entries in
     let cut = along_split calls ms ns m l a in
     let part = flat_part p.flat in
+    let others = (piece_apart h.fair.sound (stand_files m u.standings u.next h.fair.stand) p cut.1).others in
     chain_fair l
     (λ b.
-    let q = so b in
-    (q.0.1, q.1.1, part_split w u name names rest p.rest x e p.entries q.1 q.2 (q.3 rest e name (inl refl)) part, part_fresh w u name names rest p.rest x e p.entries q.0 q.3 part))
-    (piece_fair (λ b. let q = so b in split_in name names w u q.1 q.2) h p cut.1) c cut.2
+    let q = (so b).0 in
+    let own : AreOwned names k cut.0 = λ n has. owned_apart n name k m cut.0 h.fair.grows (λ same. q.0.0 (subst (λ (v : List ℕ). Has names v) same has)) ((so b).1 n (inr has)) others in
+    ((q.0.1, q.1.1, part_split w u name names rest p.rest x e p.entries q.1 q.2 (q.3 rest e name (inl refl)) part, part_fresh w u name names rest p.rest x e p.entries q.0 q.3 part), own))
+    (piece_fair (λ b. let q = (so b).0 in (split_in name names w u q.1 q.2, (so b).1 name (inl refl))) h p cut.1) c cut.2
 
 -- an entry for each standing that isn't listed
 
@@ -636,11 +659,10 @@ goes_fair {answer = answer} {later = later} {k = k} {l = l} {w = w} sound stand
     in
     let h = fair_trans f
     (parted_fair answer later (terms_for w) swept_before m w names f.fair.sound f.fair.stand gone) in
+    let own : AreOwned names k cut.0 = λ n has. owned_quiet n k m cut.0 (owned_quiet n k k m (owned_refl n k) (called_quiet Names a k m tt b.1)) q.1 in
     chain_fair l (λ e. (
-      order_distinct found b.1.says.1,
-      sweep_in_order found b.1.says.1,
-      parted_split names w,
-      parted_fresh names w,
+      (order_distinct found b.1.says.1, sweep_in_order found b.1.says.1, parted_split names w, parted_fresh names w),
+      own,
     )) (then_quiet cut.0 q.0 q.1 (then_listed h))
     chain cut.2
 goes_fair {answer = answer} {later = later} {k = k} {l = l} {w = w} sound stand

@@ -263,6 +263,22 @@ others_trans name k m l g a b i on d e ne v =
 pub others_quiet : (name : List ℕ) (k l : Kernel) → Quiet k l → Others name k l
 others_quiet name k l q i on d e ne v = quiet_value k l i on q v
 
+-- and those of this name do
+abbrev pub Owned : List ℕ → Kernel → Kernel → Type 0
+Owned name k l = (i : ℕ) (on : Bool) (d : Device) → slice_get k.devices i ≡ Some d → d.name ≡ name → Value k i on → Value l i on
+
+pub owned_refl : (name : List ℕ) (k : Kernel) → Owned name k k
+owned_refl name k i on d e is v = v
+
+pub owned_quiet : (name : List ℕ) (k m l : Kernel) → Owned name k m → Quiet m l → Owned name k l
+owned_quiet name k m l own q i on d e is v = quiet_value m l i on q (own i on d e is v)
+
+-- behind what leaves the devices of all other names as they are
+pub owned_apart : (name other : List ℕ) (k m l : Kernel) → Grows k m → (name ≡ other → ⊥) → Owned name k m → Others other m l → Owned name k l
+owned_apart name other k m l g ne own others i on d e is v =
+    let x = g.devices i d e in
+    others i on x.0 x.1 (λ same. ne (sym is ∙ sym x.2.name ∙ same)) (own i on d e is v)
+
 -- the held file is of a device of that name
 pub record IsOpen (k : Kernel) (name : List ℕ) (held : ℕ) : Type 0 where
   pub i : ℕ
