@@ -45,10 +45,10 @@ reads_unwritten No_more = tt
 reads_unwritten (Then_read of at t ms may came r) = (tt, reads_unwritten r)
 
 binds_unwritten : {name : List ℕ} {ms : List Made} {r : Binding} → Binds_by name ms r → Unwritten ms
-binds_unwritten (Cut file call count ms of at t shut why r n few may stops e) = (tt, unwritten_more ms _ (reads_unwritten n) (tt, (tt, tt)))
-binds_unwritten (Probed_gone file call count number total ms shut n few) = (tt, unwritten_more ms _ (reads_unwritten n) (tt, (tt, tt)))
-binds_unwritten (Probe_failed file call count number total ms shut n few) = (tt, unwritten_more ms _ (reads_unwritten n) (tt, (tt, tt)))
-binds_unwritten (Bound_by call count number total ms b n few are) = (tt, unwritten_more ms _ (reads_unwritten n) (tt, tt))
+binds_unwritten (Cut file call count ms of at t shut why r left n first may stops e) = (tt, unwritten_more ms _ (reads_unwritten n) (tt, (tt, tt)))
+binds_unwritten (Probed_gone file call count number total ms shut n first) = (tt, unwritten_more ms _ (reads_unwritten n) (tt, (tt, tt)))
+binds_unwritten (Probe_failed file call count number total ms shut n first) = (tt, unwritten_more ms _ (reads_unwritten n) (tt, (tt, tt)))
+binds_unwritten (Bound_by call count number total ms b n first are) = (tt, unwritten_more ms _ (reads_unwritten n) (tt, tt))
 binds_unwritten x = (tt, tt)
 
 -- what a reading tells
@@ -59,7 +59,7 @@ read_kept Attr.Product d e h = ap (λ (x : Option (List ℕ)). text_within x) (s
 read_kept Attr.Serial d e h = ap (λ (x : Option (List ℕ)). text_within x) (sym h.serial)
 read_kept Attr.Connect d e h = ap (λ (x : Option (List ℕ)). text_within x) (sym h.connect)
 
-came_says : (of : List ℕ) (a : Attr) (r : ReadOut) (k l : Kernel) → Came r → says_read of a r k l → IsFile of a r k l
+came_says : (of : List ℕ) (a : Attr) (r : ReadOut) (k l : Kernel) → Came r a → says_read of a r k l → IsFile of a r k l
 came_says of a ReadOut.Failed k l c h = absurd c
 came_says of a ReadOut.Memory k l c h = absurd c
 came_says of a x k l c h = h
@@ -227,16 +227,16 @@ binds_say : {name : List ℕ} {ms : List Made} {r : Binding} (k l : Kernel) → 
 binds_say {name} k l (No_such call count) a =
     let none = subst (λ v. NoneHas Authorized name k v) (sym a.2) a.1.says in
     λ i d lives named. none i d lives named refl
-binds_say {name} k l (Cut file call count ms of at t shut why r n few may stops e) a =
+binds_say {name} k l (Cut file call count ms of at t shut why r left n first may stops e) a =
     let cut = along_split calls ms (answered (Read of at) t ∷ answered (Close file.0) shut ∷ []) a.0 l a.2 in
     let g = grows_trans k a.0 cut.0 (called_grows (Open name Authorized) (told (Opened.Token file) call count) k a.0 a.1) (along_grows ms a.0 cut.0 cut.1) in
     subst (λ v. BindSays name k l v) (sym e) (stop_says k cut.0 cut.2.0 l may stops (along_sound ms a.0 cut.0 a.1.sound cut.1) cut.2.1 g (along_grows (answered (Close file.0) shut ∷ []) cut.2.0 l cut.2.2))
-binds_say {name} k l (Probed_gone file call count number total ms shut n few) a =
+binds_say {name} k l (Probed_gone file call count number total ms shut n first) a =
     let gone = answered (Ask_alive file.0) (told Probe.Gone number total) in
     let cut = along_split calls ms (gone ∷ answered (Close file.0) shut ∷ []) a.0 l a.2 in
     let q = quiet_trans a.0 cut.0 cut.2.0 (along_quiet ms a.0 cut.0 (reads_unwritten n) cut.1) (called_quiet (Ask_alive file.0) (told Probe.Gone number total) cut.0 cut.2.0 tt cut.2.1) in
     gone_law name k file.0 cut.2.0 l (open_since name file call count k a.0 cut.2.0 a.1 q) (along_grows (answered (Close file.0) shut ∷ []) cut.2.0 l cut.2.2) cut.2.1.says
-binds_say {name} k l (Bound_by call count number total ms b n few are) a =
+binds_say {name} k l (Bound_by call count number total ms b n first are) a =
     let last = answered (Ask_alive b.held.0) (told (Probe.Alive b.on) number total) ∷ [] in
     let cut = along_split calls ms last a.0 l a.2 in
     bound_law k a.0 cut.0 l b (open_since name b.held call count k a.0 a.0 a.1 (quiet_refl a.0)) n are a.1.sound cut.1 cut.2.1.says (along_quiet last cut.0 l (tt, tt) cut.2)
@@ -284,8 +284,8 @@ stop_tells front of held shut v w x a = tt
 
 binds_tell : {name : List ℕ} {ms : List Made} {r : Binding} (v w : Tally) → Binds_by name ms r → Along counts v ms w → TellsFault v.faults w.calls w.faults r
 binds_tell v w (Open_failed call count) a = subst (λ (x : Tally). IsFault v.faults x.calls x.faults (record { call = call; count = count })) (sym a.2) (fault_so failed_open (told Opened.Failed call count) v a.0 refl a.1)
-binds_tell {name} v w (Cut file call count ms of at t shut why r n few may stops e) a = subst (λ (x : Binding). TellsFault v.faults w.calls w.faults x) (sym e) (stop_tells (answered (Open name Authorized) (told (Opened.Token file) call count) ∷ ms) of file.0 shut v w stops a)
-binds_tell {name} v w (Probe_failed file call count number total ms shut n few) a = ends_closed (answered (Open name Authorized) (told (Opened.Token file) call count) ∷ ms) (answered (Ask_alive file.0) (told Probe.Failed number total)) file.0 shut (record { call = number; count = total }) v w (λ x y c. fault_so failed_probe (told Probe.Failed number total) x y refl c) a
+binds_tell {name} v w (Cut file call count ms of at t shut why r left n first may stops e) a = subst (λ (x : Binding). TellsFault v.faults w.calls w.faults x) (sym e) (stop_tells (answered (Open name Authorized) (told (Opened.Token file) call count) ∷ ms) of file.0 shut v w stops a)
+binds_tell {name} v w (Probe_failed file call count number total ms shut n first) a = ends_closed (answered (Open name Authorized) (told (Opened.Token file) call count) ∷ ms) (answered (Ask_alive file.0) (told Probe.Failed number total)) file.0 shut (record { call = number; count = total }) v w (λ x y c. fault_so failed_probe (told Probe.Failed number total) x y refl c) a
 binds_tell v w x a = tt
 
 holds_tell : {control : Control} {name : List ℕ} {held : ℕ} {ms : List Made} {r : RemoveHold} (v w : Tally) → Holds_by control name held ms r → Along counts v ms w → TellsHoldFault v.faults w.calls w.faults r

@@ -1,2 +1,3 @@
 pub mod BindShapes
+pub mod CallOrders
 pub mod Laws

@@ -1,4 +1,5 @@
 pub mod Files
 pub mod Bind
 pub mod Bound
+pub mod CallOrder
 pub mod Removal

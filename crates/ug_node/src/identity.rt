@@ -4,6 +4,7 @@ ghost use Rattle.ug_types.specs.Names.{parent_of};
 ghost use Rattle.ug_kernel.specs.Tree.{Runs};
 ghost use Rattle.ug_node.specs.Bind.{binding};
 ghost use Rattle.ug_node.specs.Bound.{Binds, TellsFault};
+ghost use Rattle.ug_node.specs.CallOrder.{BindsInOrder};
 
 use crate::failed::failed_call;
 use crate::files::{Stop, read_own, read_parent};
@@ -52,6 +53,7 @@ impl From<Stop> for Binding {
 pub fn bind<Y: Sysfs>(alloc: Global, sysfs: &mut Y, name: &NodeName) -> Binding
     ensures runs { Runs Y.gives sysfs.old (binding name.now (parent_of name.now)) result sysfs.new }
     ensures law { Binds Y.told sysfs.old name.now result sysfs.new }
+    ensures order { BindsInOrder Y.gives sysfs.old name.now result sysfs.new }
     ensures fault { TellsFault (Y.faults sysfs.old) (Y.calls sysfs.new) (Y.faults sysfs.new) result }
 {
     bind_below(alloc, sysfs, name, name.parent())

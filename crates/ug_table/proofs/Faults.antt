@@ -12,16 +12,16 @@ use Rattle.ug_table.proofs.Chains.{closings_calm, Chain, Over, First, Without, L
 chain_parts : {J : Type 0} {answer : Answers J} {later : Laters J} {binds : Bool} {terms : Terms}
     {names : List (List ℕ)} {w v : State J} {ok : Bool} {ms : List Made} {es : List Entry}
     → Chain answer later binds terms names w ok ms es v
-    → InParts terms.hub names w.standings v.standings ms es
+    → InParts terms.hub binds names w.standings v.standings ms es
 chain_parts (Over w) = (refl, refl, refl)
 chain_parts (First name names how w x v ok more ms ns es p c) =
     (x.standings, ms, ns, p.rest, es, refl, refl, flat_is_part p.flat, chain_parts c)
 
 unlisted_begins : {list : Listing} {failed : FailedCall} {room : Bool} {why : Fault}
     (ss : List Standing) → Without list failed room why
-    → AfterListing list failed ss (Entry.UnsettledAll why ∷ []) ss (names_of ss) []
-unlisted_begins ss (No_room found failed) = inr (refl, refl, refl, refl)
-unlisted_begins ss x = (refl, refl, refl, refl)
+    → AfterListing list failed ss (Entry.UnsettledAll why ∷ []) ss (names_of ss) [] false
+unlisted_begins ss (No_room found failed) = inr (refl, refl, refl, refl, refl)
+unlisted_begins ss x = (refl, refl, refl, refl, refl)
 
 -- the numbers that are given out
 
@@ -74,7 +74,8 @@ in_parts {w = w} a (Listed found failed ok shut made es v closings c) =
       shut = shut;
       made = made;
       cut = refl;
-      begins = inl (refl, refl, refl, closings);
+      binds = true;
+      begins = inl (refl, refl, refl, refl, closings);
       parts = chain_parts c;
       next = chain_next c;
       given = omega (arith, chain_given c, length-sweep_order found);
@@ -92,6 +93,7 @@ in_parts {w = w} a (Unlisted list failed room why ok made es v by c) =
       shut = [];
       made = made;
       cut = refl;
+      binds = false;
       begins = unlisted_begins w.standings by;
       parts = chain_parts c;
       next = chain_next c;

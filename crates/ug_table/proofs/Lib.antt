@@ -13,6 +13,7 @@ pub mod Chains
 pub mod Marks
 pub mod Swept
 pub mod PartCalls
+pub mod PartOrders
 pub mod OnePart
 pub mod Faults
 pub mod Once

@@ -95,7 +95,7 @@ lives_on {name} {known} {i} {k = k} {l = l} u same g h x = record {
 }
 
 -- a part that tells the name for want of memory
-part_spared : (hub : Option Write) (name : List ℕ) (known : Known) (i : ℕ) (k l : Kernel) (ss rs : List Standing) (ms : List Made) (es : List Entry) → Part hub name ss rs ms es → Lives name known i ss k l → Along calls k ms l → Has es (Entry.Unsettled name Fault.Memory) → NeedsMemory hub name known
+part_spared : {binds : Bool} (hub : Option Write) (name : List ℕ) (known : Known) (i : ℕ) (k l : Kernel) (ss rs : List Standing) (ms : List Made) (es : List Entry) → Part hub binds name ss rs ms es → Lives name known i ss k l → Along calls k ms l → Has es (Entry.Unsettled name Fault.Memory) → NeedsMemory hub name known
 part_spared hub name known i k l ss rs ms es part lives a told = elim (part.memory told) [
   | inl anew ↦ absurd (elim anew [
     | inl none ↦ let at = lives.at in let none : ⊥ = cc in none
@@ -126,7 +126,7 @@ chain_spared : {J : Type 0} {answer : Answers J} {later : Laters J} {binds : Boo
     → Chain answer later binds terms names w ok ms es v → Lives name known i w.standings k l
     → Along calls k ms l → Has es (Entry.Unsettled name Fault.Memory) → NeedsMemory terms.hub name known
 chain_spared d (Over w) lives a told = absurd told
-chain_spared {terms = terms} {name = name} {known = known} {i = i} {k = k} {l = l} d
+chain_spared {binds = binds} {terms = terms} {name = name} {known = known} {i = i} {k = k} {l = l} d
     (First n names how w x v ok more ms ns es p c) lives a told =
     let cut = along_split calls ms ns k l a in
     let u = cut.0 in
@@ -136,7 +136,7 @@ chain_spared {terms = terms} {name = name} {known = known} {i = i} {k = k} {l = 
     elim (has_cases p.rest es (Entry.Unsettled name Fault.Memory) told) [
       | inl y ↦
           let is : name ≡ n = named_only n name p.rest (ends_only n p.rest part.last) (Fault.Memory, y) in
-          let own = subst (λ (z : List ℕ). Part terms.hub z w.standings x.standings ms p.rest) (sym is) part
+          let own = subst (λ (z : List ℕ). Part terms.hub binds z w.standings x.standings ms p.rest) (sym is) part
           in
           let mid = lives_between k u l i name g h lives.first lives.last in
           part_spared terms.hub name known i k u w.standings x.standings ms p.rest own

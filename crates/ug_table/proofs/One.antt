@@ -239,7 +239,7 @@ as_part : {S J : Type 0} (gives : S → (call : Call) → Answer call → S → 
     {later : Laters J} {binds : Bool} {terms : Terms} {name : List ℕ} {how : Settled} {ok : Bool}
     {ms : List Made} {s t : S} {w v : State J} → Piece answer later binds terms name w ok ms how v
     → Along gives s ms t
-    → GoesAsPart terms.hub gives calls faults name s w.standings w.entries t v.standings v.entries how
+    → GoesAsPart terms.hub binds gives calls faults name s w.standings w.entries t v.standings v.entries how
 as_part gives calls faults counted {name = name} {how = how} {ms = ms} {s = s} {t = t} p a =
     let part = flat_is_part p.flat in
     let why : whys p.rest ≡ why_of how = flat_whys p.flat in
@@ -257,7 +257,7 @@ as_part gives calls faults counted {name = name} {how = how} {ms = ms} {s = s} {
       rises = λ low. along_rises gives calls faults counted ms s t low a;
     }
 
-pub settling_part : {S J : Type 0} (gives : S → (call : Call) → Answer call → S → Type 0) (calls faults : S → ℕ) (counted : Counting gives calls faults) (answer : Answers J) (later : Laters J) (name : List ℕ) (terms : Terms) (w : State J) (s : S) (p : Settled × State J) (t : S) → Runs gives s (settling answer later name terms w) p t → GoesAsPart terms.hub gives calls faults name s w.standings w.entries t p.1.standings p.1.entries p.0
+pub settling_part : {S J : Type 0} (gives : S → (call : Call) → Answer call → S → Type 0) (calls faults : S → ℕ) (counted : Counting gives calls faults) (answer : Answers J) (later : Laters J) (name : List ℕ) (terms : Terms) (w : State J) (s : S) (p : Settled × State J) (t : S) → Runs gives s (settling answer later name terms w) p t → GoesAsPart terms.hub true gives calls faults name s w.standings w.entries t p.1.standings p.1.entries p.0
 settling_part gives calls faults counted answer later name terms w s p t h =
     let x = settling_run gives answer later name terms w s p t h in
     as_part gives calls faults counted x.so x.along
@@ -295,7 +295,7 @@ told_settles gives told did answer later name terms s w t p r = λ l e.
 
 -- the standing of a number
 
-pub numbered_part : {S : Type 0} (gives : S → (call : Call) → Answer call → S → Type 0) (calls faults : S → ℕ) (counted : Counting gives calls faults) (hub : Option Write) (number : ℕ) (k : Kept) (x : Standing) (s : S) (p : Settled × Kept) (t : S) → numbered number k.standings ≡ Some x → Runs gives s (resettling_numbered hub number k) p t → GoesAsPart hub gives calls faults x.name s k.standings k.entries t p.1.standings p.1.entries p.0
+pub numbered_part : {S : Type 0} (gives : S → (call : Call) → Answer call → S → Type 0) (calls faults : S → ℕ) (counted : Counting gives calls faults) (hub : Option Write) (number : ℕ) (k : Kept) (x : Standing) (s : S) (p : Settled × Kept) (t : S) → numbered number k.standings ≡ Some x → Runs gives s (resettling_numbered hub number k) p t → GoesAsPart hub false gives calls faults x.name s k.standings k.entries t p.1.standings p.1.entries p.0
 numbered_part gives calls faults counted hub number k x s p t e r =
     let y = numbered_run gives hub number k x s p t e r in
     as_part gives calls faults counted y.so y.along

@@ -6,6 +6,7 @@ use Rattle.ug_table.specs.Bring.{NeedsMemory, default_due}
 use Rattle.ug_table.proofs.Shapes.{Written, Done, Went, Valued, Same, Set, Unheld, Gone_by, Short_by, OnceMade, Not_held, Put_on, Carried, By_value, And_removal, Brought, Left_open, Let_go, Treated, No_default, And_default, Cut_default, Gone_default, due_is, due_once, Opening, Fresh, Lost, Unbound_end, Absent_so, Vanished_so, Flat, Unprobed, Tried, Stopped, Unbound, No_place, Judged_so, told_at, opening_none, flat_rest, new_known}
 use Rattle.ug_table.proofs.Standings.{known_as, did_stands, others_stand, stands_file, stands_number, without_own, tried_own}
 use Rattle.ug_table.proofs.PartCalls.{has_want, failed_by, are_short, behind_after, CallsOf, calls_are, calls_more, calls_within, calls_as, closed_first, binding_faults, binding_files, binds_calls, bound_few, treating_most, both_most, treating_least, root_most, IsFound, bound_found, hold_faults, hold_files, holds_calls, ready_due, default_found, hold_short}
+use Rattle.ug_table.proofs.PartOrders.{flat_order}
 
 -- entries
 
@@ -668,7 +669,7 @@ module _ {hub : Option Write} {binds : Bool} {given : List Standing → Bound �
     | inr x ↦ (x.0, x.1, lacks_needs hub name x.0 ms x.2)
   ]
 
-  pub flat_is_part : Part hub name ss rs ms rest
+  pub flat_is_part : Part hub binds name ss rs ms rest
   flat_is_part =
       let h = flat_goes f in
       let c = h.calls in
@@ -687,6 +688,7 @@ module _ {hub : Option Write} {binds : Bool} {given : List Standing → Bound �
         single = subst AtMostOneEach (sym c.puts) h.single;
         writes = subst (λ v. TellsWrites name v (writes_in rest)) (sym c.puts) e.writes;
         few = c.few;
+        order = flat_order f;
         bears = e.bears;
         numbers = e.numbers;
         given = omega (arith, flat_given, elim o as (λ v. given_count v ≤ 1) [ None ↦ omega arith | Some x ↦ omega arith ]);

@@ -9,6 +9,7 @@ use Rattle.ug_kernel.specs.Along.{count_calls}
 use Rattle.ug_kernel.proofs.Ways.{ways_more}
 use Rattle.ug_table.specs.One.{whys, why_of}
 use Rattle.ug_table.proofs.PartCalls.{has_want, are_short}
+use Rattle.ug_table.proofs.PartOrders.{brought_order}
 use Rattle.ug_kernel.proofs.Rises.{Counting, along_numbered, along_rises}
 use Rattle.ug_kernel.proofs.Runs.{runs_then}
 use Rattle.ug_table.proofs.Fair.{known_brought}
@@ -149,6 +150,7 @@ order_part gives calls faults counted next number verdict who on k x s p t order
       single = subst AtMostOneEach (sym g.calls.puts) g.single.0;
       writes = subst (λ v. TellsWrites y.name v (writes_in o.rest)) (sym g.calls.puts) g.entries.writes;
       few = g.calls.few;
+      order = brought_order o.brought;
       bears = g.entries.bears;
       numbers = subst (λ v. AreOfNumber (Some y.number) o.rest v) (so.1 ∙ ap number_of now) g.entries.numbers;
       given = g.entries.given;

@@ -8,7 +8,7 @@ use Rattle.ug_types.specs.declared.record.Attrs.{Attrs}
 use Rattle.ug_kernel.specs.declared.calls.Opened.{Opened}
 use Rattle.ug_kernel.specs.declared.calls.ReadOut.{ReadOut}
 use Rattle.ug_node.specs.declared.files.Stop.{Stop}
-use Rattle.ug_node.proofs.BindShapes.{told, IsReadable, Came, Reads, No_more, Then_read, Stops, No_descriptors, Binds_by, Cut, Probed_gone, Probe_failed, Bound_by, Files, Alone, Below, Holds_by, No_memory, Held_on, Died, Unasked, count_more}
+use Rattle.ug_node.proofs.BindShapes.{told, IsReadable, Came, Reads, No_more, Then_read, Stops, No_descriptors, Binds_by, Cut, Probed_gone, Probe_failed, Bound_by, Files, Alone, Below, Holds_by, No_memory, Held_on, Died, Unasked, count_more, first_few}
 
 -- answers that are want of memory
 
@@ -151,17 +151,17 @@ closed_first held control files =
 
 -- a binding
 
-came_well : (r : ReadOut) → Came r → (failed_read r ≡ false) × (short_read r ≡ false)
-came_well ReadOut.Failed c = absurd c
-came_well ReadOut.Memory c = absurd c
-came_well x c = (refl, refl)
+came_well : (r : ReadOut) (at : Attr) → Came r at → (failed_read r ≡ false) × (short_read r ≡ false)
+came_well ReadOut.Failed at c = absurd c
+came_well ReadOut.Memory at c = absurd c
+came_well x at c = (refl, refl)
 
 reads_calls : {name : List ℕ} {ms : List Made} (files : List OpenFile) (b : Behind) → Reads name ms
     → CallsOf name files b ms files [] [] (count_calls ms)
 reads_calls files b No_more = calls_are tt tt tt refl refl refl refl (omega arith)
 reads_calls {name} files b (Then_read of at t ms may came r) =
     let m : Made = answered (Read of at) t in
-    let well = came_well t.answer came in
+    let well = came_well t.answer at came in
     let f : FailedCall = record { call = t.number; count = t.count } in
     let failed : failures (m ∷ []) ≡ [] = ap (λ (v : Bool). (if v then f ∷ [] else []) ++ []) well.0
     in
@@ -215,21 +215,21 @@ stop_files x files = refl
 pub binds_calls : {name : List ℕ} {ms : List Made} {r : Binding} (files : List OpenFile)
     (b : Behind) → Binds_by name ms r
     → CallsOf name files b ms (binding_files r files) (binding_faults r) [] 9
-binds_calls {name} {ms} files b (Cut file call count ns of at t shut why r a few may stops e) =
-    let all = open_calls files b file call count a few
+binds_calls {name} {ms} files b (Cut file call count ns of at t shut why r left a first may stops e) =
+    let all = open_calls files b file call count a (first_few first)
     (λ c. stop_calls files c of file.0 shut may stops) in
     subst (λ v. CallsOf name files b ms (binding_files v files) (binding_faults v) [] 9) (sym e)
     (calls_as (stop_files why files) (omega arith) all)
-binds_calls files b (Probed_gone file call count number total ms shut a few) =
-    open_calls files b file call count a few
+binds_calls files b (Probed_gone file call count number total ms shut a first) =
+    open_calls files b file call count a (first_few first)
     (λ c. calls_are (inl refl, ((Authorized, inl refl), tt)) (inl refl, (inr tt, tt)) (tt, (tt, tt))
     (closed_first file.0 Authorized files) refl refl refl (omega arith))
-binds_calls files b (Probe_failed file call count number total ms shut a few) =
-    open_calls files b file call count a few
+binds_calls files b (Probe_failed file call count number total ms shut a first) =
+    open_calls files b file call count a (first_few first)
     (λ c. calls_are (inl refl, ((Authorized, inl refl), tt)) (inl refl, (inr tt, tt)) (tt, (tt, tt))
     (closed_first file.0 Authorized files) refl refl refl (omega arith))
-binds_calls files b (Bound_by call count number total ms x a few are) =
-    open_calls files b x.held call count a few
+binds_calls files b (Bound_by call count number total ms x a first are) =
+    open_calls files b x.held call count a (first_few first)
     (λ c. calls_are (inl refl, tt) (inl refl, tt) (tt, tt) refl refl refl refl (omega arith))
 binds_calls files b x = calls_are (refl, tt) (inl refl, tt) (tt, tt) refl refl refl refl
     (omega arith)
@@ -281,9 +281,9 @@ reads_open b (Then_read of at t ms may came r) e = reads_open (behind_more b (an
 
 pub bound_few : {name : List ℕ} {ms : List Made} {x : Bound}
     → Binds_by name ms (Binding.Bound x) → count_calls ms ≤ binding_most name
-bound_few {x = x} (Cut file call count ms of at t shut why r a few may stops e) =
+bound_few {x = x} (Cut file call count ms of at t shut why r left a first may stops e) =
     absurd (stop_unbound why x e)
-bound_few (Bound_by call count number total ms x a few are) =
+bound_few (Bound_by call count number total ms x a first are) =
     let end : Made = answered (Ask_alive x.held.0) (told (Probe.Alive x.on) number total) in
     let most = files_few are in
     let sum = count_more ms (end ∷ []) in
@@ -291,9 +291,9 @@ bound_few (Bound_by call count number total ms x a few are) =
 
 pub bound_found : {name : List ℕ} {ms : List Made} {x : Bound} (b : Behind)
     → Binds_by name ms (Binding.Bound x) → IsFound (behind_after b ms) x.held.0 x.on
-bound_found {x = x} b (Cut file call count ms of at t shut why r a few may stops e) =
+bound_found {x = x} b (Cut file call count ms of at t shut why r left a first may stops e) =
     absurd (stop_unbound why x e)
-bound_found {name} b (Bound_by call count number total ms x a few are) =
+bound_found {name} b (Bound_by call count number total ms x a first are) =
     let start : Made = answered (Open name Authorized) (told (Opened.Token x.held) call count) in
     let end : Made = answered (Ask_alive x.held.0) (told (Probe.Alive x.on) number total) in
     let c = behind_more b start in

@@ -9,6 +9,7 @@ pub mod Allowed
 pub mod Laws
 pub mod Order
 pub mod Marks
+pub mod PartOrder
 pub mod Parts
 pub mod One
 pub mod Orders

@@ -56,16 +56,20 @@ failed_of settled.Nobody = []
 failed_of (settled.Fault failed) = failed ∷ []
 failed_of settled.Memory = []
 
--- The settling of a name is one part of a sweep, from the standings and the entries before it to those after it. A fault is
--- answered just where a call of the part failed, with its number and count; and want of memory just where it is told. A standing of
--- the name is there where the answer says so, and none where it says that there is nobody. Calls are numbered on, and so both numbers
--- of a fault rise.
-pub record GoesAsPart {S : Type 0} (hub : Option Write) (gives : S → (call : Call) → Answer call → S → Type 0) (calls faults : S → ℕ) (name : List ℕ) (s : S) (before : List Standing) (es : List Entry) (t : S) (after : List Standing) (fs : List Entry) (how : Settled) : Type 0 where
+-- The settling of a name is one part of a sweep, in which a name without a standing is bound or isn't,
+-- from the standings and the entries before it to those after it. A fault is answered just where a
+-- call of the part failed, with its number and count; and want of memory just where it is told. A
+-- standing of the name is there where the answer says so, and none where it says that there is nobody.
+-- Calls are numbered on, and so both numbers of a fault rise.
+pub record GoesAsPart {S : Type 0} (hub : Option Write) (binds : Bool)
+    (gives : S → (call : Call) → Answer call → S → Type 0) (calls faults : S → ℕ) (name : List ℕ)
+    (s : S) (before : List Standing) (es : List Entry) (t : S) (after : List Standing)
+    (fs : List Entry) (how : Settled) : Type 0 where
   pub made : List Made
   pub along : Along gives s made t
   pub rest : List Entry
   pub entries : fs ≡ es ++ rest
-  pub part : Part hub name before after made rest
+  pub part : Part hub binds name before after made rest
   pub why : whys rest ≡ why_of how
   pub failed : failures made ≡ failed_of how
   pub stands : how ≡ settled.Stands → Has (names_of after) name

@@ -17,9 +17,11 @@ use Rattle.ug_kernel.specs.Calls.{Call, Answer, Ask_alive, Told}
 use Rattle.ug_kernel.specs.Kernel.{Kernel, IsKernel}
 use Rattle.ug_kernel.specs.Quiet.{Quiet}
 use Rattle.ug_kernel.specs.Tree.{Prog, Return, Ask, then}
+use Rattle.ug_node.specs.CallOrder.{OnlyCloses, GoBy}
 use Rattle.ug_audit.specs.declared.entry.Entry.{Entry}
 use Rattle.ug_audit.specs.declared.entry.Entry.TheVariants as entry
 use Rattle.ug_table.specs.Bring.{bringing}
+use Rattle.ug_table.specs.PartOrder.{verdict_acts}
 use Rattle.ug_table.specs.Laws.{Stand, AreDefaulted, Tries, IsFair, IsGone, IsAsJudged}
 use Rattle.ug_table.specs.One.{IsOf, whys, failed_of}
 use Rattle.ug_table.specs.Parts.{open_file, Behind, AreAbout, files_after, known_files, EndsAtFailure, AreDue, puts_of, AtMostOneEach, writes_in, TellsWrites, AllBear, number_of, AreOfNumber, numbers_given}
@@ -92,11 +94,15 @@ ordering number verdict who on k = to_order number verdict who on k (numbered nu
 abbrev pub behind_probe : ℕ → Told Probe → Behind
 behind_probe held t = record { last = Some (answered (Ask_alive held) t); earlier = None; found = Some (answered (Ask_alive held) t) }
 
--- The calls of an order on that standing, which has the ordered verdict. They are about its name, and are over with one that fails;
--- behind a probe that found the device alive with that value each write is due. Its verdict is told first, then the writes, and no
--- other verdict and no name as unsettled; each kind of write is made once at most. Each entry bears the name and the number. The
--- answer tells the call that failed, with its number and count, and whether the name has a standing still.
-pub record GoesAsOrder {S : Type 0} (gives : S → (call : Call) → Answer call → S → Type 0) (calls faults : S → ℕ) (x : Standing) (on : Bool) (s : S) (es : List Entry) (t : S) (after : List Standing) (fs : List Entry) (how : Settled) : Type 0 where
+-- The calls of an order on that standing, which has the ordered verdict. They are about its name, and
+-- are over with one that fails; they are just those of the verdict's writes, from that value on; behind
+-- a probe that found the device alive with it each write is due. The verdict is told first, then the
+-- writes, and no other verdict and no name as unsettled; each kind of write is made once at most. Each
+-- entry bears the name and the number. The answer tells the call that failed, with its number and
+-- count, and whether the name has a standing still.
+pub record GoesAsOrder {S : Type 0} (gives : S → (call : Call) → Answer call → S → Type 0)
+    (calls faults : S → ℕ) (x : Standing) (on : Bool) (s : S) (es : List Entry) (t : S)
+    (after : List Standing) (fs : List Entry) (how : Settled) : Type 0 where
   pub made : List Made
   pub along : Along gives s made t
   pub rest : List Entry
@@ -108,6 +114,7 @@ pub record GoesAsOrder {S : Type 0} (gives : S → (call : Call) → Answer call
   pub single : AtMostOneEach (puts_of made)
   pub writes : TellsWrites x.name (puts_of made) (writes_in rest)
   pub few : count_calls made ≤ 4
+  pub order : GoBy (verdict_acts x.name (known_of x) on) OnlyCloses made
   pub bears : AllBear x.name rest
   pub numbers : AreOfNumber (Some x.number) rest (number_of (standing_of x.name after))
   pub given : numbers_given rest ≡ []

@@ -34,6 +34,7 @@ use Rattle.ug_table.specs.declared.standing.Known.{Known}
 use Rattle.ug_types.specs.declared.verdict.Held.{Held}
 use Rattle.ug_table.specs.Done.{control_of}
 use Rattle.ug_table.specs.Bring.{is_to_go, default_due}
+use Rattle.ug_table.specs.PartOrder.{GoInOrder}
 
 -- the failed call that an `unsettled` entry tells
 abbrev pub told_by : Fault → List FailedCall
@@ -306,11 +307,13 @@ LacksRoom hub name stands calls =
     ⊎ ((what : Write) × (default_due hub name known ≡ Some what) × FoundNoRoom Default name calls))
 
 -- One name's part of a sweep, from the standings before it to those after it: its calls are about the name, and are over with
--- one that fails; the files that are open after them are those that the name's standing holds; its entries tell that failure, and no
--- other; what is told of want of memory is of a new device, or of one that is still to be removed; each write is due and told, and
--- there is one of each kind at most; there are few calls; each entry bears the name, and the number of its standing; one number at
--- most is given out; and the standings of other names stay.
-pub record Part (hub : Option Write) (name : List ℕ) (before after : List Standing) (calls : List Made) (entries : List Entry) : Type 0 where
+-- one that fails; they are made in the order of a part, in which a name without a standing is bound or isn't; the
+-- files that are open after them are those that the name's standing holds; its entries tell that failure, and no other; what is told
+-- of want of memory is of a new device, or of one that is still to be removed; each write is due and told, and there is one of each
+-- kind at most; there are few calls; each entry bears the name, and the number of its standing; one number at most is given out; and
+-- the standings of other names stay.
+pub record Part (hub : Option Write) (binds : Bool) (name : List ℕ) (before after : List Standing)
+    (calls : List Made) (entries : List Entry) : Type 0 where
   pub about : AreAbout name (known_files (standing_of name before)) calls
   pub leaves : files_after (known_files (standing_of name before)) calls ≡ known_files (standing_of name after)
   pub ends : EndsAtFailure [] calls
@@ -321,17 +324,21 @@ pub record Part (hub : Option Write) (name : List ℕ) (before after : List Stan
   pub single : AtMostOneEach (puts_of calls)
   pub writes : TellsWrites name (puts_of calls) (writes_in entries)
   pub few : count_calls calls ≤ 14
+  pub order : GoInOrder binds hub name (standing_of name before) entries calls
   pub bears : AllBear name entries
   pub numbers : AreOfNumber (number_of (standing_of name before)) entries (number_of (standing_of name after))
   pub given : length (numbers_given entries) ≤ 1
   pub others : (other : List ℕ) → (other ≡ name → ⊥) → standing_of other after ≡ standing_of other before
 
 -- a part for each name, in this order
-abbrev pub InParts : Option Write → List (List ℕ) → List Standing → List Standing → List Made → List Entry → Type 0
-InParts hub [] before after calls entries = (after ≡ before) × (calls ≡ []) × (entries ≡ [])
-InParts hub (name ∷ names) before after calls entries =
+abbrev pub InParts : Option Write → Bool → List (List ℕ) → List Standing → List Standing → List Made
+    → List Entry → Type 0
+InParts hub binds [] before after calls entries =
+    (after ≡ before) × (calls ≡ []) × (entries ≡ [])
+InParts hub binds (name ∷ names) before after calls entries =
     (mid : List Standing) × (now later : List Made) × (first rest : List Entry)
-    × (calls ≡ now ++ later) × (entries ≡ first ++ rest) × Part hub name before mid now first × InParts hub names mid after later rest
+    × (calls ≡ now ++ later) × (entries ≡ first ++ rest)
+    × Part hub binds name before mid now first × InParts hub binds names mid after later rest
 
 -- these calls close those files, in order
 abbrev pub AreClosings : List Held → List Made → Type 0
@@ -342,20 +349,31 @@ AreClosings (file ∷ files) calls = (shut : Closing) × (rest : List Made) × (
 abbrev pub unlisted_files : List (List ℕ) → List Standing → List Held
 unlisted_files names ss = map (λ s. s.held) (filter (λ s. not (lists names s.name)) ss)
 
--- the names that were listed have parts, and `gone` stands for each standing of another, whose file is closed
-abbrev pub BeginsListed : List (List ℕ) → List Standing → List Entry → List Standing → List (List ℕ) → List Made → Type 0
-BeginsListed listed ss entries left names shut =
-    (names ≡ in_sweep_order listed) × (entries ≡ farewells names ss) × (left ≡ filter (λ s. lists names s.name) ss) × AreClosings (unlisted_files names ss) shut
+-- the names that were listed have parts, in which a new one is bound, and `gone` stands for each
+-- standing of another, whose file is closed
+abbrev pub BeginsListed : List (List ℕ) → List Standing → List Entry → List Standing
+    → List (List ℕ) → List Made → Bool → Type 0
+BeginsListed listed ss entries left names shut binds =
+    (binds ≡ true) × (names ≡ in_sweep_order listed) × (entries ≡ farewells names ss)
+    × (left ≡ filter (λ s. lists names s.name) ss) × AreClosings (unlisted_files names ss) shut
 
--- the names that stand have parts, and `unsettled *` tells why
-abbrev pub BeginsUnlisted : Fault → List Standing → List Entry → List Standing → List (List ℕ) → List Made → Type 0
-BeginsUnlisted why ss entries left names shut = (names ≡ names_of ss) × (entries ≡ entry.UnsettledAll why ∷ []) × (left ≡ ss) × (shut ≡ [])
+-- the names that stand have parts, in which none is bound, and `unsettled *` tells why
+abbrev pub BeginsUnlisted : Fault → List Standing → List Entry → List Standing → List (List ℕ)
+    → List Made → Bool → Type 0
+BeginsUnlisted why ss entries left names shut binds =
+    (binds ≡ false) × (names ≡ names_of ss) × (entries ≡ entry.UnsettledAll why ∷ [])
+    × (left ≡ ss) × (shut ≡ [])
 
 -- what the answer to the listing leads to; where it has names, memory can be short for what is noted of them
-abbrev pub AfterListing : Listing → FailedCall → List Standing → List Entry → List Standing → List (List ℕ) → List Made → Type 0
-AfterListing (listing.Names listed) failed ss entries left names shut = BeginsListed listed ss entries left names shut ⊎ BeginsUnlisted fault.Memory ss entries left names shut
-AfterListing listing.Failed failed ss entries left names shut = BeginsUnlisted (fault.Call failed) ss entries left names shut
-AfterListing listing.Memory failed ss entries left names shut = BeginsUnlisted fault.Memory ss entries left names shut
+abbrev pub AfterListing : Listing → FailedCall → List Standing → List Entry → List Standing
+    → List (List ℕ) → List Made → Bool → Type 0
+AfterListing (listing.Names listed) failed ss entries left names shut binds =
+    BeginsListed listed ss entries left names shut binds
+    ⊎ BeginsUnlisted fault.Memory ss entries left names shut binds
+AfterListing listing.Failed failed ss entries left names shut binds =
+    BeginsUnlisted (fault.Call failed) ss entries left names shut binds
+AfterListing listing.Memory failed ss entries left names shut binds =
+    BeginsUnlisted fault.Memory ss entries left names shut binds
 
 -- how many names a listing brought
 abbrev pub count_listed : Listing → ℕ
@@ -376,8 +394,9 @@ pub record GoesInParts {S J : Type 0} (gives : S → (call : Call) → Answer ca
   pub shut : List Made
   pub made : List Made
   pub cut : later ≡ shut ++ made
-  pub begins : AfterListing listed.answer (failure_of listed) w.standings head left names shut
-  pub parts : InParts w.hub names left v.standings made rest
+  pub binds : Bool
+  pub begins : AfterListing listed.answer (failure_of listed) w.standings head left names shut binds
+  pub parts : InParts w.hub binds names left v.standings made rest
   pub next : v.next ≡ w.next + length (numbers_given rest)
   pub given : length (numbers_given rest) ≤ count_listed listed.answer
 

@@ -1,5 +1,5 @@
 // The settling of one name.
-ghost use Rattle.std.specs.Prelude.{◌≡◌, ◌≤◌, ◌<◌, ◌+◌, ◌++◌, ◌∷◌, [], ◌-◌, ◌^◌, length, is_none, IsSome, Some, None};
+ghost use Rattle.std.specs.Prelude.{true, false, ◌≡◌, ◌≤◌, ◌<◌, ◌+◌, ◌++◌, ◌∷◌, [], ◌-◌, ◌^◌, length, is_none, IsSome, Some, None};
 ghost use Rattle.ug_types.specs.Names.{parent_of};
 ghost use Rattle.ug_kernel.specs.Tree.{Runs, Room};
 ghost use Rattle.ug_table.specs.Slots.{HasPlace};
@@ -272,7 +272,9 @@ impl Table {
         requires room { 10 ≤ (noted_in out.old).spare }
         requires next { self.old.next < 2 ^ 64 - 1 }
         ensures runs { Runs Y.gives sysfs.old (settling A.answer A.later name.now (terms_of present hub_default) (state_of hub_default self.old (A.meaning judge.old) (noted_in out.old).entries)) (result, state_of hub_default self.new (A.meaning judge.new) (noted_in out.new).entries) sysfs.new }
-        ensures part { GoesAsPart hub_default Y.gives Y.calls Y.faults name.now sysfs.old self.old.standings (noted_in out.old).entries sysfs.new self.new.standings (noted_in out.new).entries result }
+        ensures part { GoesAsPart hub_default true Y.gives Y.calls Y.faults name.now
+            sysfs.old self.old.standings (noted_in out.old).entries
+            sysfs.new self.new.standings (noted_in out.new).entries result }
         ensures law { SettlesOne Y.told A.answer A.later (terms_of present hub_default) name.now sysfs.old (state_of hub_default self.old (A.meaning judge.old) (noted_in out.old).entries) sysfs.new (state_of hub_default self.new (A.meaning judge.new) (noted_in out.new).entries) result }
         ensures marks { LeavesMarks hub_default (has_name name.now) self.old.standings self.new.standings result }
         ensures journal { Notes (λ b. ⟦<dyn Auditor as Auditor>⟧ b.vtable) 10 out.old out.new }
@@ -297,7 +299,10 @@ impl Table {
         requires stands { IsSome (numbered number self.old.standings) }
         requires room { 8 ≤ (noted_in out.old).spare }
         ensures runs { Runs Y.gives sysfs.old (resettling_numbered hub_default number (kept_of self.old.standings (noted_in out.old).entries)) (result, kept_of self.new.standings (noted_in out.new).entries) sysfs.new }
-        ensures part { (s : Standing) → numbered number self.old.standings ≡ Some s → GoesAsPart hub_default Y.gives Y.calls Y.faults s.name sysfs.old self.old.standings (noted_in out.old).entries sysfs.new self.new.standings (noted_in out.new).entries result }
+        ensures part { (s : Standing) → numbered number self.old.standings ≡ Some s
+            → GoesAsPart hub_default false Y.gives Y.calls Y.faults s.name
+            sysfs.old self.old.standings (noted_in out.old).entries
+            sysfs.new self.new.standings (noted_in out.new).entries result }
         ensures law { ResettlesOne hub_default Y.told number sysfs.old (state_of hub_default self.old tt (noted_in out.old).entries) sysfs.new (state_of hub_default self.new tt (noted_in out.new).entries) result }
         ensures marks { LeavesMarks hub_default (has_number number) self.old.standings self.new.standings result }
         ensures memory { result ≡ Memory → NeedsRoom hub_default number self.old.standings }

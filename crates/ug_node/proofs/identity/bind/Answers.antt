@@ -1,4 +1,5 @@
 use Rattle.ug_node.proofs.Laws.{told_binds, told_fault}
+use Rattle.ug_node.proofs.CallOrders.{told_order}
 use Rattle.ug_node.proofs.identity.bind.Goals as goal
 
 pub returns-clause-law : goal.returns-clause-law
@@ -6,3 +7,6 @@ returns-clause-law g c = told_binds g.Y.Sysfs.gives g.Y.Sysfs.told g.met.Y.Sysfs
 
 pub returns-clause-fault : goal.returns-clause-fault
 returns-clause-fault g c = told_fault g.Y.Sysfs.gives g.Y.Sysfs.calls g.Y.Sysfs.faults g.met.Y.Sysfs.counted _ _ _ _ _ c.parent.ensures c.bind_below.ensures
+
+pub returns-clause-order : goal.returns-clause-order
+returns-clause-order g c = told_order g.Y.Sysfs.gives _ _ _ _ _ c.parent.ensures c.bind_below.ensures
