@@ -2,7 +2,7 @@
 use itoa::Buffer;
 use std::alloc::Global;
 use ug_hex::two_digits;
-use ug_types::NoMemory;
+use ug_types::{NoMemory, Text};
 
 /// A text that grows. Where memory is short for a part, the text is none at its end.
 #[derive(Drop)]
@@ -19,14 +19,48 @@ impl Answer {
         }
     }
 
+    /// What was added until now.
+    pub fn text(&self) -> &[u8] {
+        self.text.as_slice()
+    }
+
     pub fn is_empty(&self) -> bool {
         self.text.is_empty()
     }
 
     pub fn add(&mut self, bytes: &[u8]) {
         if self.text.extend_from_slice(bytes).is_err() {
-            self.is_short = true;
+            self.fall_short();
         }
+    }
+
+    /// There was no memory for a part of it.
+    pub fn fall_short(&mut self) {
+        self.is_short = true;
+    }
+
+    /// Adds a text, if there was memory for it.
+    pub fn add_text(&mut self, text: Result<Text, NoMemory>) {
+        match text {
+            Ok(text) => self.add(text.bytes()),
+            Err(_) => self.fall_short(),
+        }
+    }
+
+    /// Adds another answer.
+    pub fn add_answer(&mut self, other: &Answer) {
+        self.add(&other.text);
+        self.is_short = self.is_short || other.is_short;
+    }
+
+    /// Adds the two hexadecimal digits of a byte.
+    pub fn add_digits(&mut self, byte: u8) {
+        self.add(&two_digits(byte));
+    }
+
+    /// Takes back what was added.
+    pub fn clear(&mut self) {
+        self.text.clear();
     }
 
     pub fn add_number(&mut self, number: u64) {
@@ -42,7 +76,7 @@ impl Answer {
                 b' '..=b'~' => self.add(&[*byte]),
                 other => {
                     self.add(b"\\x");
-                    self.add(&two_digits(other));
+                    self.add_digits(other);
                 }
             }
         }

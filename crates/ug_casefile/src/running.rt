@@ -1,4 +1,5 @@
 // Cases from a source, and their report to a sink.
+use crate::answer::Answer;
 use crate::cases::Case;
 use crate::reading::read_cases;
 use crate::report::Report;
@@ -8,7 +9,14 @@ use ug_types::{NoMemory, Put, Sink, Source};
 
 /// What gives the answer to a case.
 pub trait Teller {
-    fn tell(&self, alloc: Global, case: &Case) -> Result<Vec<u8>, NoMemory>;
+    /// Adds it to an empty one.
+    fn tell(&self, alloc: Global, case: &Case, told: &mut Answer);
+}
+
+fn tell<T: Teller>(alloc: Global, case: &Case, teller: &T) -> Result<Vec<u8>, NoMemory> {
+    let mut told = Answer::new(alloc);
+    teller.tell(alloc, case, &mut told);
+    told.finish()
 }
 
 fn report<T: Teller>(alloc: Global, text: &[u8], teller: &T) -> Result<Vec<u8>, NoMemory> {
@@ -18,7 +26,7 @@ fn report<T: Teller>(alloc: Global, text: &[u8], teller: &T) -> Result<Vec<u8>, 
         report.add_bad_line(*line);
     }
     for case in file.cases.as_slice() {
-        let told = teller.tell(alloc, case)?;
+        let told = tell(alloc, case, teller)?;
         report.add(case, &told);
     }
     report.finish()

@@ -1,8 +1,9 @@
 // What commands write, and how they end.
-use crate::calls::{Call, Ran, ask, replay, tool};
+use crate::calls::{Asked, Call, ask, replay, tool};
+use crate::inputs::source;
 use std::alloc::Global;
-use ug_casefile::{Answer, Case, say};
-use ug_types::NoMemory;
+use ug_casefile::{Answer, Case};
+use ug_types::{MemSink, NoMemory};
 
 /// The words of a line, between which stand spaces.
 pub fn words_of(alloc: Global, line: &[u8]) -> Result<Vec<&str>, NoMemory> {
@@ -37,17 +38,28 @@ fn push_whole_words<'a>(words: &mut Vec<&'a str>, case: &'a Case) -> Result<(), 
     Ok(())
 }
 
+fn sink(alloc: Global, case: &Case) -> Result<MemSink, NoMemory> {
+    Ok(MemSink::new(alloc, case.numbers(alloc, b"writes")?))
+}
+
 fn call<'a>(alloc: Global, case: &'a Case, word: &'a str) -> Result<Call<'a>, NoMemory> {
+    let words = words(alloc, case, word)?;
+    let input = source(alloc, case, b"reads")?;
     Ok(Call {
-        words: words(alloc, case, word)?,
-        input: say(alloc, &case.input)?,
-        reads: case.numbers(alloc, b"reads")?,
-        writes: case.numbers(alloc, b"writes")?,
+        words,
+        input,
+        out: sink(alloc, case)?,
     })
 }
 
-fn count_lines(text: &[u8]) -> usize {
-    text.iter().filter(|byte| **byte == b'\n').count()
+fn count_lines(text: &[u8]) -> u64 {
+    let mut count: u64 = 0;
+    for byte in text {
+        if *byte == b'\n' {
+            count = count.saturating_add(1);
+        }
+    }
+    count
 }
 
 fn add_status(told: &mut Answer, status: u8) {
@@ -55,80 +67,113 @@ fn add_status(told: &mut Answer, status: u8) {
     told.add_number(u64::from(status));
 }
 
-/// What a script writes, its status, and how many writes to devices had their effect.
-pub fn tell_replay(alloc: Global, case: &Case) -> Result<Vec<u8>, NoMemory> {
-    let (ran, kernel) = replay(alloc, call(alloc, case, "replay")?)?;
-    let mut told = Answer::new(alloc);
-    told.add(&ran.output);
-    add_status(&mut told, ran.status);
+fn add_replay(alloc: Global, told: &mut Answer, mut call: Call) {
+    let (status, kernel) = replay(alloc, &mut call);
+    told.add(call.out.bytes());
+    add_status(told, status);
     told.add(b", ");
     told.add_number(kernel.log().len() as u64);
     told.add(b" writes");
-    told.finish()
+}
+
+/// What a script writes, its status, and how many writes to devices had their effect.
+pub fn tell_replay(alloc: Global, told: &mut Answer, case: &Case) {
+    match call(alloc, case, "replay") {
+        Ok(call) => add_replay(alloc, told, call),
+        Err(_) => told.fall_short(),
+    }
+}
+
+fn add_counts(alloc: Global, told: &mut Answer, mut call: Call) {
+    let (status, kernel) = replay(alloc, &mut call);
+    told.add_number(count_lines(call.out.bytes()));
+    told.add(b" lines, ");
+    add_status(told, status);
+    told.add(b", ");
+    told.add_number(kernel.log().len() as u64);
+    told.add(b" writes, ");
+    told.add_number(kernel.devices().len() as u64);
+    told.add(b" devices");
 }
 
 /// How many lines a script writes, its status, and how many writes and devices there were.
-pub fn count_replay(alloc: Global, case: &Case) -> Result<Vec<u8>, NoMemory> {
-    let (ran, kernel) = replay(alloc, call(alloc, case, "replay")?)?;
-    let lines = count_lines(&ran.output);
-    let status = ran.status;
-    let count = kernel.log().len();
-    let devices = kernel.devices().len();
-    let text = format!(in alloc;
-        "{lines} lines, status {status}, {count} writes, {devices} devices"
-    )?;
-    Ok(text.into_bytes())
+pub fn count_replay(alloc: Global, told: &mut Answer, case: &Case) {
+    match call(alloc, case, "replay") {
+        Ok(call) => add_counts(alloc, told, call),
+        Err(_) => told.fall_short(),
+    }
 }
 
 /// What a command writes, and its status.
-pub fn tell_tool(alloc: Global, word: &str, case: &Case) -> Result<Vec<u8>, NoMemory> {
-    let ran = tool(alloc, call(alloc, case, word)?)?;
-    let mut told = Answer::new(alloc);
-    told.add(&ran.output);
-    add_status(&mut told, ran.status);
-    told.finish()
+pub fn tell_tool(alloc: Global, told: &mut Answer, word: &str, case: &Case) {
+    match call(alloc, case, word) {
+        Ok(mut call) => {
+            let status = tool(alloc, &mut call);
+            told.add(call.out.bytes());
+            add_status(told, status);
+        }
+        Err(_) => told.fall_short(),
+    }
+}
+
+fn add_asked(told: &mut Answer, asked: &Asked) {
+    told.add(b"sent ");
+    told.add(asked.link.sent());
+    told.add(b"printed ");
+    told.add(asked.out.bytes());
+    add_status(told, asked.status);
 }
 
 /// What a command sends and writes whose link gives the input, and its status. The setting `unreachable` stands where no
 /// daemon listens.
-pub fn tell_ask(alloc: Global, case: &Case) -> Result<Vec<u8>, NoMemory> {
+pub fn tell_ask(alloc: Global, told: &mut Answer, case: &Case) {
     let reachable = case.setting(b"unreachable").is_none();
-    let (ran, sent) = ask(alloc, call(alloc, case, "")?, reachable)?;
-    let mut told = Answer::new(alloc);
-    told.add(b"sent ");
-    told.add(&sent);
-    told.add(b"printed ");
-    told.add(&ran.output);
-    add_status(&mut told, ran.status);
-    told.finish()
+    match call(alloc, case, "") {
+        Ok(call) => add_asked(told, &ask(alloc, call, reachable)),
+        Err(_) => told.fall_short(),
+    }
 }
 
 /// How many lines a command writes, and its status.
-pub fn count_tool(alloc: Global, word: &str, case: &Case) -> Result<Vec<u8>, NoMemory> {
-    let Ran { status, output } = tool(alloc, call(alloc, case, word)?)?;
-    let lines = count_lines(&output);
-    Ok(format!(in alloc; "{lines} lines, status {status}")?.into_bytes())
+pub fn count_tool(alloc: Global, told: &mut Answer, word: &str, case: &Case) {
+    match call(alloc, case, word) {
+        Ok(mut call) => {
+            let status = tool(alloc, &mut call);
+            told.add_number(count_lines(call.out.bytes()));
+            told.add(b" lines, ");
+            add_status(told, status);
+        }
+        Err(_) => told.fall_short(),
+    }
 }
 
 /// Adds what was written, in one line, and the status.
-pub fn add_in_one_line(told: &mut Answer, ran: &Ran) {
-    for byte in ran.output.as_slice() {
+pub fn add_in_one_line(told: &mut Answer, output: &[u8], status: u8) {
+    for byte in output {
         match *byte {
             b'\n' => told.add(b"; "),
             other => told.add(&[other]),
         }
     }
-    add_status(told, ran.status);
+    add_status(told, status);
 }
 
-/// What the script of the first line, some others and these writes, in one line, and its status.
-pub fn tell_line(alloc: Global, others: &[u8], lines: &[u8]) -> Result<Vec<u8>, NoMemory> {
+// A script of the first line, some others and these.
+fn script(alloc: Global, others: &[u8], lines: &[u8]) -> Result<Call<'static>, NoMemory> {
     let mut input = Answer::new(alloc);
     input.add(b"usbguard-replay 1\n");
     input.add(others);
     input.add(lines);
-    let (ran, _kernel) = replay(alloc, Call::of_script(alloc, input.finish()?)?)?;
-    let mut told = Answer::new(alloc);
-    add_in_one_line(&mut told, &ran);
-    told.finish()
+    Call::of_script(alloc, input.finish()?)
+}
+
+/// What the script of the first line, some others and these writes, in one line, and its status.
+pub fn tell_line(alloc: Global, told: &mut Answer, others: &[u8], lines: &[u8]) {
+    match script(alloc, others, lines) {
+        Ok(mut call) => {
+            let (status, _kernel) = replay(alloc, &mut call);
+            add_in_one_line(told, call.out.bytes(), status);
+        }
+        Err(_) => told.fall_short(),
+    }
 }

@@ -1,9 +1,9 @@
 // Commands that ask the daemon, over links that end, fail or give another byte at each byte of what they give.
-use crate::calls::{Call, Ran, ask};
+use crate::calls::{Asked, Call, ask};
 use crate::commands::{add_in_one_line, words_of};
 use std::alloc::Global;
 use ug_casefile::{Answer, Case, bytes_of_hex};
-use ug_types::NoMemory;
+use ug_types::{MemSink, MemSource, NoMemory};
 
 /// What happens at a byte.
 #[derive(Clone, Copy)]
@@ -104,6 +104,16 @@ fn failing_calls(alloc: Global, place: usize, turn: Turn) -> Result<Vec<u64>, No
     Ok(calls)
 }
 
+fn turned_link(
+    alloc: Global,
+    given: &[u8],
+    place: usize,
+    turn: Turn,
+) -> Result<MemSource, NoMemory> {
+    let calls = failing_calls(alloc, place, turn)?;
+    Ok(MemSource::new(turned(alloc, given, place, turn)?, calls))
+}
+
 impl<'a> Asking<'a> {
     fn new(alloc: Global, words: &'a [u8], given: &'a [u8]) -> Result<Asking<'a>, NoMemory> {
         let mut asking = Asking {
@@ -111,57 +121,52 @@ impl<'a> Asking<'a> {
             given,
             sent: Vec::new(alloc),
         };
-        let (_ran, sent) = asking.run(alloc, given.len(), Turn::Ends)?;
-        asking.sent = sent;
+        let whole = asking.run(alloc, given.len(), Turn::Ends)?;
+        asking.sent.extend_from_slice(whole.link.sent())?;
         Ok(asking)
     }
 
-    fn run(&self, alloc: Global, place: usize, turn: Turn) -> Result<(Ran, Vec<u8>), NoMemory> {
+    fn run(&self, alloc: Global, place: usize, turn: Turn) -> Result<Asked, NoMemory> {
+        let words = words_of(alloc, self.words)?;
         let call = Call {
-            words: words_of(alloc, self.words)?,
-            input: turned(alloc, self.given, place, turn)?,
-            reads: failing_calls(alloc, place, turn)?,
-            writes: Vec::new(alloc),
+            words,
+            input: turned_link(alloc, self.given, place, turn)?,
+            out: MemSink::new(alloc, Vec::new(alloc)),
         };
-        ask(alloc, call, true)
+        Ok(ask(alloc, call, true))
     }
 
     // What is printed, the status, and whether it sent something else than before.
     fn answer(&self, alloc: Global, place: usize, turn: Turn) -> Result<Vec<u8>, NoMemory> {
-        let (ran, sent) = self.run(alloc, place, turn)?;
+        let asked = self.run(alloc, place, turn)?;
         let mut told = Answer::new(alloc);
-        add_in_one_line(&mut told, &ran);
-        if sent != self.sent {
+        add_in_one_line(&mut told, asked.out.bytes(), asked.status);
+        if asked.link.sent() != self.sent.as_slice() {
             told.add(b", with another request");
         }
         told.finish()
     }
 
-    fn add_places(
-        &self,
-        alloc: Global,
-        table: &mut Table,
-        turn: Turn,
-        first: usize,
-        end: usize,
-    ) -> Result<(), NoMemory> {
+    fn add_places(&self, alloc: Global, table: &mut Table, turn: Turn, first: usize, end: usize) {
         for place in first..end {
-            table.add(turn, place as u64, self.answer(alloc, place, turn)?);
+            match self.answer(alloc, place, turn) {
+                Ok(answer) => table.add(turn, place as u64, answer),
+                Err(_) => table.lines.fall_short(),
+            }
         }
         table.close(turn);
-        Ok(())
     }
 
-    fn table(&self, alloc: Global, first: usize, others: &[u8]) -> Result<Table, NoMemory> {
+    fn table(&self, alloc: Global, first: usize, others: &[u8]) -> Table {
         let mut table = Table::new(alloc);
         let end = self.given.len();
         let behind = end.saturating_add(1);
-        self.add_places(alloc, &mut table, Turn::Ends, first, behind)?;
-        self.add_places(alloc, &mut table, Turn::Fails, first, behind)?;
+        self.add_places(alloc, &mut table, Turn::Ends, first, behind);
+        self.add_places(alloc, &mut table, Turn::Fails, first, behind);
         for byte in others {
-            self.add_places(alloc, &mut table, Turn::Other(*byte), first, end)?;
+            self.add_places(alloc, &mut table, Turn::Other(*byte), first, end);
         }
-        Ok(table)
+        table
     }
 }
 
@@ -174,11 +179,14 @@ fn first_place(case: &Case) -> usize {
 }
 
 // The bytes of the setting `others`, in hexadecimal digits.
-fn others(alloc: Global, case: &Case) -> Result<Vec<u8>, NoMemory> {
-    let digits = case.setting(b"others").unwrap_or(&[]);
-    match bytes_of_hex(alloc, digits)? {
-        Some(bytes) => Ok(bytes),
-        None => Ok(Vec::new(alloc)),
+fn others(alloc: Global, told: &mut Answer, case: &Case) -> Vec<u8> {
+    match bytes_of_hex(alloc, case.setting(b"others").unwrap_or(&[])) {
+        Ok(Some(bytes)) => bytes,
+        Ok(None) => Vec::new(alloc),
+        Err(_) => {
+            told.fall_short();
+            Vec::new(alloc)
+        }
     }
 }
 
@@ -192,35 +200,62 @@ fn add_sent(told: &mut Answer, sent: &[u8]) {
     told.add(without_newline(sent));
 }
 
-fn finish(sent: Answer, tables: &[u8], count: u64) -> Result<Vec<u8>, NoMemory> {
-    let mut told = sent;
+/// The tables of commands one behind another, and how many links they had.
+#[derive(Drop)]
+struct Tables {
+    lines: Answer,
+    last: Answer,
+    count: u64,
+}
+
+impl Tables {
+    // Commands one behind another of which the same comes have one table.
+    fn add(&mut self, table: Table) {
+        self.count = self.count.saturating_add(table.count);
+        if table.lines.text() != self.last.text() {
+            self.lines.add_answer(&table.lines);
+        }
+        self.last = table.lines;
+    }
+
+    fn add_command(
+        &mut self,
+        alloc: Global,
+        sent: &mut Answer,
+        case: &Case,
+        words: &[u8],
+        others: &[u8],
+    ) {
+        match Asking::new(alloc, words, &case.input) {
+            Ok(asking) => {
+                self.add(asking.table(alloc, first_place(case), others));
+                add_sent(sent, &asking.sent);
+            }
+            Err(_) => sent.fall_short(),
+        }
+    }
+}
+
+fn add_tables(told: &mut Answer, tables: &Tables) {
     told.add(b"\n");
-    told.add(tables);
-    told.add_number(count);
+    told.add_answer(&tables.lines);
+    told.add_number(tables.count);
     told.add(b" links");
-    told.finish()
 }
 
 /// What each command sends of the setting `commands`, between which stands `|`, and what comes of a link that ends or fails at
 /// each place of the input, or with `whole` at its end alone, or has each byte of the setting `others` in place of each of its bytes.
 /// Commands one behind another of which the same comes have one table. At last, how many links there were.
-pub fn tell(alloc: Global, case: &Case) -> Result<Vec<u8>, NoMemory> {
-    let others = others(alloc, case)?;
-    let mut sent = Answer::new(alloc);
-    let mut tables = Answer::new(alloc);
-    let mut last = Vec::new(alloc);
-    let mut count: u64 = 0;
+pub fn tell(alloc: Global, told: &mut Answer, case: &Case) {
+    let others = others(alloc, told, case);
+    let mut tables = Tables {
+        lines: Answer::new(alloc),
+        last: Answer::new(alloc),
+        count: 0,
+    };
     let commands = case.setting(b"commands").unwrap_or(&[]);
     for words in commands.split(|byte| *byte == b'|') {
-        let asking = Asking::new(alloc, words, &case.input)?;
-        let table = asking.table(alloc, first_place(case), &others)?;
-        add_sent(&mut sent, &asking.sent);
-        count = count.saturating_add(table.count);
-        let lines = table.lines.finish()?;
-        if lines != last {
-            tables.add(&lines);
-        }
-        last = lines;
+        tables.add_command(alloc, told, case, words, &others);
     }
-    finish(sent, &tables.finish()?, count)
+    add_tables(told, &tables);
 }

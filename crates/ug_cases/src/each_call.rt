@@ -6,7 +6,7 @@ use ug_sysfs::{SimKernel, Write};
 use ug_types::NoMemory;
 
 // The script of the case, its lines for these calls, and two events.
-fn script(alloc: Global, case: &Case, first: u64, second: u64) -> Result<Vec<u8>, NoMemory> {
+fn script(alloc: Global, case: &Case, first: u64, second: u64) -> Result<Call<'static>, NoMemory> {
     let mut text = Answer::new(alloc);
     text.add(&case.input);
     for setting in case.settings.as_slice() {
@@ -16,7 +16,7 @@ fn script(alloc: Global, case: &Case, first: u64, second: u64) -> Result<Vec<u8>
         }
     }
     text.add(b"sweep 100\nsweep 101\n");
-    text.finish()
+    Call::of_script(alloc, text.finish()?)
 }
 
 fn holds(text: &[u8], part: &[u8]) -> bool {
@@ -77,74 +77,74 @@ fn add_unmet(told: &mut Answer, setting: &Setting) {
     told.add(b"\n");
 }
 
+fn add_status(told: &mut Answer, first: u64, second: u64, status: u8) {
+    if status != 0 {
+        add_calls(told, first, second);
+        told.add(b": status ");
+        told.add_number(u64::from(status));
+        told.add(b"\n");
+    }
+}
+
 // Adds a line for each thing that isn't as the settings say.
-fn judge(
+fn judge_call(
     alloc: Global,
     told: &mut Answer,
     case: &Case,
+    mut call: Call,
     first: u64,
     second: u64,
-) -> Result<(), NoMemory> {
-    let call = Call::of_script(alloc, script(alloc, case, first, second)?)?;
-    let (ran, kernel) = replay(alloc, call)?;
-    if ran.status != 0 {
-        add_calls(told, first, second);
-        told.add(b": status ");
-        told.add_number(u64::from(ran.status));
-        told.add(b"\n");
-    }
+) {
+    let (status, kernel) = replay(alloc, &mut call);
+    add_status(told, first, second, status);
     for setting in case.settings.as_slice() {
-        if !is_met(setting, &ran.output, &kernel) {
+        if !is_met(setting, call.out.bytes(), &kernel) {
             add_calls(told, first, second);
             add_unmet(told, setting);
         }
     }
-    Ok(())
+}
+
+fn judge(alloc: Global, told: &mut Answer, case: &Case, first: u64, second: u64) {
+    match script(alloc, case, first, second) {
+        Ok(call) => judge_call(alloc, told, case, call, first, second),
+        Err(_) => told.fall_short(),
+    }
 }
 
 fn last_call(case: &Case) -> u64 {
     case.setting(b"calls").and_then(number_of).unwrap_or(0)
 }
 
-fn finish(told: Answer, count: u64) -> Result<Vec<u8>, NoMemory> {
-    let mut told = told;
+fn add_count(told: &mut Answer, count: u64) {
     told.add_number(count);
     told.add(b" scripts");
-    told.finish()
 }
 
 /// Runs the script of the case with its lines for each call from 1 to the setting `calls`, and tells which of its other
 /// settings aren't met, and how many scripts there were.
-pub fn tell(alloc: Global, case: &Case) -> Result<Vec<u8>, NoMemory> {
-    let mut told = Answer::new(alloc);
-    let mut count: u64 = 0;
-    for call in 1..=last_call(case) {
-        judge(alloc, &mut told, case, call, call)?;
-        count = count.saturating_add(1);
+pub fn tell(alloc: Global, told: &mut Answer, case: &Case) {
+    let last = last_call(case);
+    for call in 1..=last {
+        judge(alloc, told, case, call, call);
     }
-    finish(told, count)
+    add_count(told, last);
 }
 
-fn judge_pairs(
-    alloc: Global,
-    told: &mut Answer,
-    case: &Case,
-    second: u64,
-) -> Result<u64, NoMemory> {
+fn judge_pairs(alloc: Global, told: &mut Answer, case: &Case, second: u64) -> u64 {
     let mut count: u64 = 0;
     for first in 1..second {
-        judge(alloc, told, case, first, second)?;
+        judge(alloc, told, case, first, second);
         count = count.saturating_add(1);
     }
-    Ok(count)
+    count
 }
 
 /// The same for each two calls.
-pub fn tell_pairs(alloc: Global, case: &Case) -> Result<Vec<u8>, NoMemory> {
-    let mut told = Answer::new(alloc);
+pub fn tell_pairs(alloc: Global, told: &mut Answer, case: &Case) {
     let mut count: u64 = 0;
     for second in 1..=last_call(case) {
-        count = count.saturating_add(judge_pairs(alloc, &mut told, case, second)?);
+        count = count.saturating_add(judge_pairs(alloc, told, case, second));
     }
-    finish(told, count)
+    add_count(told, count);
 }

@@ -1,7 +1,7 @@
 // Entries of a journal and their lines.
 use std::alloc::Global;
 use ug_audit::{ConfigPart, Entry, Fault, RuleChange, line_of};
-use ug_casefile::{number_of, say};
+use ug_casefile::{Answer, number_of};
 use ug_kernel::{FailedCall, Write, Wrote};
 use ug_types::{
     Cause, Held, Moment, NoMemory, NodeName, ParameterName, Principal, Privilege, Refusal, Saved,
@@ -210,14 +210,25 @@ fn entry(words: &[&str]) -> Option<Entry> {
     }
 }
 
-/// The line of the entry that the words of a line describe.
-pub fn tell(alloc: Global, line: &[u8]) -> Result<Vec<u8>, NoMemory> {
+fn words_of(alloc: Global, line: &[u8]) -> Result<Vec<&str>, NoMemory> {
     let mut words = Vec::new(alloc);
     for word in line.split(|byte| *byte == b' ') {
         words.push(str::from_utf8(word).unwrap_or(""))?;
     }
-    match entry(words.as_slice()) {
-        Some(entry) => say(alloc, line_of(&entry).bytes()),
-        None => say(alloc, b"no entry"),
+    Ok(words)
+}
+
+fn add_entry(told: &mut Answer, words: &[&str]) {
+    match entry(words) {
+        Some(entry) => told.add(line_of(&entry).bytes()),
+        None => told.add(b"no entry"),
+    }
+}
+
+/// The line of the entry that the words of a line describe.
+pub fn tell(alloc: Global, told: &mut Answer, line: &[u8]) {
+    match words_of(alloc, line) {
+        Ok(words) => add_entry(told, words.as_slice()),
+        Err(_) => told.fall_short(),
     }
 }

@@ -1,27 +1,36 @@
 // Inputs that are read whole.
 use std::alloc::Global;
-use ug_casefile::{Case, number_of, say};
+use ug_casefile::{Answer, Case, number_of, say};
 use ug_console::{InputFault, read_input};
-use ug_types::{MemSource, NoMemory};
+use ug_types::{MemSource, NoMemory, Text};
 
 fn limit(case: &Case) -> Option<usize> {
     usize::try_from(number_of(case.setting(b"most")?)?).ok()
 }
 
-/// How many bytes were read, where the call of the setting `failing` fails and at most `most` are wanted.
-pub fn tell(alloc: Global, case: &Case) -> Result<Vec<u8>, NoMemory> {
-    let Some(most) = limit(case) else {
-        return say(alloc, b"no limit");
-    };
-    let failing = case.numbers(alloc, b"failing")?;
-    let mut input = MemSource::new(say(alloc, &case.input)?, failing);
-    match read_input(alloc, &mut input, most) {
+/// A source of the input, whose calls of the setting of that key fail.
+pub fn source(alloc: Global, case: &Case, key: &[u8]) -> Result<MemSource, NoMemory> {
+    let failing = case.numbers(alloc, key)?;
+    Ok(MemSource::new(say(alloc, &case.input)?, failing))
+}
+
+fn add_read(told: &mut Answer, read: Result<Text, InputFault>) {
+    match read {
         Ok(text) => {
-            let length = text.bytes().len();
-            Ok(format!(in alloc; "{length} bytes")?.into_bytes())
+            told.add_number(text.bytes().len() as u64);
+            told.add(b" bytes");
         }
-        Err(InputFault::TooLong) => say(alloc, b"too long"),
-        Err(InputFault::Failed) => say(alloc, b"failed"),
-        Err(InputFault::Memory) => Err(NoMemory),
+        Err(InputFault::TooLong) => told.add(b"too long"),
+        Err(InputFault::Failed) => told.add(b"failed"),
+        Err(InputFault::Memory) => told.fall_short(),
+    }
+}
+
+/// How many bytes were read, where the call of the setting `failing` fails and at most `most` are wanted.
+pub fn tell(alloc: Global, told: &mut Answer, case: &Case) {
+    match (limit(case), source(alloc, case, b"failing")) {
+        (None, _) => told.add(b"no limit"),
+        (Some(_), Err(_)) => told.fall_short(),
+        (Some(most), Ok(mut input)) => add_read(told, read_input(alloc, &mut input, most)),
     }
 }

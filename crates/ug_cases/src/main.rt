@@ -26,14 +26,14 @@ mod zones;
 use std::alloc::Global;
 use std::io;
 use std::process::ExitCode;
-use ug_casefile::{Case, Teller, run_cases};
-use ug_types::{NoMemory, ReaderSource, WriterSink};
+use ug_casefile::{Answer, Case, Teller, run_cases};
+use ug_types::{ReaderSource, WriterSink};
 
 struct Cases;
 
 impl Teller for Cases {
-    fn tell(&self, alloc: Global, case: &Case) -> Result<Vec<u8>, NoMemory> {
-        kinds::tell(alloc, case)
+    fn tell(&self, alloc: Global, case: &Case, told: &mut Answer) {
+        kinds::tell(alloc, told, case);
     }
 }
 

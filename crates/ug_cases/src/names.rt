@@ -1,10 +1,9 @@
 // Names of devices.
 use std::alloc::Global;
-use ug_casefile::{Answer, say};
-use ug_types::{NameFault, NoMemory, NodeName, sort_names};
+use ug_casefile::Answer;
+use ug_types::{NameFault, NodeName, sort_names};
 
-fn tell_name(alloc: Global, name: &NodeName) -> Result<Vec<u8>, NoMemory> {
-    let mut told = Answer::new(alloc);
+fn add_name(told: &mut Answer, name: &NodeName) {
     told.add(b"depth ");
     told.add_number(u64::from(name.depth()));
     if name.is_root() {
@@ -14,37 +13,46 @@ fn tell_name(alloc: Global, name: &NodeName) -> Result<Vec<u8>, NoMemory> {
         told.add(b", below ");
         told.add(parent.bytes());
     }
-    told.finish()
 }
 
 /// The depth of a name and its parent, or why it's none.
-pub fn tell(alloc: Global, line: &[u8]) -> Result<Vec<u8>, NoMemory> {
+pub fn tell(told: &mut Answer, line: &[u8]) {
     match NodeName::parse(line) {
-        Ok(name) => tell_name(alloc, &name),
-        Err(NameFault::Empty) => say(alloc, b"empty"),
-        Err(NameFault::TooLong) => say(alloc, b"too long"),
+        Ok(name) => add_name(told, &name),
+        Err(NameFault::Empty) => told.add(b"empty"),
+        Err(NameFault::TooLong) => told.add(b"too long"),
         Err(NameFault::BadForm(place)) => {
-            Ok(format!(in alloc; "bad form {place}")?.into_bytes())
+            told.add(b"bad form ");
+            told.add_number(place);
         }
     }
 }
 
-/// The names of a line from the hubs down.
-pub fn tell_order(alloc: Global, line: &[u8]) -> Result<Vec<u8>, NoMemory> {
+// The names of a line, as far as they are names.
+fn names_of(alloc: Global, line: &[u8]) -> Option<Vec<NodeName>> {
     let mut names = Vec::new(alloc);
     for word in line.split(|byte| *byte == b' ') {
-        match NodeName::parse(word) {
-            Ok(name) => names.push(name)?,
-            Err(_) => return say(alloc, b"no name"),
-        }
+        names.push(NodeName::parse(word).ok()?).ok()?;
     }
-    sort_names(&mut names);
-    let mut told = Answer::new(alloc);
-    for name in names.as_slice() {
+    Some(names)
+}
+
+fn add_names(told: &mut Answer, names: &[NodeName]) {
+    for name in names {
         if !told.is_empty() {
             told.add(b" ");
         }
         told.add(name.bytes());
     }
-    told.finish()
+}
+
+/// The names of a line from the hubs down.
+pub fn tell_order(alloc: Global, told: &mut Answer, line: &[u8]) {
+    match names_of(alloc, line) {
+        Some(mut names) => {
+            sort_names(&mut names);
+            add_names(told, names.as_slice());
+        }
+        None => told.add(b"no name"),
+    }
 }

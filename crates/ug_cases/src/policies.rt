@@ -2,17 +2,16 @@
 use crate::session::Session;
 use std::alloc::Global;
 use ug_casefile::Answer;
-use ug_types::NoMemory;
 
 /// What each line of a session tells.
-pub fn tell(alloc: Global, text: &[u8]) -> Result<Vec<u8>, NoMemory> {
+pub fn tell(alloc: Global, told: &mut Answer, text: &[u8]) {
     let mut session = Session::new(alloc);
-    let mut told = Answer::new(alloc);
+    let mut first = true;
     for line in text.split(|byte| *byte == b'\n') {
-        if !told.is_empty() {
+        if !first {
             told.add(b"\n");
         }
-        told.add(&session.answer(line)?);
+        session.answer(told, line);
+        first = false;
     }
-    told.finish()
 }

@@ -1,8 +1,6 @@
 // Names of users and groups.
-use std::alloc::Global;
-use ug_casefile::{Answer, say};
+use ug_casefile::Answer;
 use ug_conf::Principal;
-use ug_types::NoMemory;
 
 // Whether it is what its own name gives, and not what the name gives of the other kind.
 fn is_itself(principal: Principal) -> bool {
@@ -12,20 +10,20 @@ fn is_itself(principal: Principal) -> bool {
 }
 
 /// `user NAME`, `group NAME`, or `none`.
-pub fn tell(alloc: Global, line: &[u8]) -> Result<Vec<u8>, NoMemory> {
+pub fn tell(told: &mut Answer, line: &[u8]) {
     let Some(principal) = Principal::parse(line) else {
-        return say(alloc, b"none");
+        told.add(b"none");
+        return;
     };
     if !is_itself(principal) {
-        return say(alloc, b"not itself");
+        told.add(b"not itself");
+        return;
     }
     let word: &[u8] = if principal.is_group() {
         b"group "
     } else {
         b"user "
     };
-    let mut told = Answer::new(alloc);
     told.add(word);
     told.add(principal.name());
-    told.finish()
 }

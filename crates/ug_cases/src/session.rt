@@ -3,13 +3,13 @@ use jiff::tz::TimeZone;
 use rand_chacha::ChaCha20Rng;
 use rand_core::{Rng, SeedableRng};
 use std::alloc::Global;
-use ug_casefile::{Answer, number_of, say, split_word};
+use ug_casefile::{Answer, number_of, split_word};
 use ug_cond::{Allowed, Context, History, holds, local_second};
 use ug_match::matches;
 use ug_policy::{InsertFault, RuleEntry, RuleList};
 use ug_rule::{parse_query, parse_rule};
 use ug_types::{
-    After, Cause, DeviceRecord, Id, List, Moment, NoMemory, NodeName, Query, Rule, Target, Text,
+    After, Cause, Conds, DeviceRecord, Id, List, Moment, NodeName, Query, Rule, Target, Text,
 };
 
 #[derive(Drop)]
@@ -56,9 +56,60 @@ fn add_moment(told: &mut Answer, moment: Option<Moment>) {
     }
 }
 
+// The id that a word spells.
+fn id_in(alloc: Global, word: &[u8]) -> Option<Id> {
+    let query = parse_query(alloc, word).ok()?;
+    id_of(&query)
+}
+
 // The id of a query that is one.
 fn id_of(query: &Query) -> Option<Id> {
     query.id.as_ref()?.items.as_slice().first().copied()
+}
+
+fn rule_line(alloc: Global, conditions: &[u8]) -> Option<Vec<u8>> {
+    let mut line = Answer::new(alloc);
+    line.add(b"allow if ");
+    line.add(conditions);
+    line.finish().ok()
+}
+
+fn conditions_of(alloc: Global, text: &[u8]) -> Option<Conds> {
+    let line = rule_line(alloc, text)?;
+    let rule = parse_rule(alloc, &line).ok()?;
+    rule.conds
+}
+
+fn add_inserted(told: &mut Answer, inserted: Result<u64, InsertFault>) {
+    match inserted {
+        Ok(id) => {
+            told.add(b"rule ");
+            told.add_number(id);
+        }
+        Err(InsertFault::NoRule) => told.add(b"no rule"),
+        Err(InsertFault::Full) => told.add(b"full"),
+    }
+}
+
+fn done_or_no_rule(done: bool) -> &'static [u8] {
+    if done { b"done" } else { b"no rule" }
+}
+
+fn add_past(told: &mut Answer, entry: &RuleEntry) {
+    told.add(b"evaluated ");
+    add_moment(told, entry.history.evaluated);
+    told.add(b", applied ");
+    add_moment(told, entry.history.applied);
+}
+
+fn add_cause(told: &mut Answer, cause: Cause) {
+    match cause {
+        Cause::Rule(id) => {
+            told.add(b" by rule ");
+            told.add_number(id);
+        }
+        _ => told.add(b" by none"),
+    }
 }
 
 impl Session {
@@ -77,95 +128,83 @@ impl Session {
         }
     }
 
-    fn say(&self, text: &[u8]) -> Result<Vec<u8>, NoMemory> {
-        say(self.alloc, text)
-    }
-
     // A key of that id at the port 2 of bus 1, without interfaces.
-    fn key(&self, word: &[u8]) -> Result<Option<DeviceRecord>, NoMemory> {
-        let Ok(query) = parse_query(self.alloc, word) else {
-            return Ok(None);
-        };
-        let Some(id) = id_of(&query) else {
-            return Ok(None);
-        };
-        let Ok(via_port) = NodeName::parse(b"1-2") else {
-            return Ok(None);
-        };
-        Ok(Some(DeviceRecord {
+    fn key_of(&self, id: Id, via_port: NodeName, name: Text) -> DeviceRecord {
+        DeviceRecord {
             vendor: id.vendor.unwrap_or(0),
             product: id.product.unwrap_or(0),
             serial: Text::new(self.alloc),
-            name: Text::of(self.alloc, b"Key")?,
+            name,
             hash: [b'a'; 44],
             parent_hash: Text::new(self.alloc),
             via_port,
             interfaces: List::new(self.alloc),
             connect: Text::new(self.alloc),
-        }))
-    }
-
-    fn insert(
-        &mut self,
-        after: After,
-        rule: Rule,
-    ) -> Result<Option<Result<u64, InsertFault>>, NoMemory> {
-        self.list.reserve()?;
-        if self.list.next_id() == u64::MAX {
-            return Ok(None);
-        }
-        Ok(Some(self.list.insert(after, rule, false)))
-    }
-
-    fn add(&mut self, after: After, line: &[u8]) -> Result<Vec<u8>, NoMemory> {
-        let Ok(rule) = parse_rule(self.alloc, line) else {
-            return self.say(b"no such rule");
-        };
-        match self.insert(after, rule)? {
-            Some(Ok(id)) => Ok(format!(in self.alloc; "rule {id}")?.into_bytes()),
-            Some(Err(InsertFault::NoRule)) => self.say(b"no rule"),
-            Some(Err(InsertFault::Full)) => self.say(b"full"),
-            None => self.say(b"no number"),
         }
     }
 
-    // `COUNT RULE`
-    fn fill(&mut self, line: &[u8]) -> Result<Vec<u8>, NoMemory> {
+    // None where the word is no id.
+    fn key(&self, told: &mut Answer, word: &[u8]) -> Option<DeviceRecord> {
+        let id = id_in(self.alloc, word)?;
+        let via_port = NodeName::parse(b"1-2").ok()?;
+        match Text::of(self.alloc, b"Key") {
+            Ok(name) => Some(self.key_of(id, via_port, name)),
+            Err(_) => {
+                told.fall_short();
+                None
+            }
+        }
+    }
+
+    fn insert(&mut self, told: &mut Answer, after: After, rule: Rule) {
+        if self.list.reserve().is_err() {
+            told.fall_short();
+        } else if self.list.next_id() == u64::MAX {
+            told.add(b"no number");
+        } else {
+            add_inserted(told, self.list.insert(after, rule, false));
+        }
+    }
+
+    fn add(&mut self, told: &mut Answer, after: After, line: &[u8]) {
+        match parse_rule(self.alloc, line) {
+            Ok(rule) => self.insert(told, after, rule),
+            Err(_) => told.add(b"no such rule"),
+        }
+    }
+
+    // `COUNT RULE`: what the last of them tells
+    fn fill(&mut self, told: &mut Answer, line: &[u8]) {
         let (count, line) = split_word(line);
-        let mut last = self.say(b"nothing")?;
+        let mut last = Answer::new(self.alloc);
+        last.add(b"nothing");
         for _ in 0..number_of(count).unwrap_or(0) {
-            last = self.add(After::End, line)?;
+            last.clear();
+            self.add(&mut last, After::End, line);
         }
-        Ok(last)
+        told.add_answer(&last);
     }
 
     // `ID RULE`
-    fn add_behind(&mut self, line: &[u8]) -> Result<Vec<u8>, NoMemory> {
+    fn add_behind(&mut self, told: &mut Answer, line: &[u8]) {
         let (id, line) = split_word(line);
-        self.add(After::Rule(number_of(id).unwrap_or(0)), line)
+        self.add(told, After::Rule(number_of(id).unwrap_or(0)), line);
     }
 
-    fn remove(&mut self, word: &[u8]) -> Result<Vec<u8>, NoMemory> {
-        match self.list.remove(number_of(word).unwrap_or(0)) {
-            Ok(()) => self.say(b"done"),
-            Err(_) => self.say(b"no rule"),
-        }
+    fn remove(&mut self, told: &mut Answer, word: &[u8]) {
+        let id = number_of(word).unwrap_or(0);
+        told.add(done_or_no_rule(self.list.remove(id).is_ok()));
     }
 
     // `ID TARGET`
-    fn set_target(&mut self, line: &[u8]) -> Result<Vec<u8>, NoMemory> {
+    fn set_target(&mut self, told: &mut Answer, line: &[u8]) {
         let (id, target) = split_word(line);
-        match self.list.set_target(
-            number_of(id).unwrap_or(0),
-            Target::named(target).unwrap_or(Target::Reject),
-        ) {
-            Ok(()) => self.say(b"done"),
-            Err(_) => self.say(b"no rule"),
-        }
+        let id = number_of(id).unwrap_or(0);
+        let target = Target::named(target).unwrap_or(Target::Reject);
+        told.add(done_or_no_rule(self.list.set_target(id, target).is_ok()));
     }
 
-    fn ids(&self) -> Result<Vec<u8>, NoMemory> {
-        let mut told = Answer::new(self.alloc);
+    fn ids(&self, told: &mut Answer) {
         told.add(b"rules");
         for place in 0..self.list.len() {
             if let Some(entry) = self.list.entry(place) {
@@ -173,138 +212,124 @@ impl Session {
                 told.add_number(entry.id);
             }
         }
-        told.finish()
     }
 
-    fn length(&self) -> Result<Vec<u8>, NoMemory> {
-        let count = self.list.len();
-        let next = self.list.next_id();
-        Ok(format!(in self.alloc; "{count} rules, the next is {next}")?.into_bytes())
-    }
-
-    fn past_of(&self, entry: &RuleEntry) -> Result<Vec<u8>, NoMemory> {
-        let mut told = Answer::new(self.alloc);
-        told.add(b"evaluated ");
-        add_moment(&mut told, entry.history.evaluated);
-        told.add(b", applied ");
-        add_moment(&mut told, entry.history.applied);
-        told.finish()
+    fn length(&self, told: &mut Answer) {
+        told.add_number(self.list.len() as u64);
+        told.add(b" rules, the next is ");
+        told.add_number(self.list.next_id());
     }
 
     // The past of the rule at that place.
-    fn past(&self, word: &[u8]) -> Result<Vec<u8>, NoMemory> {
+    fn past(&self, told: &mut Answer, word: &[u8]) {
         let place = usize::try_from(number_of(word).unwrap_or(0)).unwrap_or(0);
         match self.list.entry(place) {
-            Some(entry) => self.past_of(entry),
-            None => self.say(b"no rule"),
+            Some(entry) => add_past(told, entry),
+            None => told.add(b"no rule"),
         }
+    }
+
+    fn judge_key(&mut self, told: &mut Answer, moment: u64, key: &DeviceRecord) {
+        let context = context(moment);
+        let (verdict, cause) = self
+            .list
+            .judge(key, &context, &self.allowed, Target::Block, &mut self.rng);
+        told.add(verdict.word());
+        add_cause(told, cause);
     }
 
     // `MOMENT ID`
-    fn judge(&mut self, line: &[u8]) -> Result<Vec<u8>, NoMemory> {
+    fn judge(&mut self, told: &mut Answer, line: &[u8]) {
         let (moment, word) = split_word(line);
-        let Some(device) = self.key(word)? else {
-            return self.say(b"no device");
-        };
-        let context = context(number_of(moment).unwrap_or(0));
-        let (verdict, cause) = self.list.judge(
-            &device,
-            &context,
-            &self.allowed,
-            Target::Block,
-            &mut self.rng,
-        );
-        let mut told = Answer::new(self.alloc);
-        told.add(verdict.word());
-        match cause {
-            Cause::Rule(id) => {
-                told.add(b" by rule ");
-                told.add_number(id);
-            }
-            _ => told.add(b" by none"),
+        match self.key(told, word) {
+            Some(key) => self.judge_key(told, number_of(moment).unwrap_or(0), &key),
+            None => told.add(b"no device"),
         }
-        told.finish()
+    }
+
+    fn are_met(&mut self, conditions: &Conds, moment: u64) -> bool {
+        holds(
+            conditions,
+            &self.history,
+            &context(moment),
+            &self.allowed,
+            &mut self.rng,
+        )
     }
 
     // `MOMENT CONDITIONS`
-    fn ask(&mut self, line: &[u8]) -> Result<Vec<u8>, NoMemory> {
+    fn ask(&mut self, told: &mut Answer, line: &[u8]) {
         let (moment, conditions) = split_word(line);
-        let mut text = self.say(b"allow if ")?;
-        text.extend_from_slice(conditions)?;
-        let Ok(rule) = parse_rule(self.alloc, &text) else {
-            return self.say(b"no conditions");
-        };
-        let Some(conditions) = &rule.conds else {
-            return self.say(b"no conditions");
-        };
-        let context = context(number_of(moment).unwrap_or(0));
-        if holds(
-            conditions,
-            &self.history,
-            &context,
-            &self.allowed,
-            &mut self.rng,
-        ) {
-            self.say(b"yes")
-        } else {
-            self.say(b"no")
+        match conditions_of(self.alloc, conditions) {
+            Some(conditions) => {
+                let met = self.are_met(&conditions, number_of(moment).unwrap_or(0));
+                told.add(if met { b"yes" } else { b"no" });
+            }
+            None => told.add(b"no conditions"),
         }
     }
 
     // `EVALUATED APPLIED`, each a moment or `-`
-    fn set_history(&mut self, line: &[u8]) -> Result<Vec<u8>, NoMemory> {
+    fn set_history(&mut self, told: &mut Answer, line: &[u8]) {
         let (evaluated, applied) = split_word(line);
         self.history = History {
             evaluated: moment_of(evaluated),
             applied: moment_of(applied),
         };
-        self.say(b"done")
+        told.add(b"done");
     }
 
-    fn allow(&mut self, word: &[u8]) -> Result<Vec<u8>, NoMemory> {
-        let Some(device) = self.key(word)? else {
-            return self.say(b"no device");
-        };
-        self.allowed.records.push(device)?;
-        self.say(b"done")
-    }
-
-    fn seed(&mut self) -> Result<Vec<u8>, NoMemory> {
-        self.rng = ChaCha20Rng::from_seed([0; 32]);
-        self.say(b"done")
-    }
-
-    fn next_word(&mut self) -> Result<Vec<u8>, NoMemory> {
-        let word = self.rng.next_u64();
-        Ok(format!(in self.alloc; "{word:016x}")?.into_bytes())
-    }
-
-    fn answer_change(&mut self, verb: &str, rest: &[u8]) -> Result<Vec<u8>, NoMemory> {
-        match verb {
-            "last" => self.add(After::End, rest),
-            "first" => self.add(After::Front, rest),
-            "behind" => self.add_behind(rest),
-            "fill" => self.fill(rest),
-            "remove" => self.remove(rest),
-            "target" => self.set_target(rest),
-            "history" => self.set_history(rest),
-            "allow" => self.allow(rest),
-            "seed" => self.seed(),
-            _ => self.say(b"no such verb"),
+    fn allow_key(&mut self, told: &mut Answer, key: DeviceRecord) {
+        match self.allowed.records.push(key) {
+            Ok(()) => told.add(b"done"),
+            Err(_) => told.fall_short(),
         }
     }
 
-    /// What a line tells: a verb and its words.
-    pub fn answer(&mut self, line: &[u8]) -> Result<Vec<u8>, NoMemory> {
+    fn allow(&mut self, told: &mut Answer, word: &[u8]) {
+        match self.key(told, word) {
+            Some(key) => self.allow_key(told, key),
+            None => told.add(b"no device"),
+        }
+    }
+
+    fn seed(&mut self, told: &mut Answer) {
+        self.rng = ChaCha20Rng::from_seed([0; 32]);
+        told.add(b"done");
+    }
+
+    fn next_word(&mut self, told: &mut Answer) {
+        for byte in self.rng.next_u64().to_be_bytes() {
+            told.add_digits(byte);
+        }
+    }
+
+    fn answer_change(&mut self, told: &mut Answer, verb: &str, rest: &[u8]) {
+        match verb {
+            "last" => self.add(told, After::End, rest),
+            "first" => self.add(told, After::Front, rest),
+            "behind" => self.add_behind(told, rest),
+            "fill" => self.fill(told, rest),
+            "remove" => self.remove(told, rest),
+            "target" => self.set_target(told, rest),
+            "history" => self.set_history(told, rest),
+            "allow" => self.allow(told, rest),
+            "seed" => self.seed(told),
+            _ => told.add(b"no such verb"),
+        }
+    }
+
+    /// Adds what a line tells: a verb and its words.
+    pub fn answer(&mut self, told: &mut Answer, line: &[u8]) {
         let (verb, rest) = split_word(line);
         match str::from_utf8(verb).unwrap_or("") {
-            "judge" => self.judge(rest),
-            "ask" => self.ask(rest),
-            "ids" => self.ids(),
-            "length" => self.length(),
-            "past" => self.past(rest),
-            "word" => self.next_word(),
-            verb => self.answer_change(verb, rest),
+            "judge" => self.judge(told, rest),
+            "ask" => self.ask(told, rest),
+            "ids" => self.ids(told),
+            "length" => self.length(told),
+            "past" => self.past(told, rest),
+            "word" => self.next_word(told),
+            verb => self.answer_change(told, verb, rest),
         }
     }
 }

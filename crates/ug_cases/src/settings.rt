@@ -1,12 +1,12 @@
 // Settings, and the faults of their lines.
-use crate::rules::tell_file_fault;
+use crate::rules::add_file_fault;
 use std::alloc::Global;
 use ug_casefile::Answer;
 use ug_conf::{
     AuthDefault, FaultKind, LineFault, Present, Settings, SettingsReader, default_settings,
     parse_conf,
 };
-use ug_types::{NoMemory, Numbered};
+use ug_types::Numbered;
 
 fn present_word(present: Present) -> &'static [u8] {
     match present {
@@ -66,13 +66,12 @@ fn word_of_bool(value: bool) -> &'static [u8] {
     if value { b"true" } else { b"false" }
 }
 
-fn tell_settings(alloc: Global, settings: &Settings) -> Result<Vec<u8>, NoMemory> {
+fn add_settings(told: &mut Answer, settings: &Settings) {
     let device = present_word(settings.present_device);
     let controller = present_word(settings.present_controller);
     let with_port = word_of_bool(settings.with_port);
-    let mut told = Answer::new(alloc);
     add_texts(
-        &mut told,
+        told,
         &[
             (b"RuleFile", settings.rule_file.bytes()),
             (b"RuleFolder", settings.rule_folder.bytes()),
@@ -80,7 +79,7 @@ fn tell_settings(alloc: Global, settings: &Settings) -> Result<Vec<u8>, NoMemory
         ],
     );
     add_words(
-        &mut told,
+        told,
         &[
             (b"ImplicitPolicyTarget", settings.implicit.word()),
             (b"PresentDevicePolicy", device),
@@ -90,35 +89,37 @@ fn tell_settings(alloc: Global, settings: &Settings) -> Result<Vec<u8>, NoMemory
             (b"DeviceRulesWithPort", with_port),
         ],
     );
-    add_users(&mut told, settings);
-    add_unused(&mut told, settings);
-    told.finish()
+    add_users(told, settings);
+    add_unused(told, settings);
 }
 
 /// The settings of a text, or `fault LINE KIND PLACE`.
-pub fn tell(alloc: Global, text: &[u8]) -> Result<Vec<u8>, NoMemory> {
+pub fn tell(alloc: Global, told: &mut Answer, text: &[u8]) {
     match parse_conf(alloc, text) {
-        Ok(settings) => tell_settings(alloc, &settings),
-        Err(fault) => tell_file_fault(alloc, fault),
+        Ok(settings) => add_settings(told, &settings),
+        Err(fault) => add_file_fault(told, fault),
     }
 }
 
-pub fn tell_defaults(alloc: Global) -> Result<Vec<u8>, NoMemory> {
-    tell_settings(alloc, &default_settings(alloc)?)
+pub fn tell_defaults(alloc: Global, told: &mut Answer) {
+    match default_settings(alloc) {
+        Ok(settings) => add_settings(told, &settings),
+        Err(_) => told.fall_short(),
+    }
 }
 
 /// How long the path of the rule file is, or `fault LINE KIND PLACE`.
-pub fn tell_length(alloc: Global, text: &[u8]) -> Result<Vec<u8>, NoMemory> {
+pub fn tell_length(alloc: Global, told: &mut Answer, text: &[u8]) {
     match parse_conf(alloc, text) {
         Ok(settings) => {
-            let length = settings.rule_file.bytes().len();
-            Ok(format!(in alloc; "{length} bytes")?.into_bytes())
+            told.add_number(settings.rule_file.bytes().len() as u64);
+            told.add(b" bytes");
         }
-        Err(fault) => tell_file_fault(alloc, fault),
+        Err(fault) => add_file_fault(told, fault),
     }
 }
 
-fn add_answer(told: &mut Answer, answer: Result<(), LineFault<FaultKind>>) -> Result<(), NoMemory> {
+fn add_answer(told: &mut Answer, answer: Result<(), LineFault<FaultKind>>) {
     match answer {
         Ok(()) => told.add(b"good\n"),
         Err(LineFault::Bad(fault)) => {
@@ -128,18 +129,21 @@ fn add_answer(told: &mut Answer, answer: Result<(), LineFault<FaultKind>>) -> Re
             told.add_number(fault.place);
             told.add(b"\n");
         }
-        Err(LineFault::Memory) => return Err(NoMemory),
+        Err(LineFault::Memory) => told.fall_short(),
     }
-    Ok(())
+}
+
+fn add_lines(told: &mut Answer, mut reader: SettingsReader, text: &[u8]) {
+    for line in text.split(|byte| *byte == b'\n') {
+        add_answer(told, reader.line(line));
+    }
+    add_unused(told, &reader.finish());
 }
 
 /// The answer to each line, and the lines that are unused.
-pub fn tell_lines(alloc: Global, text: &[u8]) -> Result<Vec<u8>, NoMemory> {
-    let mut reader = SettingsReader::new(alloc)?;
-    let mut told = Answer::new(alloc);
-    for line in text.split(|byte| *byte == b'\n') {
-        add_answer(&mut told, reader.line(line))?;
+pub fn tell_lines(alloc: Global, told: &mut Answer, text: &[u8]) {
+    match SettingsReader::new(alloc) {
+        Ok(reader) => add_lines(told, reader, text),
+        Err(_) => told.fall_short(),
     }
-    add_unused(&mut told, &reader.finish());
-    told.finish()
 }

@@ -4,7 +4,7 @@ use ug_casefile::{Answer, Case};
 use ug_console::Ran;
 use ug_script::Runner;
 use ug_sysfs::SimKernel;
-use ug_types::{MemSink, NoMemory};
+use ug_types::MemSink;
 
 fn word_of(ran: Ran) -> &'static str {
     match ran {
@@ -24,18 +24,13 @@ fn add_answer(told: &mut Answer, number: u64, ran: Ran) {
     told.add(b"\n");
 }
 
-// The lines of the input.
-fn lines_of(alloc: Global, case: &Case) -> Result<Vec<&[u8]>, NoMemory> {
-    let mut lines = Vec::new(alloc);
+// The lines of the input, without the end of the last; None where there is no line.
+fn text_given(case: &Case) -> Option<&[u8]> {
     let text = case.input.as_slice();
     if text.is_empty() {
-        return Ok(lines);
+        return None;
     }
-    let text = text.strip_suffix(b"\n").unwrap_or(text);
-    for line in text.split(|byte| *byte == b'\n') {
-        lines.push(line)?;
-    }
-    Ok(lines)
+    Some(text.strip_suffix(b"\n").unwrap_or(text))
 }
 
 // What a line came to, of a runner that plays it, or one that makes rules of the devices.
@@ -61,25 +56,50 @@ fn finish(runner: &mut Runner, kernel: &SimKernel, out: &mut MemSink, policy: bo
     }
 }
 
-/// What the lines write, which of them aren't done, and how the finish ends. With `policy` the runner makes rules of the devices.
-pub fn tell(alloc: Global, case: &Case, policy: bool) -> Result<Vec<u8>, NoMemory> {
-    let mut out = MemSink::new(alloc, case.numbers(alloc, b"writes")?);
+// Hands the lines over, and adds those that aren't done.
+fn add_steps(
+    answers: &mut Answer,
+    runner: &mut Runner,
+    kernel: &mut SimKernel,
+    text: &[u8],
+    out: &mut MemSink,
+    policy: bool,
+) {
+    let mut number: u64 = 0;
+    for line in text.split(|byte| *byte == b'\n') {
+        number = number.saturating_add(1);
+        let ran = step(runner, kernel, line, out, policy);
+        if !matches!(ran, Ran::Done) {
+            add_answer(answers, number, ran);
+        }
+    }
+}
+
+fn add_run(alloc: Global, told: &mut Answer, case: &Case, mut out: MemSink, policy: bool) {
     let mut kernel = SimKernel::new(alloc);
     let mut runner = Runner::new(alloc);
     let mut answers = Answer::new(alloc);
-    let mut number: u64 = 0;
-    for line in lines_of(alloc, case)?.as_slice() {
-        number = number.saturating_add(1);
-        let ran = step(&mut runner, &mut kernel, line, &mut out, policy);
-        if !matches!(ran, Ran::Done) {
-            add_answer(&mut answers, number, ran);
-        }
+    if let Some(text) = text_given(case) {
+        add_steps(
+            &mut answers,
+            &mut runner,
+            &mut kernel,
+            text,
+            &mut out,
+            policy,
+        );
     }
     let end = finish(&mut runner, &kernel, &mut out, policy);
-    let mut told = Answer::new(alloc);
     told.add(out.bytes());
-    told.add(&answers.finish()?);
+    told.add_answer(&answers);
     told.add(b"end ");
     told.add(word_of(end).as_bytes());
-    told.finish()
+}
+
+/// What the lines write, which of them aren't done, and how the finish ends. With `policy` the runner makes rules of the devices.
+pub fn tell(alloc: Global, told: &mut Answer, case: &Case, policy: bool) {
+    match case.numbers(alloc, b"writes") {
+        Ok(writes) => add_run(alloc, told, case, MemSink::new(alloc, writes), policy),
+        Err(_) => told.fall_short(),
+    }
 }

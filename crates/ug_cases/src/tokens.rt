@@ -31,70 +31,84 @@ fn add_token(told: &mut Answer, token: &Token) {
     }
 }
 
-fn fault_words(fault: LexFault) -> Result<(&'static str, u64), NoMemory> {
+// None where memory was short.
+fn fault_words(fault: LexFault) -> Option<(&'static str, u64)> {
     match fault {
-        LexFault::BadEscape(place) => Ok(("bad escape", place)),
-        LexFault::OpenString(place) => Ok(("open string", place)),
-        LexFault::BadByte(place) => Ok(("bad byte", place)),
-        LexFault::Memory => Err(NoMemory),
+        LexFault::BadEscape(place) => Some(("bad escape", place)),
+        LexFault::OpenString(place) => Some(("open string", place)),
+        LexFault::BadByte(place) => Some(("bad byte", place)),
+        LexFault::Memory => None,
     }
 }
 
-fn tell_fault(alloc: Global, fault: LexFault) -> Result<Vec<u8>, NoMemory> {
-    let (words, place) = fault_words(fault)?;
-    let mut told = Answer::new(alloc);
-    told.add(words.as_bytes());
-    told.add(b" ");
-    told.add_number(place);
-    told.finish()
+fn add_fault(told: &mut Answer, fault: LexFault) {
+    match fault_words(fault) {
+        Some((words, place)) => {
+            told.add(words.as_bytes());
+            told.add(b" ");
+            told.add_number(place);
+        }
+        None => told.fall_short(),
+    }
 }
 
-fn tell_tokens(alloc: Global, list: &[Token]) -> Result<Vec<u8>, NoMemory> {
-    let mut told = Answer::new(alloc);
+fn add_tokens(told: &mut Answer, list: &[Token]) {
     for token in list {
         if !told.is_empty() {
             told.add(b", ");
         }
-        add_token(&mut told, token);
+        add_token(told, token);
     }
     if told.is_empty() {
         told.add(b"none");
     }
-    told.finish()
 }
 
 /// Each token, with commas between.
-pub fn tell(alloc: Global, line: &[u8]) -> Result<Vec<u8>, NoMemory> {
+pub fn tell(alloc: Global, told: &mut Answer, line: &[u8]) {
     match tokens(alloc, line) {
-        Ok(list) => tell_tokens(alloc, list.as_slice()),
-        Err(fault) => tell_fault(alloc, fault),
+        Ok(list) => add_tokens(told, list.as_slice()),
+        Err(fault) => add_fault(told, fault),
     }
+}
+
+fn bytes_of(token: &Token) -> usize {
+    match &token.kind {
+        TokenKind::Str(text) => text.bytes().len(),
+        _ => 0,
+    }
+}
+
+fn add_counts(told: &mut Answer, list: &[Token]) {
+    let mut bytes: usize = 0;
+    for token in list {
+        bytes = bytes.saturating_add(bytes_of(token));
+    }
+    told.add_number(list.len() as u64);
+    told.add(b" tokens, ");
+    told.add_number(bytes as u64);
+    told.add(b" bytes of text");
 }
 
 /// How many tokens there are, and how many bytes their strings spell.
-pub fn count(alloc: Global, line: &[u8]) -> Result<Vec<u8>, NoMemory> {
-    let list = match tokens(alloc, line) {
-        Ok(list) => list,
-        Err(fault) => return tell_fault(alloc, fault),
-    };
-    let mut bytes: usize = 0;
-    for token in list.as_slice() {
-        if let TokenKind::Str(text) = &token.kind {
-            bytes = bytes.saturating_add(text.bytes().len());
-        }
+pub fn count(alloc: Global, told: &mut Answer, line: &[u8]) {
+    match tokens(alloc, line) {
+        Ok(list) => add_counts(told, list.as_slice()),
+        Err(fault) => add_fault(told, fault),
     }
-    let count = list.as_slice().len();
-    Ok(format!(in alloc; "{count} tokens, {bytes} bytes of text")?.into_bytes())
 }
 
-fn mark_of_fault(fault: LexFault) -> Result<[u8; 2], NoMemory> {
-    let (words, place) = fault_words(fault)?;
+fn add_fault_mark(told: &mut Answer, fault: LexFault) {
+    let Some((words, place)) = fault_words(fault) else {
+        told.fall_short();
+        return;
+    };
     let mark = match words {
         "bad escape" => b'e',
         "open string" => b'o',
         _ => b'b',
     };
-    Ok([mark, b'0'.saturating_add(place.min(9) as u8)])
+    told.add(&[mark, b'0'.saturating_add(place.min(9) as u8)]);
 }
 
 // The letter of the one token, and `=` where it's a string of that byte alone; `..` for none.
@@ -109,36 +123,41 @@ fn mark_of_tokens(list: &[Token], byte: u8) -> [u8; 2] {
     }
 }
 
-fn mark(alloc: Global, line: &[u8], byte: u8) -> Result<[u8; 2], NoMemory> {
+fn add_mark(alloc: Global, told: &mut Answer, line: &[u8], byte: u8) {
     match tokens(alloc, line) {
-        Ok(list) => Ok(mark_of_tokens(list.as_slice(), byte)),
-        Err(fault) => mark_of_fault(fault),
+        Ok(list) => told.add(&mark_of_tokens(list.as_slice(), byte)),
+        Err(fault) => add_fault_mark(told, fault),
     }
 }
 
-fn add_row(alloc: Global, told: &mut Answer, case: &Case, first: u8) -> Result<(), NoMemory> {
+// The byte between the two texts.
+fn line_with(alloc: Global, case: &Case, byte: u8) -> Result<Vec<u8>, NoMemory> {
+    let mut line = Answer::new(alloc);
+    line.add(case.setting(b"before").unwrap_or(&[]));
+    line.add(&[byte]);
+    line.add(case.setting(b"behind").unwrap_or(&[]));
+    line.finish()
+}
+
+fn add_row(alloc: Global, told: &mut Answer, case: &Case, first: u8) {
     for place in 0..16u8 {
         let byte = first | place;
-        let mut line = Answer::new(alloc);
-        line.add(case.setting(b"before").unwrap_or(&[]));
-        line.add(&[byte]);
-        line.add(case.setting(b"behind").unwrap_or(&[]));
         if place != 0 {
             told.add(b" ");
         }
-        told.add(&mark(alloc, &line.finish()?, byte)?);
+        match line_with(alloc, case, byte) {
+            Ok(line) => add_mark(alloc, told, &line, byte),
+            Err(_) => told.fall_short(),
+        }
     }
-    Ok(())
 }
 
 /// Sixteen rows of marks for what each byte gives between two texts.
-pub fn tell_each_byte(alloc: Global, case: &Case) -> Result<Vec<u8>, NoMemory> {
-    let mut told = Answer::new(alloc);
+pub fn tell_each_byte(alloc: Global, told: &mut Answer, case: &Case) {
     for row in 0..16u8 {
         if row != 0 {
             told.add(b"\n");
         }
-        add_row(alloc, &mut told, case, row * 16)?;
+        add_row(alloc, told, case, row * 16);
     }
-    told.finish()
 }

@@ -1,9 +1,8 @@
 // Seconds of local days.
 use jiff::tz::{Offset, TimeZone};
-use std::alloc::Global;
-use ug_casefile::{number_of, say, split_word};
+use ug_casefile::{Answer, number_of, split_word};
 use ug_cond::local_second;
-use ug_types::{Moment, NoMemory};
+use ug_types::Moment;
 
 // So many seconds ahead of UTC.
 fn fixed(sign: i32, digits: &[u8]) -> Option<TimeZone<'static>> {
@@ -26,10 +25,10 @@ fn second(zone: &[u8], moment: &[u8]) -> Option<u32> {
 
 /// The second of the day at a moment by the clocks of a zone: `ZONE MOMENT`, where a zone is `+SECONDS`, `-SECONDS` or one of
 /// POSIX.
-pub fn tell(alloc: Global, line: &[u8]) -> Result<Vec<u8>, NoMemory> {
+pub fn tell(told: &mut Answer, line: &[u8]) {
     let (zone, moment) = split_word(line);
     match second(zone, moment) {
-        Some(second) => Ok(format!(in alloc; "{second}")?.into_bytes()),
-        None => say(alloc, b"no zone or no moment"),
+        Some(second) => told.add_number(u64::from(second)),
+        None => told.add(b"no zone or no moment"),
     }
 }
