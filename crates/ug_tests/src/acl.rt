@@ -23,13 +23,15 @@ fn reads_and_prints_grants(rt: HostRuntime) {
     assert!(rt; is_printed(alloc, &grants));
 }
 
+fn add(alloc: Global, acl: &mut Acl, name: &[u8], text: &[u8]) -> Option<()> {
+    let who = parse_file_name(name).ok()?;
+    acl.add(who, &parse_access(alloc, text).ok()?).ok()
+}
+
 fn added(alloc: Global) -> Option<Acl> {
     let mut acl = Acl::new(alloc);
-    let joe = parse_file_name(b"joe").ok()?;
-    acl.add(joe, &parse_access(alloc, b"Devices=listen").ok()?)
-        .ok()?;
-    acl.add(joe, &parse_access(alloc, b"Policy=ALL").ok()?)
-        .ok()?;
+    add(alloc, &mut acl, b"joe", b"Devices=listen")?;
+    add(alloc, &mut acl, b"joe", b"Policy=ALL")?;
     acl.add_all(parse_file_name(b":adm").ok()?).ok()?;
     Some(acl)
 }

@@ -1,24 +1,23 @@
-// Files and folders of a test, among the temporary files.
-use std::test::Fail;
-use std::time::SystemTime;
-use std::{env, fs};
+// Files and folders of a test, below the folder in which it runs. Each test has a folder of its own.
+use std::fs;
+use std::os::unix::fs::PermissionsExt;
 
-/// A path of which nobody else knows.
-pub fn fresh_path(rt: &HostRuntime, name: &str) -> Result<String, Fail> {
-    let now = SystemTime::now(rt)?.duration_since(SystemTime::UNIX_EPOCH)?;
-    let folder = env::temp_dir(rt)?;
-    let number = now.as_nanos();
-    Ok(format!(in rt.alloc(); "{}/usbguard-{name}-{number}", folder.as_str())?)
+/// Makes a folder anew.
+pub fn make_folder(rt: &HostRuntime, path: &str) -> bool {
+    let _old = fs::remove_dir_all(rt, path).is_ok();
+    fs::create_dir_all(rt, path).is_ok()
 }
 
-pub fn make_folder(rt: &HostRuntime, name: &str) -> Result<String, Fail> {
-    let root = fresh_path(rt, name)?;
-    fs::create_dir_all(rt, root.as_str())?;
-    Ok(root)
+pub fn remove_folder(rt: &HostRuntime, path: &str) -> bool {
+    fs::remove_dir_all(rt, path).is_ok()
 }
 
-pub fn path_in(rt: &HostRuntime, folder: &str, file: &str) -> Result<String, Fail> {
-    Ok(format!(in rt.alloc(); "{folder}/{file}")?)
+pub fn put(rt: &HostRuntime, path: &str, text: &[u8]) -> bool {
+    fs::write(rt, path, text).is_ok()
+}
+
+pub fn set_mode(rt: &HostRuntime, path: &str, mode: u32) -> bool {
+    fs::set_permissions(rt, path, fs::Permissions::from_mode(mode)).is_ok()
 }
 
 /// Whether a file has that text.

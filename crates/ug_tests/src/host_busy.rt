@@ -4,7 +4,6 @@ use std::fs::{Metadata, OpenFile, OpenOptions};
 use std::io;
 use std::io::{ErrorKind, Read, Seek, SeekFrom, Write};
 use std::rt::Files;
-use std::test::Fail;
 use ug_conf::{ConfFiles, FileRead};
 use ug_host::ConfFolder;
 
@@ -36,7 +35,7 @@ impl Read for Busy {
 
 impl Write for Busy {
     fn write(&mut self, _buf: &[u8]) -> io::Result<usize> {
-        Err(io::Error::from(ErrorKind::Unsupported))
+        refuse()
     }
 
     fn flush(&mut self) -> io::Result<()> {
@@ -121,13 +120,14 @@ impl Files for BusyFiles {
     }
 }
 
-#[test]
-fn an_interrupted_reading_is_made_again(rt: HostRuntime) -> Result<(), Fail> {
-    let alloc = rt.alloc();
+// Whether its one byte is read.
+fn is_read(alloc: Global) -> bool {
     let mut files = ConfFolder::new((BusyFiles {}, alloc));
-    match files.read_file(alloc, b"/etc/usbguard/usbguard-daemon.conf") {
-        FileRead::Bytes(text) => assert!(rt; text.bytes() == b"1".as_slice()),
-        _ => return Err(Fail::from("not read")),
-    }
-    Ok(())
+    let read = files.read_file(alloc, b"/etc/usbguard/usbguard-daemon.conf");
+    matches!(read, FileRead::Bytes(text) if text.bytes() == b"1".as_slice())
+}
+
+#[test]
+fn an_interrupted_reading_is_made_again(rt: HostRuntime) {
+    assert!(rt; is_read(rt.alloc()));
 }

@@ -1,80 +1,93 @@
 // Ordinary files of this machine.
-use crate::folders::{make_folder, path_in};
+use crate::folders::{make_folder, put, remove_folder, set_mode};
 use std::alloc::Global;
 use std::fs;
-use std::os::unix::fs::{MetadataExt, PermissionsExt, symlink};
-use std::test::Fail;
+use std::os::unix::fs::{MetadataExt, symlink};
 use std::time::Instant;
 use ug_conf::{ConfFiles, FileRead, FolderRead};
 use ug_host::{ConfFolder, RuleFile, SocketWaiter, SystemClock};
 use ug_store::{DiskAnswer, Loaded, RuleDisk};
 use ug_types::{Clock, Ready, Waiter, Woken};
 
-fn has_mode(rt: &HostRuntime, path: &str, mode: u32) -> bool {
-    match fs::metadata(rt, path) {
+type Disk = RuleFile<HostRuntime>;
+
+type Settings = ConfFolder<HostRuntime>;
+
+const RULES: &str = "out/rules/rules.conf";
+
+const LINK: &str = "out/rules/link.conf";
+
+fn has_mode(rt: &HostRuntime, mode: u32) -> bool {
+    match fs::metadata(rt, RULES) {
         Ok(file) => file.mode() & 0o7777 == mode,
         Err(_) => false,
     }
 }
 
-fn saves(alloc: Global, disk: &mut RuleFile<HostRuntime>, text: &[u8]) -> bool {
+fn is_link(rt: &HostRuntime) -> bool {
+    match fs::symlink_metadata(rt, LINK) {
+        Ok(file) => file.is_symlink(),
+        Err(_) => false,
+    }
+}
+
+fn saves(alloc: Global, disk: &mut Disk, text: &[u8]) -> bool {
     disk.write_new(alloc, text) == DiskAnswer::Done
         && disk.sync_new() == DiskAnswer::Done
         && disk.swap() == DiskAnswer::Done
 }
 
-fn loads(alloc: Global, disk: &mut RuleFile<HostRuntime>, text: &[u8]) -> bool {
+fn finds_none(alloc: Global, disk: &mut Disk) -> bool {
+    matches!(disk.load(alloc), Loaded::Absent)
+}
+
+fn loads(alloc: Global, disk: &mut Disk, text: &[u8]) -> bool {
     matches!(disk.load(alloc), Loaded::Bytes(loaded) if loaded.bytes() == text)
 }
 
 // A swap without a new file fails, and is counted.
-fn fails_to_swap(disk: &mut RuleFile<HostRuntime>) -> bool {
+fn fails_to_swap(disk: &mut Disk) -> bool {
     let before = disk.faults();
     before == 0 && disk.swap() == DiskAnswer::Failed && disk.faults() == 1
 }
 
 // A disk whose file is named by a link.
-fn aimed(rt: HostRuntime, link: &str) -> Option<RuleFile<HostRuntime>> {
-    symlink(&rt, "rules.conf", link).ok()?;
+fn aimed(rt: HostRuntime) -> Option<Disk> {
+    symlink(&rt, "rules.conf", LINK).ok()?;
     let mut disk = RuleFile::new(rt, rt.alloc());
-    disk.aim(rt.alloc(), link.as_bytes()).ok()?;
+    disk.aim(rt.alloc(), LINK.as_bytes()).ok()?;
     Some(disk)
 }
 
 #[test]
-fn a_save_keeps_link_and_mode(rt: HostRuntime) -> Result<(), Fail> {
+fn a_save_keeps_link_and_mode(rt: HostRuntime) {
     let alloc = rt.alloc();
-    let folder = make_folder(&rt, "rules")?;
-    let path = path_in(&rt, folder.as_str(), "rules.conf")?;
-    let link = path_in(&rt, folder.as_str(), "link.conf")?;
-    let mut disk = aimed(rt, link.as_str()).ok_or("no disk")?;
-    assert!(rt; matches!(disk.load(alloc), Loaded::Absent));
+    assert!(rt; make_folder(&rt, "out/rules"));
+    let mut disk = aimed(rt).expect(&rt, "no disk");
+    assert!(rt; finds_none(alloc, &mut disk));
     assert!(rt; saves(alloc, &mut disk, b"block\n"));
-    assert!(rt; has_mode(&rt, path.as_str(), 0o600));
-    fs::set_permissions(&rt, path.as_str(), fs::Permissions::from_mode(0o640))?;
+    assert!(rt; has_mode(&rt, 0o600));
+    assert!(rt; set_mode(&rt, RULES, 0o640));
     assert!(rt; saves(alloc, &mut disk, b"reject\n"));
-    assert!(rt; has_mode(&rt, path.as_str(), 0o640));
-    assert!(rt; fs::symlink_metadata(&rt, link.as_str())?.is_symlink());
+    assert!(rt; has_mode(&rt, 0o640));
+    assert!(rt; is_link(&rt));
     assert!(rt; loads(alloc, &mut disk, b"reject\n"));
     assert!(rt; fails_to_swap(&mut disk));
-    fs::remove_dir_all(&rt, folder.as_str())?;
-    Ok(())
+    assert!(rt; remove_folder(&rt, "out/rules"));
 }
 
-fn reads(alloc: Global, files: &mut ConfFolder<HostRuntime>, path: &str, wanted: &[u8]) -> bool {
-    let read = files.read_file(alloc, path.as_bytes());
-    matches!(read, FileRead::Bytes(text) if text.bytes() == wanted)
+fn reads(alloc: Global, files: &mut Settings, path: &[u8], wanted: &[u8]) -> bool {
+    matches!(files.read_file(alloc, path), FileRead::Bytes(text) if text.bytes() == wanted)
 }
 
-fn is_absent(alloc: Global, files: &mut ConfFolder<HostRuntime>, path: &str) -> bool {
-    let read = files.read_file(alloc, path.as_bytes());
-    let listed = files.list_folder(alloc, path.as_bytes());
-    matches!(read, FileRead::Absent) && matches!(listed, FolderRead::Absent)
+fn is_absent(alloc: Global, files: &mut Settings, path: &[u8]) -> bool {
+    let read = matches!(files.read_file(alloc, path), FileRead::Absent);
+    read && matches!(files.list_folder(alloc, path), FolderRead::Absent)
 }
 
 // Whether a folder has a file of that name alone.
-fn lists(alloc: Global, files: &mut ConfFolder<HostRuntime>, path: &str, name: &[u8]) -> bool {
-    match files.list_folder(alloc, path.as_bytes()) {
+fn lists(alloc: Global, files: &mut Settings, path: &[u8], name: &[u8]) -> bool {
+    match files.list_folder(alloc, path) {
         FolderRead::Names(names) => match names.as_slice() {
             [only] => only.bytes() == name,
             _ => false,
@@ -84,56 +97,61 @@ fn lists(alloc: Global, files: &mut ConfFolder<HostRuntime>, path: &str, name: &
 }
 
 // A folder isn't read as a file, and that is counted.
-fn fails_to_read(alloc: Global, files: &mut ConfFolder<HostRuntime>, path: &str) -> bool {
+fn fails_to_read(alloc: Global, files: &mut Settings, path: &[u8]) -> bool {
     let before = files.faults();
-    let read = files.read_file(alloc, path.as_bytes());
-    before == 0 && matches!(read, FileRead::Failed) && files.faults() == 1
+    let failed = matches!(files.read_file(alloc, path), FileRead::Failed);
+    before == 0 && failed && files.faults() == 1
 }
 
 #[test]
-fn files_of_settings(rt: HostRuntime) -> Result<(), Fail> {
+fn files_of_settings(rt: HostRuntime) {
     let alloc = rt.alloc();
-    let folder = make_folder(&rt, "settings")?;
-    let path = path_in(&rt, folder.as_str(), "daemon.conf")?;
-    let other = path_in(&rt, folder.as_str(), "other")?;
-    fs::write(&rt, path.as_str(), b"RuleFile=x\n")?;
+    assert!(rt; make_folder(&rt, "out/settings"));
+    assert!(rt; put(&rt, "out/settings/daemon.conf", b"RuleFile=x\n"));
     let mut files = ConfFolder::new(rt);
-    assert!(rt; reads(alloc, &mut files, path.as_str(), b"RuleFile=x\n"));
-    assert!(rt; is_absent(alloc, &mut files, other.as_str()));
-    assert!(rt; lists(alloc, &mut files, folder.as_str(), b"daemon.conf"));
-    assert!(rt; fails_to_read(alloc, &mut files, folder.as_str()));
-    fs::remove_dir_all(&rt, folder.as_str())?;
-    Ok(())
+    assert!(rt;
+        reads(
+            alloc,
+            &mut files,
+            b"out/settings/daemon.conf",
+            b"RuleFile=x\n"
+        )
+    );
+    assert!(rt; is_absent(alloc, &mut files, b"out/settings/other"));
+    assert!(rt; lists(alloc, &mut files, b"out/settings", b"daemon.conf"));
+    assert!(rt; fails_to_read(alloc, &mut files, b"out/settings"));
+    assert!(rt; remove_folder(&rt, "out/settings"));
 }
 
 // How many milliseconds a wait takes, which is to end well.
-fn waits<W: Waiter>(rt: &HostRuntime, waiter: &mut W) -> Result<u128, Fail> {
+fn waits(rt: &HostRuntime, waiter: &mut SocketWaiter<HostRuntime>) -> Option<u128> {
     let mut ready = [Ready::Listener(0); 256];
-    let start = Instant::now(rt)?;
+    let start = Instant::now(rt).ok()?;
     if waiter.wait(&mut ready) != Woken::Got(0) {
-        return Err(Fail::from("no end of the wait"));
+        return None;
     }
-    Ok(start.elapsed(rt)?.as_millis())
+    Some(start.elapsed(rt).ok()?.as_millis())
 }
 
+const SEQNUM: &str = "out/announced/uevent_seqnum";
+
 // Whether a change of the file ends a wait, which else takes its second.
-fn minds<W: Waiter>(rt: &HostRuntime, waiter: &mut W, path: &str) -> Result<bool, Fail> {
-    fs::write(rt, path, b"1\n")?;
-    let at_once = waits(rt, waiter)?;
-    let whole = waits(rt, waiter)?;
-    fs::write(rt, path, b"2\n")?;
-    Ok(at_once < 500 && whole >= 900 && waits(rt, waiter)? < 500)
+fn minds(rt: &HostRuntime) -> Option<bool> {
+    let announced = String::from_str(rt.alloc(), SEQNUM).ok()?;
+    let mut waiter = SocketWaiter::new(*rt, rt.alloc(), announced).ok()?;
+    let first = put(rt, SEQNUM, b"1\n");
+    let at_once = waits(rt, &mut waiter)?;
+    let whole = waits(rt, &mut waiter)?;
+    let second = put(rt, SEQNUM, b"2\n");
+    let again = waits(rt, &mut waiter)?;
+    Some(first && second && at_once < 500 && whole >= 900 && again < 500)
 }
 
 #[test]
-fn an_announcement_ends_the_second(rt: HostRuntime) -> Result<(), Fail> {
-    let folder = make_folder(&rt, "announced")?;
-    let path = path_in(&rt, folder.as_str(), "uevent_seqnum")?;
-    let announced = path_in(&rt, folder.as_str(), "uevent_seqnum")?;
-    let mut sockets = SocketWaiter::new(rt, rt.alloc(), announced)?;
-    assert!(rt; minds(&rt, &mut sockets, path.as_str())?);
-    fs::remove_dir_all(&rt, folder.as_str())?;
-    Ok(())
+fn an_announcement_ends_the_second(rt: HostRuntime) {
+    assert!(rt; make_folder(&rt, "out/announced"));
+    assert!(rt; minds(&rt) == Some(true));
+    assert!(rt; remove_folder(&rt, "out/announced"));
 }
 
 #[test]

@@ -1,38 +1,62 @@
 // Sockets of this machine, with both ends in one process.
-use crate::folders::{make_folder, path_in};
+use crate::folders::{holds, make_folder, put, remove_folder};
 use std::fs;
 use std::os::unix::fs::{FileTypeExt, MetadataExt};
 use std::os::unix::net::{UnixListener, UnixStream};
-use std::test::Fail;
 use std::time::Instant;
 use ug_host::{Reached, SocketFolder, SocketLink, SocketWaiter};
 use ug_links::{Accepted, LinkRead, LinkWrote, Links, Listening};
 use ug_types::{Dialled, Link, LinkId, Principal, Put, Ready, Taken, Waiter, Woken};
 
-type Sockets = SocketFolder<HostRuntime>;
+pub type Sockets = SocketFolder<HostRuntime>;
 
-type Wait = SocketWaiter<HostRuntime>;
+pub type Wait = SocketWaiter<HostRuntime>;
 
-// A waiter and its sockets, in a folder that isn't there yet.
-fn open(rt: &HostRuntime, folder: &str) -> Result<(Wait, Sockets), Fail> {
-    let announced = path_in(rt, folder, "uevent_seqnum")?;
-    let waiter = SocketWaiter::new(*rt, rt.alloc(), announced)?;
-    let sockets = SocketFolder::new(*rt, rt.alloc(), path_in(rt, folder, "run")?, &waiter)?;
-    Ok((waiter, sockets))
+type Client = SocketLink<HostRuntime>;
+
+/// A waiter and its sockets, in a folder that isn't there yet.
+pub fn open(rt: &HostRuntime, run: &str) -> Option<(Wait, Sockets)> {
+    let alloc = rt.alloc();
+    let announced = String::from_str(alloc, "out/no-uevent_seqnum").ok()?;
+    let run = String::from_str(alloc, run).ok()?;
+    let waiter = SocketWaiter::new(*rt, alloc, announced).ok()?;
+    let sockets = SocketFolder::new(*rt, alloc, run, &waiter).ok()?;
+    Some((waiter, sockets))
 }
 
-fn principal(text: &[u8]) -> Result<Principal, Fail> {
-    Ok(Principal::parse(text).ok_or("no principal")?)
+// What listening for that principal answers.
+fn listen(rt: &HostRuntime, sockets: &mut Sockets, name: &[u8]) -> Option<Listening> {
+    let principal = Principal::parse(name)?;
+    Some(sockets.listen(rt.alloc(), &principal))
 }
 
-// The tokens of a wait are these, and it takes about so long.
-fn waits(rt: &HostRuntime, waiter: &mut Wait, wanted: &[Ready], slow: bool) -> Result<bool, Fail> {
+/// Whether that principal is listened for, by that number.
+pub fn listens_for(rt: &HostRuntime, sockets: &mut Sockets, name: &[u8], number: u32) -> bool {
+    listen(rt, sockets, name) == Some(Listening::Ready(number))
+}
+
+fn fails_to_listen(rt: &HostRuntime, sockets: &mut Sockets, name: &[u8]) -> bool {
+    listen(rt, sockets, name) == Some(Listening::Failed)
+}
+
+// Whether the tokens of a wait are these, and it takes about so long.
+fn waited(rt: &HostRuntime, waiter: &mut Wait, wanted: &[Ready], slow: bool) -> Option<bool> {
     let mut ready = [Ready::Listener(9); 256];
-    let start = Instant::now(rt)?;
+    let start = Instant::now(rt).ok()?;
     let woken = waiter.wait(&mut ready);
-    let millis = start.elapsed(rt)?.as_millis();
+    let millis = start.elapsed(rt).ok()?.as_millis();
     let in_time = if slow { millis >= 900 } else { millis < 500 };
-    Ok(in_time && woken == Woken::Got(wanted.len()) && ready.starts_with(wanted))
+    Some(in_time && woken == Woken::Got(wanted.len()) && ready.starts_with(wanted))
+}
+
+// Whether a wait tells of that at once.
+fn tells_of(rt: &HostRuntime, waiter: &mut Wait, ready: Ready) -> bool {
+    waited(rt, waiter, &[ready], false) == Some(true)
+}
+
+// Whether a wait looks once and tells of nothing, or takes its second.
+fn tells_nothing(rt: &HostRuntime, waiter: &mut Wait, slow: bool) -> bool {
+    waited(rt, waiter, &[], slow) == Some(true)
 }
 
 fn reads(sockets: &mut Sockets, id: LinkId, wanted: &[u8]) -> bool {
@@ -43,7 +67,19 @@ fn reads(sockets: &mut Sockets, id: LinkId, wanted: &[u8]) -> bool {
     }
 }
 
-fn receives(link: &mut SocketLink<HostRuntime>, wanted: &[u8]) -> bool {
+fn read_answers(sockets: &mut Sockets, id: LinkId, wanted: LinkRead) -> bool {
+    sockets.read(id, &mut [0u8; 4]) == wanted
+}
+
+fn write_answers(sockets: &mut Sockets, id: LinkId, wanted: LinkWrote) -> bool {
+    sockets.write(id, b"ok\n") == wanted
+}
+
+fn sends(link: &mut Client, bytes: &[u8]) -> bool {
+    link.send(bytes) == Put::Done
+}
+
+fn receives(link: &mut Client, wanted: &[u8]) -> bool {
     let mut piece = [0u8; 64];
     match link.receive(&mut piece) {
         Taken::Bytes(n) => &piece[..n] == wanted,
@@ -59,7 +95,7 @@ fn is_private(rt: &HostRuntime, path: &str) -> bool {
 }
 
 // A link that has dialled.
-fn dialled(rt: &HostRuntime, path: &str) -> Option<SocketLink<HostRuntime>> {
+fn dialled(rt: &HostRuntime, path: &str) -> Option<Client> {
     let mut link = SocketLink::new(*rt);
     match link.dial(rt.alloc(), path.as_bytes()) {
         Dialled::Ready => Some(link),
@@ -74,51 +110,58 @@ fn accepted(rt: &HostRuntime, sockets: &mut Sockets) -> Option<LinkId> {
     }
 }
 
+fn nobody_comes(rt: &HostRuntime, sockets: &mut Sockets) -> bool {
+    sockets.accept(rt.alloc(), 0) == Accepted::NotYet
+}
+
 // Two principals are listened for, each at a file of its own.
-fn listens(rt: &HostRuntime, sockets: &mut Sockets) -> Result<bool, Fail> {
-    let user = sockets.listen(rt.alloc(), &principal(b"root")?);
-    let group = sockets.listen(rt.alloc(), &principal(b":wheel")?);
-    Ok(user == Listening::Ready(0) && group == Listening::Ready(1))
+fn listens(rt: &HostRuntime, sockets: &mut Sockets) -> bool {
+    listens_for(rt, sockets, b"root", 0) && listens_for(rt, sockets, b":wheel", 1)
+}
+
+const SOCKET: &str = "out/sockets/run/root.socket";
+
+// The client's bytes come in pieces.
+fn client_is_read(rt: &HostRuntime, waiter: &mut Wait, sockets: &mut Sockets, id: LinkId) -> bool {
+    tells_of(rt, waiter, Ready::Session(id))
+        && reads(sockets, id, b"watc")
+        && tells_of(rt, waiter, Ready::Session(id))
+        && reads(sockets, id, b"h\n")
+        && read_answers(sockets, id, LinkRead::NotYet)
+}
+
+// The client has gone, and its session is closed.
+fn client_goes(rt: &HostRuntime, waiter: &mut Wait, sockets: &mut Sockets, id: LinkId) -> bool {
+    let ended = tells_of(rt, waiter, Ready::Session(id))
+        && read_answers(sockets, id, LinkRead::End)
+        && write_answers(sockets, id, LinkWrote::Failed);
+    sockets.close(id);
+    ended && read_answers(sockets, id, LinkRead::Failed)
 }
 
 #[test]
-fn a_session_over_a_socket(rt: HostRuntime) -> Result<(), Fail> {
-    let folder = make_folder(&rt, "sockets")?;
-    let path = path_in(&rt, folder.as_str(), "run/root.socket")?;
-    let (mut waiter, mut sockets) = open(&rt, folder.as_str())?;
-    assert!(rt; listens(&rt, &mut sockets)?);
-    assert!(rt; is_private(&rt, path.as_str()));
-    assert!(rt;
-        is_private(
-            &rt,
-            path_in(&rt, folder.as_str(), "run/:wheel.socket")?.as_str()
-        )
-    );
-    assert!(rt; sockets.accept(rt.alloc(), 0) == Accepted::NotYet);
-    assert!(rt; waits(&rt, &mut waiter, &[], false)?);
-    let mut link = dialled(&rt, path.as_str()).ok_or("not dialled")?;
-    assert!(rt; waits(&rt, &mut waiter, &[Ready::Listener(0)], false)?);
-    let id = accepted(&rt, &mut sockets).ok_or("not accepted")?;
-    assert!(rt; sockets.accept(rt.alloc(), 0) == Accepted::NotYet);
-    assert!(rt; sockets.read(id, &mut [0u8; 4]) == LinkRead::NotYet);
-    assert!(rt; link.send(b"watch\n") == Put::Done);
-    assert!(rt; waits(&rt, &mut waiter, &[Ready::Session(id)], false)?);
-    assert!(rt; reads(&mut sockets, id, b"watc"));
-    assert!(rt; waits(&rt, &mut waiter, &[Ready::Session(id)], false)?);
-    assert!(rt; reads(&mut sockets, id, b"h\n"));
-    assert!(rt; sockets.read(id, &mut [0u8; 4]) == LinkRead::NotYet);
-    assert!(rt; waits(&rt, &mut waiter, &[], true)?);
-    assert!(rt; sockets.write(id, b"ok\n") == LinkWrote::Sent(3));
+fn a_session_over_a_socket(rt: HostRuntime) {
+    assert!(rt; make_folder(&rt, "out/sockets"));
+    let (mut waiter, mut sockets) = open(&rt, "out/sockets/run").expect(&rt, "no sockets");
+    assert!(rt; listens(&rt, &mut sockets));
+    assert!(rt; is_private(&rt, SOCKET));
+    assert!(rt; is_private(&rt, "out/sockets/run/:wheel.socket"));
+    assert!(rt; nobody_comes(&rt, &mut sockets));
+    assert!(rt; tells_nothing(&rt, &mut waiter, false));
+    let mut link = dialled(&rt, SOCKET).expect(&rt, "not dialled");
+    assert!(rt; tells_of(&rt, &mut waiter, Ready::Listener(0)));
+    let id = accepted(&rt, &mut sockets).expect(&rt, "not accepted");
+    assert!(rt; nobody_comes(&rt, &mut sockets));
+    assert!(rt; read_answers(&mut sockets, id, LinkRead::NotYet));
+    assert!(rt; sends(&mut link, b"watch\n"));
+    assert!(rt; client_is_read(&rt, &mut waiter, &mut sockets, id));
+    assert!(rt; tells_nothing(&rt, &mut waiter, true));
+    assert!(rt; write_answers(&mut sockets, id, LinkWrote::Sent(3)));
     assert!(rt; receives(&mut link, b"ok\n"));
     drop(link);
-    assert!(rt; waits(&rt, &mut waiter, &[Ready::Session(id)], false)?);
-    assert!(rt; sockets.read(id, &mut [0u8; 4]) == LinkRead::End);
-    assert!(rt; sockets.write(id, b"ok\n") == LinkWrote::Failed);
-    sockets.close(id);
-    assert!(rt; sockets.read(id, &mut [0u8; 4]) == LinkRead::Failed);
+    assert!(rt; client_goes(&rt, &mut waiter, &mut sockets, id));
     assert!(rt; sockets.faults() == 2 && waiter.faults() == 0);
-    fs::remove_dir_all(&rt, folder.as_str())?;
-    Ok(())
+    assert!(rt; remove_folder(&rt, "out/sockets"));
 }
 
 // Writes until the peer takes no more, and tells how many bytes it took.
@@ -136,7 +179,7 @@ fn fill(sockets: &mut Sockets, id: LinkId) -> Option<usize> {
 }
 
 // Takes so many bytes.
-fn takes(link: &mut SocketLink<HostRuntime>, bytes: usize) -> bool {
+fn takes(link: &mut Client, bytes: usize) -> bool {
     let mut piece = [0u8; 4096];
     let mut taken = 0usize;
     for _ in 0..10_000 {
@@ -151,58 +194,83 @@ fn takes(link: &mut SocketLink<HostRuntime>, bytes: usize) -> bool {
     false
 }
 
+const FULL: &str = "out/full/run/root.socket";
+
 #[test]
-fn a_full_socket_is_told_when_it_has_room(rt: HostRuntime) -> Result<(), Fail> {
-    let folder = make_folder(&rt, "full")?;
-    let path = path_in(&rt, folder.as_str(), "run/root.socket")?;
-    let (mut waiter, mut sockets) = open(&rt, folder.as_str())?;
-    assert!(rt; listens(&rt, &mut sockets)?);
-    let mut link = dialled(&rt, path.as_str()).ok_or("not dialled")?;
-    let id = accepted(&rt, &mut sockets).ok_or("not accepted")?;
-    assert!(rt; waits(&rt, &mut waiter, &[], false)?);
-    let sent = fill(&mut sockets, id).ok_or("a failed write")?;
-    assert!(rt; waits(&rt, &mut waiter, &[], true)?);
+fn a_full_socket_is_told_when_it_has_room(rt: HostRuntime) {
+    assert!(rt; make_folder(&rt, "out/full"));
+    let (mut waiter, mut sockets) = open(&rt, "out/full/run").expect(&rt, "no sockets");
+    assert!(rt; listens(&rt, &mut sockets));
+    let mut link = dialled(&rt, FULL).expect(&rt, "not dialled");
+    let id = accepted(&rt, &mut sockets).expect(&rt, "not accepted");
+    assert!(rt; tells_nothing(&rt, &mut waiter, false));
+    let sent = fill(&mut sockets, id).expect(&rt, "a failed write");
+    assert!(rt; tells_nothing(&rt, &mut waiter, true));
     assert!(rt; takes(&mut link, sent));
-    assert!(rt; waits(&rt, &mut waiter, &[Ready::Session(id)], false)?);
-    assert!(rt; sockets.write(id, b"ok\n") == LinkWrote::Sent(3));
+    assert!(rt; tells_of(&rt, &mut waiter, Ready::Session(id)));
+    assert!(rt; write_answers(&mut sockets, id, LinkWrote::Sent(3)));
     assert!(rt; sockets.faults() == 0);
-    fs::remove_dir_all(&rt, folder.as_str())?;
-    Ok(())
+    assert!(rt; remove_folder(&rt, "out/full"));
+}
+
+const LEFT: &str = "out/places/run/root.socket";
+
+const OTHER: &str = "out/places/run/:wheel.socket";
+
+// A socket at which nobody listens any more.
+fn leaves_socket(rt: &HostRuntime, path: &str) -> bool {
+    let bound = UnixListener::bind(rt, path).is_ok();
+    bound && UnixStream::connect(rt, path).is_err()
+}
+
+// A daemon more finds the socket taken.
+fn second_fails(rt: &HostRuntime) -> Option<bool> {
+    let (_waiter, mut second) = open(rt, "out/places/run")?;
+    Some(fails_to_listen(rt, &mut second, b"root") && second.faults() == 1)
 }
 
 #[test]
-fn what_stands_in_a_sockets_place(rt: HostRuntime) -> Result<(), Fail> {
-    let folder = make_folder(&rt, "places")?;
-    let path = path_in(&rt, folder.as_str(), "run/root.socket")?;
-    let other = path_in(&rt, folder.as_str(), "run/:wheel.socket")?;
-    let (_waiter, mut sockets) = open(&rt, folder.as_str())?;
-    fs::create_dir(&rt, path_in(&rt, folder.as_str(), "run")?.as_str())?;
-    drop(UnixListener::bind(&rt, path.as_str())?);
-    fs::write(&rt, other.as_str(), b"kept")?;
-    assert!(rt; UnixStream::connect(&rt, path.as_str()).is_err());
-    assert!(rt; sockets.listen(rt.alloc(), &principal(b"root")?) == Listening::Ready(0));
-    assert!(rt; is_private(&rt, path.as_str()));
-    assert!(rt; sockets.listen(rt.alloc(), &principal(b":wheel")?) == Listening::Failed);
-    assert!(rt; fs::read(&rt, other.as_str())?.as_slice() == b"kept".as_slice());
-    let (_other_waiter, mut second) = open(&rt, folder.as_str())?;
-    assert!(rt; second.listen(rt.alloc(), &principal(b"root")?) == Listening::Failed);
-    assert!(rt; sockets.faults() == 1 && second.faults() == 1);
-    let id = accepted(&rt, &mut sockets).ok_or("not accepted")?;
-    assert!(rt; sockets.read(id, &mut [0u8; 4]) == LinkRead::End);
-    assert!(rt; dialled(&rt, path.as_str()).is_some());
-    fs::remove_dir_all(&rt, folder.as_str())?;
-    Ok(())
+fn what_stands_in_a_sockets_place(rt: HostRuntime) {
+    assert!(rt; make_folder(&rt, "out/places/run"));
+    assert!(rt; leaves_socket(&rt, LEFT));
+    assert!(rt; put(&rt, OTHER, b"kept"));
+    let (_waiter, mut sockets) = open(&rt, "out/places/run").expect(&rt, "no sockets");
+    assert!(rt; listens_for(&rt, &mut sockets, b"root", 0));
+    assert!(rt; is_private(&rt, LEFT));
+    assert!(rt; fails_to_listen(&rt, &mut sockets, b":wheel"));
+    assert!(rt; holds(&rt, OTHER, b"kept"));
+    assert!(rt; second_fails(&rt) == Some(true));
+    assert!(rt; sockets.faults() == 1);
+    let id = accepted(&rt, &mut sockets).expect(&rt, "not accepted");
+    assert!(rt; read_answers(&mut sockets, id, LinkRead::End));
+    assert!(rt; dialled(&rt, LEFT).is_some());
+    assert!(rt; remove_folder(&rt, "out/places"));
+}
+
+fn fails_to_send(link: &mut Client) -> bool {
+    link.send(b"x") == Put::Failed && link.faults() == 1
+}
+
+fn fails_to_receive(link: &mut Client) -> bool {
+    link.receive(&mut [0u8; 4]) == Taken::Failed && link.faults() == 2
+}
+
+fn fails_to_dial(rt: &HostRuntime, link: &mut Client, path: &[u8]) -> bool {
+    link.dial(rt.alloc(), path) == Dialled::Failed && link.faults() == 3
+}
+
+fn is_refused_at(link: &Client, path: &[u8]) -> bool {
+    link.reached() == Reached::Refused(2) && link.path() == Some(path)
 }
 
 #[test]
-fn a_link_that_fails(rt: HostRuntime) -> Result<(), Fail> {
-    let folder = make_folder(&rt, "missing")?;
-    let path = path_in(&rt, folder.as_str(), "root.socket")?;
+fn a_link_that_fails(rt: HostRuntime) {
+    let path = b"out/missing/root.socket";
+    assert!(rt; make_folder(&rt, "out/missing"));
     let mut link = SocketLink::new(rt);
-    assert!(rt; link.send(b"x") == Put::Failed && link.faults() == 1);
-    assert!(rt; link.receive(&mut [0u8; 4]) == Taken::Failed && link.faults() == 2);
-    assert!(rt; link.dial(rt.alloc(), path.as_bytes()) == Dialled::Failed && link.faults() == 3);
-    assert!(rt; link.reached() == Reached::Refused(2) && link.path() == Some(path.as_bytes()));
-    fs::remove_dir_all(&rt, folder.as_str())?;
-    Ok(())
+    assert!(rt; fails_to_send(&mut link));
+    assert!(rt; fails_to_receive(&mut link));
+    assert!(rt; fails_to_dial(&rt, &mut link, path));
+    assert!(rt; is_refused_at(&link, path));
+    assert!(rt; remove_folder(&rt, "out/missing"));
 }

@@ -1,20 +1,15 @@
 // What the auditors are given, and what devices are written, in one list in the order in which it comes.
 ghost use Rattle.std.specs.Prelude.{None};
 
-use jiff::tz::TimeZone;
+use crate::devices::plug;
+use crate::serve::{USUAL, files, given, no_links, run_over};
 use std::alloc::Global;
 use std::cell::RefCell;
-use std::collections::VecDeque;
 use std::rc::Rc;
-use std::test::Fail;
 use ug_audit::{Auditor, Noted, Panel};
-use ug_conf::{MemFile, MemFiles};
 use ug_kernel::{Listing, Opened, Probe, ReadOut, Sysfs, Wrote};
-use ug_links::{MemLinks, Script};
-use ug_serve::run_daemon;
-use ug_store::MemDisk;
-use ug_sysfs::{NewDevice, SimKernel};
-use ug_types::{Attr, Control, Held, ListClock, ListWaiter, Moment, NodeName, Text, Write};
+use ug_sysfs::SimKernel;
+use ug_types::{Attr, Control, Held, NodeName, Write};
 
 // Appends a line to the list. One that finds no memory is missing there.
 fn append(list: &Rc<RefCell<Vec<u8>>>, line: &[u8]) {
@@ -124,75 +119,59 @@ impl<Y: Sysfs + Drop> Sysfs for Watched<Y> {
     }
 }
 
-// A device descriptor alone, of that class, vendor and product.
-fn device(
-    alloc: Global,
-    name: &[u8],
-    class: u8,
-    vendor: u8,
-    product: u8,
-) -> Result<NewDevice, Fail> {
-    let descriptors = [
-        18, 1, 0, 2, class, 0, 0, 64, vendor, 16, product, 0, 0, 1, 0, 0, 0, 1,
-    ];
-    Ok(NewDevice {
-        name: NodeName::parse(name)?,
-        descriptors: Text::of(alloc, &descriptors)?,
-        product: None,
-        serial: None,
-        connect: None,
-        on: class == 9,
-    })
-}
+/// The name, the class, the vendor and the product of a root hub, and of three devices at it.
+const DEVICES: [(&[u8], u8, u8, u8); 4] = [
+    (b"usb1", 9, 0, 0),
+    (b"1-1", 0, 80, 17),
+    (b"1-2", 0, 80, 18),
+    (b"1-3", 0, 80, 19),
+];
 
-// A root hub that is on, and three devices at it that are off.
-fn kernel(alloc: Global) -> Result<SimKernel, Fail> {
+// The hub is on, and the devices are off.
+fn kernel(alloc: Global) -> Option<SimKernel> {
     let mut kernel = SimKernel::new(alloc);
-    kernel.plug(device(alloc, b"usb1", 9, 0, 0)?)?;
-    kernel.plug(device(alloc, b"1-1", 0, 80, 17)?)?;
-    kernel.plug(device(alloc, b"1-2", 0, 80, 18)?)?;
-    kernel.plug(device(alloc, b"1-3", 0, 80, 19)?)?;
-    Ok(kernel)
+    for (name, class, vendor, product) in DEVICES {
+        let descriptors = [
+            18, 1, 0, 2, class, 0, 0, 64, vendor, 16, product, 0, 0, 1, 0, 0, 0, 1,
+        ];
+        plug(alloc, &mut kernel, name, &descriptors, class == 9)?;
+    }
+    Some(kernel)
 }
 
-fn settings(alloc: Global) -> Result<MemFiles, Fail> {
-    let mut files = Vec::new(alloc);
-    files.push(MemFile {
-        path: Text::of(alloc, b"/etc/usbguard/usbguard-daemon.conf")?,
-        text: Text::of(alloc, b"PresentDevicePolicy=apply-policy")?,
-    })?;
-    Ok(MemFiles::new(files, Vec::new(alloc), Vec::new(alloc)))
+fn watched(alloc: Global, list: &Rc<RefCell<Vec<u8>>>) -> Option<Watched<SimKernel>> {
+    let files = kernel(alloc)?;
+    let list = list.clone().ok()?;
+    Some(Watched { files, list })
 }
 
-fn panel(alloc: Global, list: &Rc<RefCell<Vec<u8>>>) -> Result<Panel, Fail> {
-    let auditor = ListAuditor {
-        list: list.clone()?,
-    };
+fn panel(alloc: Global, list: &Rc<RefCell<Vec<u8>>>) -> Option<Panel> {
+    let list = list.clone().ok()?;
     let mut members: Vec<Box<dyn Auditor>> = Vec::new(alloc);
-    members.push(Box::new(alloc, auditor)?)?;
-    Ok(Panel::new(members))
+    members
+        .push(Box::new(alloc, ListAuditor { list }).ok()?)
+        .ok()?;
+    Some(Panel::new(members))
 }
+
+const SETTINGS: [(&[u8], &[u8]); 1] = [(USUAL, b"PresentDevicePolicy=apply-policy")];
+
+const RULES: &[u8] = b"allow 1050:0011\nreject 1050:0013\n";
 
 // One turn of the daemon, whose rules allow the first device and reject the third.
-fn run(alloc: Global, list: &Rc<RefCell<Vec<u8>>>) -> Result<u8, Fail> {
-    let mut files = Watched {
-        files: kernel(alloc)?,
-        list: list.clone()?,
-    };
-    let mut disk = MemDisk::with_text(alloc, b"allow 1050:0011\nreject 1050:0013\n")?;
-    Ok(run_daemon(
+fn run(alloc: Global, list: &Rc<RefCell<Vec<u8>>>) -> Option<u8> {
+    let mut kernel = watched(alloc, list)?;
+    let mut files = files(alloc, &SETTINGS)?;
+    let mut given = given(alloc, RULES, no_links(alloc))?;
+    let mut panel = panel(alloc, list)?;
+    Some(run_over(
         alloc,
         &[],
-        [0; 32],
-        TimeZone::UTC,
         &mut files,
-        &mut disk,
-        &mut settings(alloc)?,
-        &mut MemLinks::new(alloc, Script::new(VecDeque::new(alloc)), Vec::new(alloc)),
-        &mut ListWaiter::new(Vec::new(alloc)),
-        &mut ListClock::new(Vec::from_slice(alloc, &[Moment(100)])?),
-        &mut panel(alloc, list)?,
+        &mut kernel,
+        &mut given,
         1,
+        &mut panel,
     ))
 }
 
@@ -210,14 +189,18 @@ wrote 4 1-3 remove done
 end 1
 ";
 
+fn is_listed(list: &Rc<RefCell<Vec<u8>>>, wanted: &[u8]) -> bool {
+    match list.try_borrow() {
+        Ok(text) => text.as_slice() == wanted,
+        Err(_) => false,
+    }
+}
+
 #[test]
-fn intent_first(rt: HostRuntime) -> Result<(), Fail> {
+fn intent_first(rt: HostRuntime) {
     let alloc = rt.alloc();
-    let list = Rc::new(alloc, RefCell::new(Vec::new(alloc)))?;
-    assert_eq!(rt; run(alloc, &list)?, 0);
-    let Ok(text) = list.try_borrow() else {
-        panic!(rt; "the list is in use");
-    };
-    assert_eq!(rt; text.as_slice(), LIST);
-    Ok(())
+    let list = Rc::new(alloc, RefCell::new(Vec::new(alloc)));
+    let list = list.ok().expect(&rt, "memory");
+    assert!(rt; run(alloc, &list) == Some(0));
+    assert!(rt; is_listed(&list, LIST));
 }

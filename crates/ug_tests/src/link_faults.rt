@@ -1,9 +1,9 @@
 // Two sessions, of which one meets a fault: the other is served all the same.
-use crate::turns::{closed, links, sent, serves, was_sent};
+use crate::turns::{closed, links, read_item, sent, serves, was_sent};
 use std::alloc::Global;
 use std::collections::VecDeque;
 use ug_links::{Arrival, MemLinks, Peer, ReadItem, Script, WriteItem};
-use ug_types::{LinkId, Text};
+use ug_types::LinkId;
 
 // What root asks, and is told.
 const ORDER: [&[u8]; 2] = [b"allow-dev", b"ice 99\n"];
@@ -17,33 +17,41 @@ const RULES: &[u8] = b"ok 1\n1: allow id 1050:0011\n";
 
 const NEVER: usize = 9;
 
+// Puts what a read gives behind the others, and before it a failure where it is to fail.
+fn put_read(
+    alloc: Global,
+    items: &mut VecDeque<ReadItem>,
+    piece: Option<&[u8]>,
+    fails: bool,
+) -> Option<()> {
+    if fails {
+        items.push_back(ReadItem::Fail).ok()?;
+    }
+    items.push_back(read_item(alloc, piece)?).ok()
+}
+
 // These pieces; the read at that place fails.
 fn reads(alloc: Global, pieces: &[&[u8]], fails: usize) -> Option<Script<ReadItem>> {
     let mut items = VecDeque::new(alloc);
-    for i in 0..pieces.len() {
-        if i == fails {
-            items.push_back(ReadItem::Fail).ok()?;
-        }
-        let piece = Text::of(alloc, pieces[i]).ok()?;
-        items.push_back(ReadItem::Piece(piece)).ok()?;
+    for i in 0..pieces.len() + 1 {
+        put_read(alloc, &mut items, pieces.get(i).copied(), i == fails)?;
     }
-    if fails == pieces.len() {
-        items.push_back(ReadItem::Fail).ok()?;
-    }
-    items.push_back(ReadItem::Wait).ok()?;
     Some(Script::new(items))
+}
+
+fn write_item(fails: bool) -> WriteItem {
+    if fails {
+        WriteItem::Fail
+    } else {
+        WriteItem::Takes(8)
+    }
 }
 
 // Each write takes eight bytes; the one at that place fails.
 fn writes(alloc: Global, fails: usize) -> Option<Script<WriteItem>> {
     let mut items = VecDeque::new(alloc);
     for i in 0..4usize {
-        let item = if i == fails {
-            WriteItem::Fail
-        } else {
-            WriteItem::Takes(8)
-        };
-        items.push_back(item).ok()?;
+        items.push_back(write_item(i == fails)).ok()?;
     }
     Some(Script::new(items))
 }
@@ -53,16 +61,19 @@ fn peer(alloc: Global, pieces: &[&[u8]], read: usize, write: usize) -> Option<Pe
     Some(Peer::new(alloc, reads, writes(alloc, write)?))
 }
 
+fn put_failure(items: &mut VecDeque<Arrival>, fails: bool) -> Option<()> {
+    if fails {
+        items.push_back(Arrival::Fail).ok()?;
+    }
+    Some(())
+}
+
 // One arrival, before or behind which an accept fails.
 fn arrival(alloc: Global, peer: Peer, fails: usize) -> Option<Script<Arrival>> {
     let mut items = VecDeque::new(alloc);
-    if fails == 0 {
-        items.push_back(Arrival::Fail).ok()?;
-    }
+    put_failure(&mut items, fails == 0)?;
     items.push_back(Arrival::Comes(peer)).ok()?;
-    if fails == 1 {
-        items.push_back(Arrival::Fail).ok()?;
-    }
+    put_failure(&mut items, fails == 1)?;
     Some(Script::new(items))
 }
 

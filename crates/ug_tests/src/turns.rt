@@ -13,21 +13,33 @@ use ug_links::{Arrival, LinkStep, LinkWrote, Links, Listening, MemLinks, Peer, R
 use ug_serve::{TurnEnd, serve_turn};
 use ug_sessions::Server;
 use ug_store::MemDisk;
+use ug_sysfs::SimKernel;
 use ug_types::{LinkId, List, ListClock, ListWaiter, Moment, Principal, Text};
 
-// A session that sends these pieces, and then waits.
-pub fn peer(alloc: Global, pieces: &[&[u8]]) -> Option<Peer> {
-    let mut reads = VecDeque::new(alloc);
-    for piece in pieces {
-        let piece = Text::of(alloc, *piece).ok()?;
-        reads.push_back(ReadItem::Piece(piece)).ok()?;
+/// What a read gives: that piece, or a wait.
+pub fn read_item(alloc: Global, piece: Option<&[u8]>) -> Option<ReadItem> {
+    match piece {
+        Some(piece) => Some(ReadItem::Piece(Text::of(alloc, piece).ok()?)),
+        None => Some(ReadItem::Wait),
     }
-    reads.push_back(ReadItem::Wait).ok()?;
-    let writes = Script::new(VecDeque::new(alloc));
-    Some(Peer::new(alloc, Script::new(reads), writes))
 }
 
-// One arrival, of that session.
+fn reads(alloc: Global, pieces: &[&[u8]]) -> Option<Script<ReadItem>> {
+    let mut items = VecDeque::new(alloc);
+    for i in 0..pieces.len() + 1 {
+        let item = read_item(alloc, pieces.get(i).copied())?;
+        items.push_back(item).ok()?;
+    }
+    Some(Script::new(items))
+}
+
+/// A session that sends these pieces, and then waits.
+pub fn peer(alloc: Global, pieces: &[&[u8]]) -> Option<Peer> {
+    let reads = reads(alloc, pieces)?;
+    Some(Peer::new(alloc, reads, Script::new(VecDeque::new(alloc))))
+}
+
+/// One arrival, of that session.
 pub fn one(alloc: Global, peer: Peer) -> Option<Script<Arrival>> {
     let mut arrivals = VecDeque::new(alloc);
     arrivals.push_back(Arrival::Comes(peer)).ok()?;
@@ -38,85 +50,144 @@ fn named(name: &[u8]) -> Option<Principal> {
     Principal::parse(name)
 }
 
-// Links that listen for root and for joe, with these arrivals.
+// Whether root and joe are listened for.
+fn listens(alloc: Global, links: &mut MemLinks) -> Option<bool> {
+    let first = links.listen(alloc, &named(b"root")?);
+    let second = links.listen(alloc, &named(b"joe")?);
+    Some(first == Listening::Ready(0) && second == Listening::Ready(1))
+}
+
+/// Links that listen for root and for joe, with these arrivals.
 pub fn links(alloc: Global, root: Script<Arrival>, joe: Script<Arrival>) -> Option<MemLinks> {
     let mut arrivals = Vec::new(alloc);
     arrivals.push(root).ok()?;
     arrivals.push(joe).ok()?;
-    let listens = Script::new(VecDeque::new(alloc));
-    let mut links = MemLinks::new(alloc, listens, arrivals);
-    let first = links.listen(alloc, &named(b"root")?);
-    let second = links.listen(alloc, &named(b"joe")?);
-    if [first, second] == [Listening::Ready(0), Listening::Ready(1)] {
-        Some(links)
-    } else {
-        None
+    let listens_well = Script::new(VecDeque::new(alloc));
+    let mut links = MemLinks::new(alloc, listens_well, arrivals);
+    match listens(alloc, &mut links) {
+        Some(true) => Some(links),
+        _ => None,
     }
 }
 
-fn server(alloc: Global) -> Option<Server> {
+// Root and joe.
+fn principals(alloc: Global) -> Option<List<Principal>> {
     let mut principals = List::new(alloc);
-    principals.push(named(b"root")?).ok()?;
-    principals.push(named(b"joe")?).ok()?;
+    for name in ["root", "joe"] {
+        principals.push(named(name.as_bytes())?).ok()?;
+    }
+    Some(principals)
+}
+
+fn server(alloc: Global) -> Option<Server> {
+    let principals = principals(alloc)?;
     if principals.as_slice().len() != 2 {
         return None;
     }
     Some(Server::new(alloc, principals))
 }
 
+fn add_access(alloc: Global, acl: &mut Acl, name: &[u8], grants: &[u8]) -> Option<()> {
+    let grants = parse_access(alloc, grants).ok()?;
+    acl.add(named(name)?, &grants).ok()
+}
+
 // Root may list devices, and joe may list rules.
 fn access(alloc: Global) -> Option<Acl> {
     let mut acl = Acl::new(alloc);
-    acl.add(named(b"root")?, &parse_access(alloc, b"Devices=list").ok()?)
-        .ok()?;
-    acl.add(named(b"joe")?, &parse_access(alloc, b"Policy=list").ok()?)
-        .ok()?;
+    add_access(alloc, &mut acl, b"root", b"Devices=list")?;
+    add_access(alloc, &mut acl, b"joe", b"Policy=list")?;
     Some(acl)
 }
 
 fn daemon(alloc: Global, disk: &mut MemDisk) -> Option<Daemon<'static, ChaCha20Rng>> {
+    let acl = access(alloc)?;
     let settings = default_settings(alloc).ok()?;
     let rng = ChaCha20Rng::from_seed([0; 32]);
-    Daemon::start(alloc, settings, access(alloc)?, rng, TimeZone::UTC, 1, disk).ok()
+    Daemon::start(alloc, settings, acl, rng, TimeZone::UTC, 1, disk).ok()
 }
 
-// Whether so many turns are made over these links, with a hub and a key.
-pub fn serves(alloc: Global, links: &mut MemLinks, turns: u64) -> Option<bool> {
-    let mut kernel = hub_and_key(alloc, false)?;
+// The daemon and all that it serves over but its links.
+#[derive(Drop)]
+struct World {
+    daemon: Daemon<'static, ChaCha20Rng>,
+    server: Server,
+    kernel: SimKernel,
+    disk: MemDisk,
+    waiter: ListWaiter,
+    clock: ListClock,
+    panel: Panel,
+}
+
+fn started(alloc: Global) -> Option<(MemDisk, Daemon<'static, ChaCha20Rng>)> {
     let mut disk = MemDisk::with_text(alloc, b"allow 1050:0011\n").ok()?;
-    let mut daemon = daemon(alloc, &mut disk)?;
-    let mut server = server(alloc)?;
-    let mut waiter = ListWaiter::new(Vec::new(alloc));
-    let mut clock = ListClock::new(Vec::from_slice(alloc, &[Moment(100)]).ok()?);
-    let mut nobody = Panel::new(Vec::new(alloc));
-    for turn in 0..turns {
-        let end = serve_turn(
-            alloc,
-            &mut daemon,
-            &mut server,
-            &mut kernel,
-            &mut disk,
-            links,
-            &mut waiter,
-            &mut clock,
-            &mut nobody,
-        );
-        if end != TurnEnd::Done {
-            return Some(false);
-        }
-    }
-    Some(!links.ran_out())
+    let daemon = daemon(alloc, &mut disk)?;
+    Some((disk, daemon))
 }
 
-// What a session was sent.
+/// A clock that stands.
+pub fn clock(alloc: Global) -> Option<ListClock> {
+    Some(ListClock::new(Vec::from_slice(alloc, &[Moment(100)]).ok()?))
+}
+
+// A hub and a key.
+fn world(alloc: Global) -> Option<World> {
+    let kernel = hub_and_key(alloc, false)?;
+    let server = server(alloc)?;
+    let clock = clock(alloc)?;
+    let (disk, daemon) = started(alloc)?;
+    Some(World {
+        daemon,
+        server,
+        kernel,
+        disk,
+        waiter: ListWaiter::new(Vec::new(alloc)),
+        clock,
+        panel: Panel::new(Vec::new(alloc)),
+    })
+}
+
+// Whether a turn is made.
+fn turns(alloc: Global, world: &mut World, links: &mut MemLinks) -> bool {
+    let end = serve_turn(
+        alloc,
+        &mut world.daemon,
+        &mut world.server,
+        &mut world.kernel,
+        &mut world.disk,
+        links,
+        &mut world.waiter,
+        &mut world.clock,
+        &mut world.panel,
+    );
+    end == TurnEnd::Done
+}
+
+/// Whether so many turns are made over these links, with a hub and a key.
+pub fn serves(alloc: Global, links: &mut MemLinks, count: u64) -> Option<bool> {
+    let mut world = world(alloc)?;
+    let mut all = true;
+    for _ in 0..count {
+        all = all && turns(alloc, &mut world, links);
+    }
+    Some(all && !links.ran_out())
+}
+
+// What a writing to the session sent, and nothing for any other step.
+fn sent_by(step: &LinkStep, id: LinkId) -> &[u8] {
+    match step {
+        LinkStep::WroteTo(other, bytes, LinkWrote::Sent(n)) if *other == id => {
+            bytes.bytes().get(..*n).unwrap_or(&[])
+        }
+        _ => &[],
+    }
+}
+
+/// What a session was sent.
 pub fn sent(alloc: Global, links: &MemLinks, id: LinkId) -> Option<Vec<u8>> {
     let mut text = Vec::new(alloc);
     for step in links.calls() {
-        if let LinkStep::WroteTo(other, bytes, LinkWrote::Sent(n)) = step {
-            if *other == id && *n <= bytes.bytes().len() {
-                text.extend_from_slice(&bytes.bytes()[..*n]).ok()?;
-            }
-        }
+        text.extend_from_slice(sent_by(step, id)).ok()?;
     }
     Some(text)
 }
@@ -187,7 +258,7 @@ fn silent(alloc: Global, count: u32) -> Option<Script<Arrival>> {
     Some(Script::new(arrivals))
 }
 
-// The sessions that were closed.
+/// The sessions that were closed.
 pub fn closed(alloc: Global, links: &MemLinks) -> Option<Vec<LinkId>> {
     let mut ids = Vec::new(alloc);
     for step in links.calls() {
