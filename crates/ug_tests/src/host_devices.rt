@@ -39,7 +39,7 @@ fn make_devices(rt: &HostRuntime) -> bool {
     all
 }
 
-fn folder(rt: &HostRuntime) -> Option<Folder> {
+fn open_folder(rt: &HostRuntime) -> Option<Folder> {
     let root = String::from_str(rt.alloc(), ROOT).ok()?;
     let mut folder = SysfsFolder::new(*rt, rt.alloc(), root);
     folder.begin();
@@ -100,7 +100,7 @@ fn devices_of_a_folder(rt: HostRuntime) {
     let alloc = rt.alloc();
     assert!(rt; make_devices(&rt));
     let (hub, key, other) = names().expect(&rt, "no name");
-    let mut sysfs = folder(&rt).expect(&rt, "no folder");
+    let mut sysfs = open_folder(&rt).expect(&rt, "no folder");
     assert!(rt; lists(alloc, &mut sysfs, hub, key));
     let held = opens(alloc, &mut sysfs, &key).expect(&rt, "not opened");
     assert!(rt;

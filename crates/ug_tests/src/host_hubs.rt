@@ -18,7 +18,7 @@ fn make_device(rt: &HostRuntime, descriptors: &[u8]) -> bool {
         && put(rt, PRODUCT, b"first\n")
 }
 
-fn folder(rt: &HostRuntime) -> Option<Folder> {
+fn open_folder(rt: &HostRuntime) -> Option<Folder> {
     let root = String::from_str(rt.alloc(), "out/hub").ok()?;
     Some(SysfsFolder::new(*rt, rt.alloc(), root))
 }
@@ -48,7 +48,7 @@ fn product_is_kept(rt: &HostRuntime, class: u8, held_text: &[u8]) -> Option<bool
     let own = [18, 1, 0, 2, class];
     let made = make_device(rt, &own);
     let name = NodeName::parse(b"usb1").ok()?;
-    let mut sysfs = folder(rt)?;
+    let mut sysfs = open_folder(rt)?;
     let held = hold(&mut sysfs, alloc, &name)?;
     let first = reads(&mut sysfs, alloc, &name, Attr::Descriptors, &own)
         && is_product(&mut sysfs, alloc, &name, b"first\n");

@@ -10,7 +10,7 @@ use ug_host::{JournalOutput, WriterAuditor};
 
 type Journal = WriterAuditor<JournalOutput>;
 
-fn journal(rt: &HostRuntime, output: i32, omits_idle: bool) -> Journal {
+fn make_journal(rt: &HostRuntime, output: i32, omits_idle: bool) -> Journal {
     WriterAuditor::new(JournalOutput::new(rt.alloc(), output, omits_idle))
 }
 
@@ -56,7 +56,7 @@ fn lines_that_come(journal: &mut Journal, reader: &mut UnixStream) -> Option<usi
 // Lines of 64 bytes, of which 4,096 wait beside those that the socket takes.
 fn count_kept(rt: &HostRuntime) -> Option<usize> {
     let (mut reader, writer) = UnixStream::pair(rt).ok()?;
-    let mut journal = journal(rt, writer.as_raw_fd(), false);
+    let mut journal = make_journal(rt, writer.as_raw_fd(), false);
     if !all_done(&mut journal, &[b'a'; 63], 20000) || journal.faults() != 0 {
         return None;
     }
@@ -73,7 +73,7 @@ fn a_reader_that_stops_stops_nobody(rt: HostRuntime) {
 fn a_full_disk_stops_nobody(rt: HostRuntime) {
     let full = fs::OpenOptions::new().write(true).open(&rt, "/dev/full");
     let full = full.ok().expect(&rt, "no full disk");
-    let mut journal = journal(&rt, full.as_raw_fd(), false);
+    let mut journal = make_journal(&rt, full.as_raw_fd(), false);
     assert!(rt; all_done(&mut journal, b"event 1 sweep 0", 3));
 }
 
@@ -107,7 +107,7 @@ fn notes_all(journal: &mut Journal, lines: &[&str]) -> bool {
 fn an_idle_event_can_be_omitted(rt: HostRuntime) {
     assert!(rt; make_folder(&rt, "out/idle"));
     let file = fs::create(&rt, PATH).ok().expect(&rt, "no file");
-    let mut journal = journal(&rt, file.as_raw_fd(), true);
+    let mut journal = make_journal(&rt, file.as_raw_fd(), true);
     assert!(rt; notes_all(&mut journal, &LINES));
     assert!(rt; holds(&rt, PATH, WANTED));
     assert!(rt; remove_folder(&rt, "out/idle"));

@@ -2,7 +2,7 @@
 ghost use Rattle.std.specs.Prelude.{None};
 
 use crate::devices::plug;
-use crate::serve::{USUAL, files, given, no_links, run_over};
+use crate::serve::{USUAL, files, make_given, no_links, run_over};
 use std::alloc::Global;
 use std::cell::RefCell;
 use std::rc::Rc;
@@ -139,7 +139,7 @@ fn kernel(alloc: Global) -> Option<SimKernel> {
     Some(kernel)
 }
 
-fn watched(alloc: Global, list: &Rc<RefCell<Vec<u8>>>) -> Option<Watched<SimKernel>> {
+fn make_watched(alloc: Global, list: &Rc<RefCell<Vec<u8>>>) -> Option<Watched<SimKernel>> {
     let files = kernel(alloc)?;
     let list = list.clone().ok()?;
     Some(Watched { files, list })
@@ -160,9 +160,9 @@ const RULES: &[u8] = b"allow 1050:0011\nreject 1050:0013\n";
 
 // One turn of the daemon, whose rules allow the first device and reject the third.
 fn run(alloc: Global, list: &Rc<RefCell<Vec<u8>>>) -> Option<u8> {
-    let mut kernel = watched(alloc, list)?;
+    let mut kernel = make_watched(alloc, list)?;
     let mut files = files(alloc, &SETTINGS)?;
-    let mut given = given(alloc, RULES, no_links(alloc))?;
+    let mut given = make_given(alloc, RULES, no_links(alloc))?;
     let mut panel = panel(alloc, list)?;
     Some(run_over(
         alloc,

@@ -52,7 +52,7 @@ pub struct Given {
     clock: ListClock,
 }
 
-pub fn given(alloc: Global, rules: &[u8], links: MemLinks) -> Option<Given> {
+pub fn make_given(alloc: Global, rules: &[u8], links: MemLinks) -> Option<Given> {
     let clock = clock(alloc)?;
     let disk = MemDisk::with_text(alloc, rules).ok()?;
     Some(Given { disk, links, clock })
@@ -94,7 +94,7 @@ fn run(
     panel: &mut Panel,
 ) -> Option<u8> {
     let mut kernel = hub_and_key(alloc, true)?;
-    let mut given = given(alloc, rules, no_links(alloc))?;
+    let mut given = make_given(alloc, rules, no_links(alloc))?;
     Some(run_over(alloc, words, files, &mut kernel, &mut given, turns, panel))
 }
 
@@ -314,7 +314,7 @@ fn serves_two(
     listens: Script<ListenItem>,
 ) -> Option<(Given, u8)> {
     let links = two_sessions(alloc, listens)?;
-    let mut given = given(alloc, b"block\n", links)?;
+    let mut given = make_given(alloc, b"block\n", links)?;
     let mut kernel = hub_and_key(alloc, true)?;
     let mut nobody = Panel::new(Vec::new(alloc));
     let status = run_over(alloc, &[], files, &mut kernel, &mut given, 1, &mut nobody);

@@ -131,7 +131,7 @@ pub fn clock(alloc: Global) -> Option<ListClock> {
 }
 
 // A hub and a key.
-fn world(alloc: Global) -> Option<World> {
+fn make_world(alloc: Global) -> Option<World> {
     let kernel = hub_and_key(alloc, false)?;
     let server = server(alloc)?;
     let clock = clock(alloc)?;
@@ -165,7 +165,7 @@ fn turns(alloc: Global, world: &mut World, links: &mut MemLinks) -> bool {
 
 /// Whether so many turns are made over these links, with a hub and a key.
 pub fn serves(alloc: Global, links: &mut MemLinks, count: u64) -> Option<bool> {
-    let mut world = world(alloc)?;
+    let mut world = make_world(alloc)?;
     let mut all = true;
     for _ in 0..count {
         all = all && turns(alloc, &mut world, links);
