@@ -1,12 +1,13 @@
 -- An event as the world and the disk fix it.
-use Rattle.std.proofs.Common.{◌≡◌, ℕ, nat_le, length, Bool, true, false, ◌||◌, List, [], ◌++◌, Option, Some, None, ◌⊎◌, ◌∙◌, ap, sym, subst, refl, inl, inr, append_assoc, append-nil, cond}
+use Rattle.std.proofs.Common.{◌≡◌, ℕ, nat_le, length, Bool, true, false, ◌||◌, List, [], ◌++◌, Option, Some, None, Result, ◌⊎◌, ◌∙◌, ap, sym, subst, refl, inl, inr, append_assoc, append-nil, cond}
 use Rattle.std.proofs.lemmas.Bool.{both_ways}
 use Rattle.ug_types.specs.Principals.{Named}
+use Rattle.ug_types.specs.declared.rule.Rule as types
 use Rattle.ug_types.specs.declared.saved.Saved.{Saved}
 use Rattle.ug_types.specs.declared.saved.Saved.TheVariants as saved
 use Rattle.ug_types.specs.declared.verdict.Moment.{Moment}
 use Rattle.ug_table.specs.declared.standing.Standing.{Standing}
-use Rattle.ug_sysfs.specs.World.{World, Gives, begun, halting, over}
+use Rattle.ug_sysfs.specs.World.{World, Gives, begun, over}
 use Rattle.ug_kernel.specs.Tree.{Runs}
 use Rattle.ug_audit.specs.declared.entry.Entry.{Entry}
 use Rattle.ug_play.specs.Play.{play, tells_memory, IsPlayed}
@@ -16,10 +17,10 @@ use Rattle.ug_kernel.proofs.Ways.{Went, ways_more, ways_run}
 use Rattle.ug_print.specs.RuleTexts.{rules_limit}
 use Rattle.ug_rules.specs.RuleFile.{permanent_text}
 use Rattle.ug_store.specs.PlayDisk.{play_disk}
-use Rattle.ug_store.specs.Scripted.{DiskWorld, MemKeeps, forgetting}
+use Rattle.ug_store.specs.Scripted.{DiskWorld, MemKeeps, coming_up}
 use Rattle.ug_store.specs.Store.{RunsDisk, saving}
 use Rattle.ug_store.specs.declared.mishap.Planned.{Planned}
-use Rattle.ug_store.proofs.PlayedDisk.{play_unstopped, then_ends}
+use Rattle.ug_store.proofs.PlayedDisk.{then_ends}
 use Rattle.ug_store.proofs.Playing.{EndsByMemory, is_played, run_stays_out, saving_ends}
 use Rattle.ug_core.specs.Answering.{acting, asking, deed_after}
 use Rattle.ug_core.specs.Changes.{changed_by, is_saved}
@@ -33,16 +34,14 @@ use Rattle.ug_core.specs.declared.daemon.Event as daemon
 use Rattle.ug_core.specs.declared.daemon.Event.TheVariants.{Sweep, Order}
 use Rattle.ug_core.specs.declared.storing.Stored.{Stored}
 use Rattle.ug_core.specs.declared.storing.Stored.TheVariants as stored
-use Rattle.std.specs.Io.KnownBytes.{Appends}
-use Rattle.ug_types.specs.Ends.{Puts}
-use Rattle.ug_types.specs.declared.sink.Put.TheVariants.{Failed}
 use Rattle.ug_console.specs.Runs.{Steps, Closes}
 use Rattle.ug_console.specs.declared.machine.Ran.{Ran}
 use Rattle.ug_console.specs.declared.machine.Ran.TheVariants.{Done, Bad, TooLong, SinkFailed, Memory}
-use Rattle.ug_console.specs.Fold.{Outcome, Writes, Refused}
-use Rattle.ug_script.specs.Setup.{SetupState, rules_disk, started}
+use Rattle.ug_console.specs.Fold.{Fault, Outcome, Writes, Refused}
+use Rattle.ug_script.specs.Setup.{SetupState, StartsOn, after_reading, rules_disk, rules_from, started}
 use Rattle.ug_script.specs.Script.{Script, Phase, SettingUp, Unstarted, Started, has_started, fits_file}
-use Rattle.ug_script.specs.Replay.{IsEventPlayed, IsPlayedThrough, OrderPlayed, Played, answer_through, answered_by, came_of, event_by, event_from, event_taken, event_through, halted, in_script, left_played, outcome_of, outcome_text, swept_over, swept_through, tells, tried_by, with_choice, with_played, with_store}
+use Rattle.ug_script.specs.Replay.{IsEventPlayed, OrderPlayed, Played, answered_by, begun_again, came_of, finished, event_by, event_from, event_taken, halted, in_script, stop_in, stopped_of, stopped_text, swept_behind, swept_over, tells, tried_by, with_choice, with_played, with_store}
+use Rattle.ug_script.proofs.Halts.{halted_told}
 use Rattle.ug_script.proofs.Answers.{ActsSo, Asks, CanAct, SweepsSo, acting_ways, asking_ways, asks_can, asks_short, handling_ways, is_short_deed, short_asks, stored_can, stored_so}
 
 -- ---- an event that was handled is as its script fixes it, unless it tells want of memory or a world has run out
@@ -207,20 +206,20 @@ short_try (Order moment who line) d tried e = subst (λ (t : Option Saved). tell
 same_played : {e f : DaemonState} {t u : World} (p : DiskWorld) → e ≡ f → t ≡ u → ◌≡◌ {A = Played} (record { daemon = e; world = t; disk = p }) (record { daemon = f; world = u; disk = p })
 same_played {f = f} {t = t} p x y = ap (λ (v : DaemonState). record { daemon = v; world = t; disk = p }) x ∙ ap (λ (v : World). record { daemon = f; world = v; disk = p }) y
 
-module _ (halts : DiskWorld → World → World) (keeps : (o : DiskWorld) (w : World) → (halts o w).ran_out ≡ w.ran_out) (event : daemon.Event) (d : DaemonState) (s : World) (o : DiskWorld) (tried : Option Saved) (q : DiskWorld) (tries : RunsDisk MemKeeps o (trying d) tried q) (became : Stored) (m : World) (p : DiskWorld) (a : DaemonState) (h : RunsAnswer Gives MemKeeps event s q (ready event tried d) became m p a) (v : World) (resumed : v ≡ halts p m) (e : DaemonState) (t : World) (k : Runs Gives v (handling a) e t) where
+module _ (event : daemon.Event) (d : DaemonState) (s : World) (o : DiskWorld) (tried : Option Saved) (q : DiskWorld) (tries : RunsDisk MemKeeps o (trying d) tried q) (became : Stored) (m : World) (p : DiskWorld) (a : DaemonState) (h : RunsAnswer Gives MemKeeps event s q (ready event tried d) became m p a) (v : World) (resumed : v ≡ halted p m) (e : DaemonState) (t : World) (k : Runs Gives v (handling a) e t) where
   swept_on : GoesOn a e
   swept_on = let x = (ways_run Gives (SweepsSo a) (handling a) v e t (handling_ways a) k).so in (x.rest, x.entries)
 
   abbrev Fixed_so : World → Type 0
-  Fixed_so w = IsPlayedThrough halts event d w o e t p
+  Fixed_so w = IsEventPlayed event d w o e t p
 
-  by_sweep : (w : World) → s ≡ halts q (begun w) → tried ≡ (tried_by d o).0 → q ≡ (tried_by d o).1 → record { daemon = a; became = became; world = m; disk = p } ≡ answered_by event (ready event tried d) s q → Fixed_so w
+  by_sweep : (w : World) → s ≡ halted q (begun w) → tried ≡ (tried_by d o).0 → q ≡ (tried_by d o).1 → record { daemon = a; became = became; world = m; disk = p } ≡ answered_by event (ready event tried d) s q → Fixed_so w
   by_sweep w same i j answered = elim (played tells (handling a) v e t (ways_more (SweepsSo a) (TellsWant tells) (handling a) (λ ok ms x so f. tells_added a x so.rest so.entries (so.wants ∙ f)) (handling_ways a)) k) [
     | inl x ↦
-        let swept : ◌≡◌ {A = Played} (record { daemon = e; world = t; disk = p }) (swept_through halts (record { daemon = a; became = became; world = m; disk = p })) = same_played p x.0 x.1 ∙ ap (λ (u : World). swept_over p (play (handling a) u)) resumed in
-        let order : ◌≡◌ {A = Played} (swept_through halts (record { daemon = a; became = became; world = m; disk = p })) (swept_through halts (answered_by event (ready event tried d) s q)) = ap (λ (u : OrderPlayed). swept_through halts u) answered in
-        let begins : ◌≡◌ {A = Played} (swept_through halts (answered_by event (ready event tried d) s q)) (swept_through halts (answered_by event (ready event tried d) (halts q (begun w)) q)) = ap (λ (u : World). swept_through halts (answered_by event (ready event tried d) u q)) same in
-        let tries : ◌≡◌ {A = Played} (swept_through halts (answered_by event (ready event tried d) (halts q (begun w)) q)) (event_through halts event d w o) = ap (λ (u : Option Saved × DiskWorld). swept_through halts (answered_by event (ready event u.0 d) (halts u.1 (begun w)) u.1)) (same_tried i j) in
+        let swept : ◌≡◌ {A = Played} (record { daemon = e; world = t; disk = p }) (swept_behind (record { daemon = a; became = became; world = m; disk = p })) = same_played p x.0 x.1 ∙ ap (λ (u : World). swept_over p (play (handling a) u)) resumed in
+        let order : ◌≡◌ {A = Played} (swept_behind (record { daemon = a; became = became; world = m; disk = p })) (swept_behind (answered_by event (ready event tried d) s q)) = ap (λ (u : OrderPlayed). swept_behind u) answered in
+        let begins : ◌≡◌ {A = Played} (swept_behind (answered_by event (ready event tried d) s q)) (swept_behind (answered_by event (ready event tried d) (halted q (begun w)) q)) = ap (λ (u : World). swept_behind (answered_by event (ready event tried d) u q)) same in
+        let tries : ◌≡◌ {A = Played} (swept_behind (answered_by event (ready event tried d) (halted q (begun w)) q)) (event_from event d w o) = ap (λ (u : Option Saved × DiskWorld). swept_behind (answered_by event (ready event u.0 d) (halted u.1 (begun w)) u.1)) (same_tried i j) in
         inl (swept ∙ order ∙ begins ∙ tries)
     | inr y ↦ elim y [
       | inl z ↦ inr (inl z)
@@ -231,19 +230,19 @@ module _ (halts : DiskWorld → World → World) (keeps : (o : DiskWorld) (w : W
       same_tried : {x : Option Saved} {y : DiskWorld} {z : Option Saved × DiskWorld} → x ≡ z.0 → y ≡ z.1 → ◌≡◌ {A = Option Saved × DiskWorld} (x, y) z
       same_tried {y = y} {z = z} u v = ap (λ (n : Option Saved). (n, y)) u ∙ ap (λ (n : DiskWorld). (z.0, n)) v
 
-  by_order : (w : World) → s ≡ halts q (begun w) → tried ≡ (tried_by d o).0 → q ≡ (tried_by d o).1 → Fixed_so w
+  by_order : (w : World) → s ≡ halted q (begun w) → tried ≡ (tried_by d o).0 → q ≡ (tried_by d o).1 → Fixed_so w
   by_order w same i j = elim (order_played event (ready event tried d) s q became m p a h) [
     | inl x ↦ by_sweep w same i j x
     | inr y ↦ elim y [
       | inl z ↦ inr (inl (tells_on a e swept_on z))
       | inr z ↦ elim z [
-        | inl out ↦ inr (inr (inl (runs_out (handling a) v e t k (ap (λ (u : World). u.ran_out) resumed ∙ keeps p m ∙ out))))
+        | inl out ↦ inr (inr (inl (runs_out (handling a) v e t k (ap (λ (u : World). u.ran_out) resumed ∙ halted_told p m ∙ out))))
         | inr out ↦ inr (inr (inr out))
       ]
     ]
   ]
 
-  by_try : (w : World) → s ≡ halts q (begun w) → Fixed_so w
+  by_try : (w : World) → s ≡ halted q (begun w) → Fixed_so w
   by_try w same = elim (is_played (λ (x : Option Saved). x ≡ Some saved.Memory) (trying d) o tried q (trying_ends d) tries) [
     | inl x ↦ by_order w same x.0 x.1
     | inr y ↦ elim y [
@@ -252,69 +251,15 @@ module _ (halts : DiskWorld → World → World) (keeps : (o : DiskWorld) (w : W
     ]
   ]
 
--- with something between its stages
-pub played_through : (halts : DiskWorld → World → World) → ((o : DiskWorld) (w : World) → (halts o w).ran_out ≡ w.ran_out) → (event : daemon.Event) (d : DaemonState) (w s : World) (o : DiskWorld) (tried : Option Saved) (q : DiskWorld) → RunsDisk MemKeeps o (trying d) tried q → (became : Stored) (m : World) (p : DiskWorld) (a : DaemonState) → RunsAnswer Gives MemKeeps event s q (ready event tried d) became m p a → (v : World) → v ≡ halts p m → (e : DaemonState) (t : World) → Runs Gives v (handling a) e t → s ≡ halts q (begun w) → IsPlayedThrough halts event d w o e t p
-played_through halts keeps event d w s o tried q tries became m p a h v resumed e t k same = by_try halts keeps event d s o tried q tries became m p a h v resumed e t k w same
-
-pub event_played : (event : daemon.Event) (d : DaemonState) (w s : World) (o : DiskWorld) (tried : Option Saved) (q : DiskWorld) → RunsDisk MemKeeps o (trying d) tried q → (became : Stored) (m : World) (p : DiskWorld) (a : DaemonState) → RunsAnswer Gives MemKeeps event s q (ready event tried d) became m p a → (e : DaemonState) (t : World) → Runs Gives m (handling a) e t → s ≡ begun w → IsEventPlayed event d w o e t p
-event_played event d w s o tried q tries became m p a h e t k same = played_through (λ o w. w) (λ o w. refl) event d w s o tried q tries became m p a h m refl e t k same
-
--- ---- behind a stop
-
-halted_keeps : (o : DiskWorld) (w : World) → (halted o w).ran_out ≡ w.ran_out
-halted_keeps o w = by_stopped o.stopped
-  where
-    by_stopped : (b : Bool) → (cond b (halting w) w).ran_out ≡ w.ran_out
-    by_stopped true = refl
-    by_stopped false = refl
-
--- the kernel is as it was, but for its calls
-pub halted_kernel : (o : DiskWorld) (w : World) → (halted o w).kernel ≡ w.kernel
-halted_kernel o w = by_stopped o.stopped
-  where
-    by_stopped : (b : Bool) → (cond b (halting w) w).kernel ≡ w.kernel
-    by_stopped true = refl
-    by_stopped false = refl
-
--- where the machine hasn't stopped, it is the event that the script fixes
-halted_not : (o : DiskWorld) (w : World) → o.stopped ≡ false → halted o w ≡ w
-halted_not o w e = ap (λ (b : Bool). cond b (halting w) w) e
-
-answered_unstopped : (event : daemon.Event) (d : DaemonState) (w : World) (o : DiskWorld) → (answered_by event d w o).disk.stopped ≡ false → o.stopped ≡ false
-answered_unstopped (Sweep moment) d w o e = e
-answered_unstopped (Order moment who line) d w o e = play_unstopped (storing d (play (asking d who line) w).0.change) o e
-
-pub not_stopped : (event : daemon.Event) (d : DaemonState) (w : World) (o : DiskWorld) → (event_through halted event d w o).disk.stopped ≡ false → event_through halted event d w o ≡ event_from event d w o
-not_stopped event d w o e =
-    let q : DiskWorld = (tried_by d o).1 in
-    let r : DaemonState = ready event (tried_by d o).0 d in
-    let before : q.stopped ≡ false = answered_unstopped event r (halted q (begun w)) q e in
-    let begins : answer_through halted event d w o ≡ answered_by event r (begun w) q = ap (λ (u : World). answered_by event r u q) (halted_not q (begun w) before) in
-    let still : (answered_by event r (begun w) q).disk.stopped ≡ false = ap (λ (a : OrderPlayed). a.disk.stopped) (sym begins) ∙ e in
-    let a : OrderPlayed = answered_by event r (begun w) q in
-    ap (λ (x : OrderPlayed). swept_through halted x) begins
-    ∙ ap (λ (u : World). swept_over a.disk (play (handling a.daemon) u)) (halted_not a.disk a.world still)
-
-pub stopped_played : (event : daemon.Event) (d : DaemonState) (w s : World) (o : DiskWorld) (tried : Option Saved) (q : DiskWorld) → RunsDisk MemKeeps o (trying d) tried q → (became : Stored) (m : World) (p : DiskWorld) (a : DaemonState) → RunsAnswer Gives MemKeeps event s q (ready event tried d) became m p a → (v : World) → v ≡ halted p m → (e : DaemonState) (t : World) → Runs Gives v (handling a) e t → (start : World) → start ≡ begun w → s ≡ halted q start → IsPlayedThrough halted event d w o e t p
-stopped_played event d w s o tried q tries became m p a h v resumed e t k start begins same = played_through halted halted_keeps event d w s o tried q tries became m p a h v resumed e t k (same ∙ ap (λ (u : World). halted q u) begins)
-
-pub unstopped_played : (event : daemon.Event) (d : DaemonState) (w : World) (o : DiskWorld) (e : DaemonState) (t : World) (p : DiskWorld) → p.stopped ≡ false → IsPlayedThrough halted event d w o e t p → IsEventPlayed event d w o e t p
-unstopped_played event d w o e t p unstopped (inl is) = inl (is ∙ not_stopped event d w o (ap (λ (x : Played). x.disk.stopped) (sym is) ∙ unstopped))
-unstopped_played event d w o e t p unstopped (inr other) = inr other
+pub event_played : (event : daemon.Event) (d : DaemonState) (w s : World) (o : DiskWorld) (tried : Option Saved) (q : DiskWorld) → RunsDisk MemKeeps o (trying d) tried q → (became : Stored) (m : World) (p : DiskWorld) (a : DaemonState) → RunsAnswer Gives MemKeeps event s q (ready event tried d) became m p a → (v : World) → v ≡ halted p m → (e : DaemonState) (t : World) → Runs Gives v (handling a) e t → (start : World) → start ≡ begun w → s ≡ halted q start → IsEventPlayed event d w o e t p
+event_played event d w s o tried q tries became m p a h v resumed e t k start begins same = by_try event d s o tried q tries became m p a h v resumed e t k w (same ∙ ap (λ (u : World). halted q u) begins)
 
 -- ---- its text
 
--- the event's text was written, or it was cut
-came : (x y : Played) (before after : Option (List ℕ)) (r : Ran) → x ≡ y → Closes (Some (outcome_text (outcome_of x.daemon))) before after r → Steps (came_of y) (left_played x) before after r
-came x y before after Done same c = (ap (λ (v : Played). left_played v) same, subst (λ (v : Played). Appends before after (outcome_text (outcome_of v.daemon))) same c)
-came x y before after Bad same c = c
-came x y before after TooLong same c = c
-came x y before after SinkFailed same c = (ap (λ (v : Played). left_played v) same, subst (λ (v : Played). Puts before after (outcome_text (outcome_of v.daemon)) Failed) same c)
-came x y before after Memory same c = c
-
-pub event_steps : {u : World} {v : DiskWorld} (event : daemon.Event) (d : DaemonState) (w : World) (o : DiskWorld) (e : DaemonState) (t : World) (p : DiskWorld) (before after : Option (List ℕ)) (r : Ran) → IsEventPlayed event d w o e t p → tells_memory e.sweep.entries ≡ false → t.ran_out ≡ false → p.ran_out ≡ false → Closes (Some (outcome_text (outcome_of e))) before after r → u ≡ over t → v ≡ forgetting p → Steps (came_of (event_from event d w o)) (record { daemon = e; world = u; disk = v }) before after r
-event_steps {u = u} {v = v} event d w o e t p before after r played quiet ran kept c ended forgot = subst (λ (x : World). Steps (came_of (event_from event d w o)) (record { daemon = e; world = x; disk = v }) before after r) (sym ended) (subst (λ (x : DiskWorld). Steps (came_of (event_from event d w o)) (record { daemon = e; world = over t; disk = x }) before after r) (sym forgot) (elim played [
-  | inl q ↦ came (record { daemon = e; world = t; disk = p }) (event_from event d w o) before after r q c
+-- where there was no want of memory, it came to what is fixed
+pub event_fixed : (event : daemon.Event) (d : DaemonState) (w : World) (o : DiskWorld) (e : DaemonState) (t : World) (p : DiskWorld) → IsEventPlayed event d w o e t p → tells_memory e.sweep.entries ≡ false → t.ran_out ≡ false → p.ran_out ≡ false → ◌≡◌ {A = Played} (record { daemon = e; world = t; disk = p }) (event_from event d w o)
+event_fixed event d w o e t p played quiet ran kept = elim played [
+  | inl q ↦ q
   | inr x ↦ elim x [
     | inl y ↦ absurd (both_ways (tells_memory e.sweep.entries) quiet y)
     | inr y ↦ elim y [
@@ -322,7 +267,47 @@ event_steps {u = u} {v = v} event d w o e t p before after r played quiet ran ke
       | inr z ↦ absurd (both_ways p.ran_out kept z)
     ]
   ]
-]))
+]
+
+-- its text was written, or it was cut
+pub text_steps : (text : List ℕ) (next new : Played) (before after : Option (List ℕ)) (r : Ran) → new ≡ next → Closes (Some text) before after r → Steps (Writes text next) new before after r
+text_steps text next new before after Done same c = (same, c)
+text_steps text next new before after Bad same c = c
+text_steps text next new before after TooLong same c = c
+text_steps text next new before after SinkFailed same c = (same, c)
+text_steps text next new before after Memory same c = c
+
+-- the call that wanted memory wrote nothing
+pub memory_steps : {M : Type 0} (o : Outcome M) (new : M) (held : Option (List ℕ)) → Steps o new held held Memory
+memory_steps (Writes text next) new None = tt
+memory_steps (Writes text next) new (Some bytes) = refl
+memory_steps (Refused fault next) new None = tt
+memory_steps (Refused fault next) new (Some bytes) = refl
+
+-- an event in which the machine stopped, and the daemon that is started behind it
+pub stopped_steps : (setup : SetupState) (call : ℕ) (p : Played) (d : DaemonState) (w : World) (o : DiskWorld) (before after : Option (List ℕ)) (r : Ran) → w ≡ over p.world → StartsOn setup p.daemon.event (coming_up p.disk) d → o ≡ after_reading (coming_up p.disk) → Closes (Some (stopped_text call p.daemon.sweep.entries)) before after r → Steps (stopped_of setup call p (rules_from p.disk.disk.text)) (record { daemon = d; world = w; disk = o }) before after r
+stopped_steps setup call p d w o before after r ended starts read c =
+    let next : Played = begun_again setup starts.rules p in
+    let same : ◌≡◌ {A = Played} (record { daemon = d; world = w; disk = o }) next =
+    ap (λ (x : DaemonState). record { daemon = x; world = w; disk = o }) starts.is
+    ∙ ap (λ (x : World). record { daemon = next.daemon; world = x; disk = o }) ended
+    ∙ ap (λ (x : DiskWorld). record { daemon = next.daemon; world = over p.world; disk = x }) read in
+    subst (λ (x : Result (List types.Rule) Fault). Steps (stopped_of setup call p x) (record { daemon = d; world = w; disk = o }) before after r) (sym starts.loaded) (text_steps (stopped_text call p.daemon.sweep.entries) next (record { daemon = d; world = w; disk = o }) before after r same c)
+
+came_by : (setup : SetupState) (plan : List Planned) (p x : Played) (d : DaemonState) (w : World) (o : DiskWorld) (before after : Option (List ℕ)) (r : Ran) → p ≡ x → w ≡ over p.world → Steps (came_of setup plan p) (record { daemon = d; world = over p.world; disk = o }) before after r → Steps (came_of setup plan x) (record { daemon = d; world = w; disk = o }) before after r
+came_by setup plan p x d w o before after r same ended h = subst (λ (y : Played). Steps (came_of setup plan y) (record { daemon = d; world = w; disk = o }) before after r) same (subst (λ (v : World). Steps (came_of setup plan p) (record { daemon = d; world = v; disk = o }) before after r) (sym ended) h)
+
+-- an event in which it stopped, or didn't
+pub came_stopped : (setup : SetupState) (plan : List Planned) (p x : Played) (call : ℕ) (d : DaemonState) (w : World) (o : DiskWorld) (before after : Option (List ℕ)) (r : Ran) → p ≡ x → p.disk.stopped ≡ true → call ≡ stop_in plan p → w ≡ over p.world → Steps (stopped_of setup call p (rules_from p.disk.disk.text)) (record { daemon = d; world = over p.world; disk = o }) before after r → Steps (came_of setup plan x) (record { daemon = d; world = w; disk = o }) before after r
+came_stopped setup plan p x call d w o before after r same stopped at ended h =
+    let there : Steps (stopped_of setup (stop_in plan p) p (rules_from p.disk.disk.text)) (record { daemon = d; world = over p.world; disk = o }) before after r = subst (λ (n : ℕ). Steps (stopped_of setup n p (rules_from p.disk.disk.text)) (record { daemon = d; world = over p.world; disk = o }) before after r) at h in
+    let came : Steps (came_of setup plan p) (record { daemon = d; world = over p.world; disk = o }) before after r = subst (λ (b : Bool). Steps (cond b (stopped_of setup (stop_in plan p) p (rules_from p.disk.disk.text)) (finished p)) (record { daemon = d; world = over p.world; disk = o }) before after r) (sym stopped) there in
+    came_by setup plan p x d w o before after r same ended came
+
+pub came_ended : (setup : SetupState) (plan : List Planned) (p x : Played) (d : DaemonState) (w : World) (o : DiskWorld) (before after : Option (List ℕ)) (r : Ran) → p ≡ x → p.disk.stopped ≡ false → w ≡ over p.world → Steps (finished p) (record { daemon = d; world = over p.world; disk = o }) before after r → Steps (came_of setup plan x) (record { daemon = d; world = w; disk = o }) before after r
+came_ended setup plan p x d w o before after r same stopped ended h =
+    came_by setup plan p x d w o before after r same ended
+    (subst (λ (b : Bool). Steps (cond b (stopped_of setup (stop_in plan p) p (rules_from p.disk.disk.text)) (finished p)) (record { daemon = d; world = over p.world; disk = o }) before after r) (sym stopped) h)
 
 abbrev place : Script → Played → Option Script × World
 place s p = (Some (with_played s p), p.world)
@@ -340,10 +325,10 @@ in_script_steps s (Refused fault next) p before after SinkFailed h = h
 in_script_steps s (Refused fault next) p before after Memory h = h
 
 -- the first event
-first_by : (event : daemon.Event) (setup : SetupState) (phase : Phase) (plan : List Planned) (w : World) (p : Played) (before after : Option (List ℕ)) (r : Ran) → has_started phase ≡ false → fits_file setup ≡ true → Steps (event_by event plan (started setup) w (rules_disk setup)) p before after r → Steps (event_taken event (record { setup = setup; phase = phase; planned = plan }) w) (Some (record { setup = setup; phase = Started p.daemon p.disk; planned = [] }), p.world) before after r
-first_by event setup SettingUp plan w p before after r new fits h = rw fits (in_script_steps (record { setup = setup; phase = SettingUp; planned = plan }) (event_by event plan (started setup) w (rules_disk setup)) p before after r h)
-first_by event setup Unstarted plan w p before after r new fits h = rw fits (in_script_steps (record { setup = setup; phase = Unstarted; planned = plan }) (event_by event plan (started setup) w (rules_disk setup)) p before after r h)
+first_by : (event : daemon.Event) (setup : SetupState) (phase : Phase) (plan : List Planned) (w : World) (p : Played) (before after : Option (List ℕ)) (r : Ran) → has_started phase ≡ false → fits_file setup ≡ true → Steps (event_by setup event plan (started setup) w (rules_disk setup)) p before after r → Steps (event_taken event (record { setup = setup; phase = phase; planned = plan }) w) (Some (record { setup = setup; phase = Started p.daemon p.disk; planned = [] }), p.world) before after r
+first_by event setup SettingUp plan w p before after r new fits h = rw fits (in_script_steps (record { setup = setup; phase = SettingUp; planned = plan }) (event_by setup event plan (started setup) w (rules_disk setup)) p before after r h)
+first_by event setup Unstarted plan w p before after r new fits h = rw fits (in_script_steps (record { setup = setup; phase = Unstarted; planned = plan }) (event_by setup event plan (started setup) w (rules_disk setup)) p before after r h)
 first_by event setup (Started e disk) plan w p before after r new fits h = let none : ⊥ = cc in absurd none
 
-pub first_steps : (event : daemon.Event) (setup : SetupState) (phase : Phase) (d : DaemonState) (disk : DiskWorld) (plan left : List Planned) (w : World) (p : Played) (before after : Option (List ℕ)) (r : Ran) → has_started phase ≡ false → fits_file setup ≡ true → d ≡ started setup → disk ≡ rules_disk setup → left ≡ [] → Steps (event_by event plan d w disk) p before after r → Steps (event_taken event (record { setup = setup; phase = phase; planned = plan }) w) (Some (record { setup = setup; phase = Started p.daemon p.disk; planned = left }), p.world) before after r
-first_steps event setup phase d disk plan left w p before after r new fits is on none h = subst (λ (ps : List Planned). Steps (event_taken event (record { setup = setup; phase = phase; planned = plan }) w) (Some (record { setup = setup; phase = Started p.daemon p.disk; planned = ps }), p.world) before after r) (sym none) (first_by event setup phase plan w p before after r new fits (subst (λ (o : DiskWorld). Steps (event_by event plan (started setup) w o) p before after r) on (subst (λ (x : DaemonState). Steps (event_by event plan x w disk) p before after r) is h)))
+pub first_steps : (event : daemon.Event) (setup : SetupState) (phase : Phase) (d : DaemonState) (disk : DiskWorld) (plan left : List Planned) (w : World) (p : Played) (before after : Option (List ℕ)) (r : Ran) → has_started phase ≡ false → fits_file setup ≡ true → d ≡ started setup → disk ≡ rules_disk setup → left ≡ [] → Steps (event_by setup event plan d w disk) p before after r → Steps (event_taken event (record { setup = setup; phase = phase; planned = plan }) w) (Some (record { setup = setup; phase = Started p.daemon p.disk; planned = left }), p.world) before after r
+first_steps event setup phase d disk plan left w p before after r new fits is on none h = subst (λ (ps : List Planned). Steps (event_taken event (record { setup = setup; phase = phase; planned = plan }) w) (Some (record { setup = setup; phase = Started p.daemon p.disk; planned = ps }), p.world) before after r) (sym none) (first_by event setup phase plan w p before after r new fits (subst (λ (o : DiskWorld). Steps (event_by setup event plan (started setup) w o) p before after r) on (subst (λ (x : DaemonState). Steps (event_by setup event plan x w disk) p before after r) is h)))

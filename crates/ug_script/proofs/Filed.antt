@@ -11,7 +11,7 @@ use Rattle.ug_lines.specs.LineReading.{lines_read}
 use Rattle.ug_lines.specs.Lines.{whole_from, rest_from}
 use Rattle.ug_lex.specs.Lexing.{tokens_of, tokens_from, front_of}
 use Rattle.ug_store.specs.Disk.{Disk, Images, Texts, Anything, IsImage}
-use Rattle.ug_store.specs.Scripted.{DiskWorld, MemKeeps, disk_told}
+use Rattle.ug_store.specs.Scripted.{DiskWorld, MemKeeps, coming_up, disk_told}
 use Rattle.ug_policy.specs.declared.entry.RuleEntry.{RuleEntry}
 use Rattle.ug_rules.specs.RuleFile.{IsRuleFile, IsSaveable, permanent_rules, permanent_text}
 use Rattle.ug_rules.proofs.Readable.{saved_file}
@@ -101,6 +101,21 @@ still_files o p still was ran =
       λ c h. f.0 c (subst (λ (i : Images). IsImage i c) still.left h),
       λ never. f.1 (λ h. never (subst (λ (i : Images). IsImage i p.disk.text) (sym still.left) (subst (λ (t : List ℕ). IsImage o.disk.left t) (sym still.text) h))),
     )
+
+-- a daemon starts with the text that a stop left
+pub left_starts : (o : DiskWorld) → StaysReadable o → o.ran_out ≡ false → is_startable o.disk.text ≡ true
+left_starts o was alive = by_start (is_startable o.disk.text) refl
+  where
+    by_start : (b : Bool) → is_startable o.disk.text ≡ b → b ≡ true
+    by_start true e = refl
+    by_start false e = absurd ((was alive).1 (λ h. let bad : false ≡ true = sym e ∙ (was alive).0 o.disk.text h in let none : ⊥ = cc in none))
+
+-- the machine comes up again
+pub up_files : (o : DiskWorld) → StaysReadable o → StaysReadable (coming_up o)
+up_files o was ran = (
+  λ c h. elim h [ inl e ↦ subst (λ (t : List ℕ). is_startable t ≡ true) e (left_starts o was ran) | inr none ↦ absurd none ],
+  λ never. never (inl refl),
+)
 
 -- the rule file gives a daemon
 pub gives_rules : (o : DiskWorld) (fault : Fault) → StaysReadable o → o.ran_out ≡ false → rules_from o.disk.text ≡ Err fault → ⊥

@@ -41,13 +41,13 @@ use Rattle.ug_store.specs.declared.mishap.Planned.{Planned}
 use Rattle.ug_store.proofs.PlayedDisk.{play_runs_disk, play_stays_possible, play_stays_told}
 use Rattle.ug_rule.specs.Files.{file_read}
 use Rattle.ug_store.specs.MemLaw.{mem_did}
-use Rattle.ug_store.specs.Scripted.{DiskWorld, MemKeeps, disk_told, forgetting}
+use Rattle.ug_store.specs.Scripted.{DiskWorld, MemKeeps, coming_up, disk_told, forgetting}
 use Rattle.ug_print.specs.RuleTexts.{rules_limit, rules_text_of}
 use Rattle.ug_types.specs.declared.rule.Rule.{Rule}
 use Rattle.ug_sysfs.specs.World.{Gives}
 use Rattle.ug_play.proofs.Plays.{play_runs}
 use Rattle.ug_core.specs.Chain.{IsEvent, StaysOnDisk}
-use Rattle.ug_core.proofs.Kept.{file_kept, stays_there}
+use Rattle.ug_core.proofs.Kept.{kept_event, stays_there}
 use Rattle.ug_core.proofs.Plain.{SameRules, event_keeps_pending, event_keeps_rules}
 use Rattle.ug_core.proofs.Tried.{tries_save}
 use Rattle.ug_core.proofs.Verdicts.{steps_later}
@@ -61,12 +61,14 @@ use Rattle.ug_script.specs.declared.step.Step.TheVariants.{Skip, Setup, Move, Sc
 use Rattle.ug_script.specs.Grammar.{step_of_line}
 use Rattle.ug_script.specs.Setup.{Beside, SetupState, no_setup, one_line_more, beside_of, after_reading, policy_of, rules_disk, rules_from, rules_if_read, started, started_at, steps_of, with_rules}
 use Rattle.ug_script.specs.Script.{Script, Phase, fresh, takes_setup, has_started, closed_phase, with_setup_closed, daemon_by, daemon_in, disk_by, disk_in, can_start}
-use Rattle.ug_script.specs.Replay.{header, outcome_of, outcome_text, quiet, bad, line_added, with_devices, with_plan, with_played, with_restart, planned, answered_by, answered_from, answered_of, came_of, disk_of, event_from, event_of, in_script, left_played, restarted, taken, taken_if, tried_by, script_step}
-use Rattle.ug_script.specs.Laws.{calls_of, faults_of, StaysLawful}
-use Rattle.ug_script.specs.Journal.{happened_at, left_by, left_behind, EventsOfRuns, no_events, with_events, runs_by, runs_after, runs_in, journals, journal_of, events_text, runs_text, text_of_runs, RunStart, first_start, HoldsAtStart, IsDaemonRun, EndedRun, AreSuccessive, JudgesOnce, is_quiet, AreQuiet, Recorded, StaysRecorded}
+use Rattle.ug_script.specs.Replay.{header, outcome_of, outcome_text, quiet, bad, line_added, with_devices, with_plan, with_played, with_restart, planned, Played, answered_by, answered_from, answered_of, begun_again, came_of, disk_of, event_from, event_of, finished, halted, in_script, left_played, restarted, stopped_of, stopped_text, taken, taken_if, tried_by, script_step}
+use Rattle.ug_script.specs.Laws.{StaysLawful}
+use Rattle.ug_script.specs.Journal.{happened_at, left_by, left_behind, EventsOfRuns, RunEnd, no_events, with_end, with_events, with_stop, runs_by, runs_after, runs_in, stop_of, text_to_stop, journals, journal_of, events_text, run_text, runs_text, text_of_runs, RunStart, first_start, HoldsAtStart, IsDaemonRun, EndedRun, AreSuccessive, JudgesOnce, is_quiet, AreQuiet, Recorded, StaysRecorded}
 use Rattle.ug_script.proofs.OnEntries.{event_on_entries}
 use Rattle.ug_script.proofs.Phases.{open_unstarted, closed_daemon, closed_disk, closed_started}
-use Rattle.ug_script.proofs.Lawful.{Holds, HoldsOf, answers, handled, event_disk, event_holds, event_nobody, event_saved, move_holds, order_runs, plan_holds, no_standing, tells_event, lawful_event}
+use Rattle.ug_script.proofs.Halts.{halted_moves}
+use Rattle.ug_script.proofs.Lawful.{Holds, HoldsOf, answered_holds, answers, event_adds, made_by, swept_tells, halted_holds, handled, event_disk, event_holds, event_nobody, event_saved, move_holds, order_runs, plan_holds, no_standing, start_of, swept_from}
+use Rattle.ug_script.proofs.Stopped.{lawful_event}
 use Rattle.ug_script.proofs.Numbers.{Fits, FitsOf, fits_more, event_fits, started_fits, fits_numbers}
 use Rattle.ug_script.proofs.Setups.{IsGiven, InSetup, given_first, given_still, given_added, given_setup, policy_new}
 
@@ -103,16 +105,16 @@ KeptAfter first n done runs text (Writes more (None, w)) = ⊥
 KeptAfter first n done runs text (Refused fault p) = Unit {0}
 
 -- no event, and no text
-kept_still : (first : World) (n : ℕ) (done : List (Option Step)) (runs : EventsOfRuns) (text : List ℕ) (s : Script) (w : World) → Kept first n done runs text s w → Kept first n done (with_events [] runs) (text ++ []) s w
-kept_still first n done runs text s w h = subst (λ (x : List Happened). Kept first n done (record runs { last = x }) (text ++ []) s w) (sym (append-nil runs.last)) (subst (λ (x : List ℕ). Kept first n done runs x s w) (sym (append-nil text)) h)
+kept_still : (first : World) (n : ℕ) (done : List (Option Step)) (runs : EventsOfRuns) (text : List ℕ) (s : Script) (w : World) → Kept first n done runs text s w → Kept first n done runs (text ++ []) s w
+kept_still first n done runs text s w h = subst (λ (x : List ℕ). Kept first n done runs x s w) (sym (append-nil text)) h
+
+only_image : {x y : List ℕ} → Has (x ∷ []) y → y ≡ x
+only_image (inl e) = sym e
+only_image (inr h) = absurd h
 
 -- at the beginning the disk holds the text of the rules, and a crash leaves no other
 first_holds : (setup : SetupState) (k : Kernel) → HoldsAtStart (first_start setup.rules k) (rules_disk setup).disk
 first_holds setup k = record { text = refl; left = λ text h. inl (only_image h) }
-  where
-    only_image : {x y : List ℕ} → Has (x ∷ []) y → y ≡ x
-    only_image (inl e) = sym e
-    only_image (inr h) = absurd h
 
 -- ---- a line of setup: another policy, before any event
 
@@ -154,7 +156,7 @@ setup_kept first n done runs text s w step setup lt opened h given =
       saved = λ q. ap (λ (d : DaemonState). d.pending) new;
     }
 
-added_kept : (first : World) (n : ℕ) (done : List (Option Step)) (runs : EventsOfRuns) (text : List ℕ) (s : Script) (w : World) (step : Option Step) (o : Option SetupState) → n < 1048576 → takes_setup s.phase ≡ true → Kept first n done runs text s w → InSetup (IsGiven (n + 1) (done ++ step ∷ [])) o → KeptAfter first (n + 1) (done ++ step ∷ []) (with_events [] runs) text (line_added o s w)
+added_kept : (first : World) (n : ℕ) (done : List (Option Step)) (runs : EventsOfRuns) (text : List ℕ) (s : Script) (w : World) (step : Option Step) (o : Option SetupState) → n < 1048576 → takes_setup s.phase ≡ true → Kept first n done runs text s w → InSetup (IsGiven (n + 1) (done ++ step ∷ [])) o → KeptAfter first (n + 1) (done ++ step ∷ []) runs text (line_added o s w)
 added_kept first n done runs text s w step None lt opened h given = tt
 added_kept first n done runs text s w step (Some setup) lt opened h given = kept_still first (n + 1) (done ++ step ∷ []) runs text (record s { setup = setup }) w (setup_kept first n done runs text s w step setup lt opened h given)
 
@@ -213,13 +215,17 @@ is_event first n done runs text event s w h =
     let q : DiskWorld = (tried_by d o).1 in
     let a = answered_from event d w o in
     let p = event_from event d w o in
-    let tells = tells_event event d w o h.holds in
-    let swept : SameRules a.daemon.sweep.judge p.daemon.sweep = event_keeps_rules Gives a.world a.daemon (play (handling a.daemon) a.world).0 (play (handling a.daemon) a.world).1 (play_runs (handling a.daemon) a.world) in
+    let m : World = halted a.disk a.world in
+    let runs = play_runs (handling a.daemon) m in
+    let swept : SameRules a.daemon.sweep.judge p.daemon.sweep = event_keeps_rules Gives m a.daemon p.daemon p.world runs in
+    let adds = event_adds event d w o in
+    let made = made_by event d w o h.holds in
+    let tells = swept_tells a.daemon m in
     record {
       answers = answers event d w o h.holds;
       handled = handled event d w o h.holds;
-      file = file_kept Gives MemKeeps disk_told mem_did event (begun w) o d tried q a.became a.world a.disk a.daemon p.world p.daemon (play_runs_disk (trying d) o) (order_runs event (ready event tried d) (begun w) q) tells swept;
-      saves = tries_save Gives calls_of faults_of MemKeeps event o d tried q (begun w) a.became tells.order a.world a.disk a.daemon a.world p.world p.daemon tells.swept (play_runs_disk (trying d) o) (order_runs event (ready event tried d) (begun w) q) tells.answers tells.goes tells.entries (event_keeps_pending Gives a.world a.daemon p.daemon p.world (play_runs (handling a.daemon) a.world));
+      file = kept_event Gives MemKeeps disk_told mem_did event (start_of d w o) o d tried q a.became a.world a.disk a.daemon p.daemon adds.0 (play_runs_disk (trying d) o) (order_runs event (ready event tried d) (start_of d w o) q) adds.1 swept;
+      saves = tries_save Gives calls_of faults_of MemKeeps event o d tried q (start_of d w o) a.became made.made a.world a.disk a.daemon m p.world p.daemon tells.swept (play_runs_disk (trying d) o) (order_runs event (ready event tried d) (start_of d w o) q) made.goes tells.tells.goes tells.entries (event_keeps_pending Gives m a.daemon p.daemon p.world runs);
     }
 
 -- the chain with that event
@@ -235,7 +241,7 @@ forgets o = by_told o.ran_out
     by_told false = λ n e. (o.disk, refl, subst (λ (m : Disk). IsAsItWas o.disk m) (same_Some (forgetting o).disk n e) (record { text = refl; fresh = refl; synced = refl; left = refl }))
 
 event_possible : (event : events.Event) (d : DaemonState) (w : World) (o : DiskWorld) → o.ran_out ≡ false → IsImage o.disk.left o.disk.text → IsImage (event_from event d w o).disk.disk.left (event_from event d w o).disk.disk.text
-event_possible event d w o told is = by_event event (ready event (tried_by d o).0 d) (begun w) (tried_by d o).1 (play_stays_told (trying d) o told) (play_stays_possible (trying d) o told is)
+event_possible event d w o told is = by_event event (ready event (tried_by d o).0 d) (start_of d w o) (tried_by d o).1 (play_stays_told (trying d) o told) (play_stays_possible (trying d) o told is)
   where
     by_event : (event : events.Event) (r : DaemonState) (m : World) (q : DiskWorld) → q.ran_out ≡ false → IsImage q.disk.left q.disk.text → IsImage (answered_by event r m q).disk.disk.left (answered_by event r m q).disk.disk.text
     by_event (Sweep moment) r m q told is = is
@@ -283,7 +289,7 @@ event_kept first n done runs text event s w lt h =
       written = ap (λ (z : List ℕ). z ++ outcome_text (outcome_of p.daemon)) h.written ∙ sym (text_more runs this);
       nobody = λ q e.
           let quiet = (quiet_front done step q).0 in
-          subst NameNobody (sym all) (nobody_more (journal_of runs) p.daemon.sweep.entries (h.nobody quiet e) (event_nobody event d w o h.holds.told (h.unfailing quiet e) h.kept));
+          subst NameNobody (sym all) (nobody_more (journal_of runs) p.daemon.sweep.entries (h.nobody quiet e) (event_nobody event d w o h.holds.told (h.unfailing quiet e) h.kept (h.unplanned quiet, refl)));
       unfailing = λ q e. (refl, refl);
       unmoved = λ q e. refl;
       unplanned = λ q. refl;
@@ -291,13 +297,6 @@ event_kept first n done runs text event s w lt h =
           let quiet = (quiet_front done step q).0 in
           event_saved event d w o h.kept (h.unplanned quiet, refl) (h.saved quiet);
     }
-
-event_if : (first : World) (n : ℕ) (done : List (Option Step)) (runs : EventsOfRuns) (text : List ℕ) (event : events.Event) (s : Script) (w : World) (can has : Bool)
-    → KeptAfter first n done (with_events (happened_at event s w ∷ []) runs) text (in_script s (came_of (event_of event s w)))
-    → KeptAfter first n done (with_events (cond (can && has) (happened_at event s w ∷ []) []) runs) text (cond can (in_script s (cond has (came_of (event_of event s w)) (Refused BadLine (record { daemon = daemon_in s; world = w; disk = disk_in s })))) (Refused InputTooLong (Some s, w)))
-event_if first n done runs text event s w true true k = k
-event_if first n done runs text event s w true false k = tt
-event_if first n done runs text event s w false has k = tt
 
 -- ---- a restart
 
@@ -326,12 +325,12 @@ left_images beside policy b hs k file e run text possible =
     ]
 
 -- one run more has ended
-run_ended : (beside : Beside) (policy : Judging) (first : RunStart) (runs : List (List Happened)) (b : RunStart) (hs : List Happened) (r : EndedRun beside policy b hs) → AreSuccessive beside policy first runs b → AreSuccessive beside policy first (runs ++ hs ∷ []) r.next
-run_ended beside policy first [] b hs r h = begins first h
+run_ended : (beside : Beside) (policy : Judging) (first : RunStart) (runs : List RunEnd) (b : RunStart) (run : RunEnd) (r : EndedRun beside policy b run) → AreSuccessive beside policy first runs b → AreSuccessive beside policy first (runs ++ run ∷ []) r.next
+run_ended beside policy first [] b run r h = begins first h
   where
-    begins : (c : RunStart) → b ≡ c → AreSuccessive beside policy c (hs ∷ []) r.next
-    begins c e = subst (λ (x : RunStart). AreSuccessive beside policy x (hs ∷ []) r.next) e (r, refl)
-run_ended beside policy first (gs ∷ runs) b hs r h = (h.0, run_ended beside policy h.0.next runs b hs r h.1)
+    begins : (c : RunStart) → b ≡ c → AreSuccessive beside policy c (run ∷ []) r.next
+    begins c e = subst (λ (x : RunStart). AreSuccessive beside policy x (run ∷ []) r.next) e (r, refl)
+run_ended beside policy first (one ∷ runs) b run r h = (h.0, run_ended beside policy h.0.next runs b run r h.1)
 
 told_now : (o : DiskWorld) → o.ran_out ≡ false → disk_told o ≡ Some o.disk
 told_now o none = rw none refl
@@ -361,22 +360,22 @@ from_text text rules h = by_length (nat_le (length text) file_limit) h
 told_reading : (o : DiskWorld) → o.ran_out ≡ false → disk_told (after_reading o) ≡ Some (after_reading o).disk
 told_reading o none = rw none refl
 
-journals_append : (xs : List (List Happened)) (hs : List Happened) → journals (xs ++ hs ∷ []) ≡ journals xs ++ journal hs
-journals_append [] hs = append-nil (journal hs)
-journals_append (gs ∷ xs) hs = ap (λ (es : List Entry). journal gs ++ es) (journals_append xs hs) ∙ sym (append_assoc (journal gs) (journals xs) (journal hs))
+journals_append : (xs : List RunEnd) (run : RunEnd) → journals (xs ++ run ∷ []) ≡ journals xs ++ journal run.events
+journals_append [] run = append-nil (journal run.events)
+journals_append (one ∷ xs) run = ap (λ (es : List Entry). journal one.events ++ es) (journals_append xs run) ∙ sym (append_assoc (journal one.events) (journals xs) (journal run.events))
 
-runs_append : (xs : List (List Happened)) (hs : List Happened) → runs_text (xs ++ hs ∷ []) ≡ runs_text xs ++ events_text hs
-runs_append [] hs = append-nil (events_text hs)
-runs_append (gs ∷ xs) hs = ap (λ (l : List ℕ). events_text gs ++ l) (runs_append xs hs) ∙ sym (append_assoc (events_text gs) (runs_text xs) (events_text hs))
+runs_append : (xs : List RunEnd) (run : RunEnd) → runs_text (xs ++ run ∷ []) ≡ runs_text xs ++ run_text run.stop run.events
+runs_append [] run = append-nil (run_text run.stop run.events)
+runs_append (one ∷ xs) run = ap (λ (l : List ℕ). run_text one.stop one.events ++ l) (runs_append xs run) ∙ sym (append_assoc (run_text one.stop one.events) (runs_text xs) (run_text run.stop run.events))
 
-text_ended : (runs : EventsOfRuns) → text_of_runs (record { ended = runs.ended ++ runs.last ∷ []; last = [] }) ≡ text_of_runs runs
-text_ended runs = append-nil (runs_text (runs.ended ++ runs.last ∷ [])) ∙ runs_append runs.ended runs.last
+text_ended : (stop : Option ℕ) (runs : EventsOfRuns) → text_of_runs (with_end stop runs) ≡ runs_text runs.ended ++ run_text stop runs.last
+text_ended stop runs = append-nil (runs_text (runs.ended ++ record { events = runs.last; stop = stop } ∷ [])) ∙ runs_append runs.ended (record { events = runs.last; stop = stop })
 
-journal_ended : (runs : EventsOfRuns) → journal_of (record { ended = runs.ended ++ runs.last ∷ []; last = [] }) ≡ journal_of runs
-journal_ended runs = append-nil (journals (runs.ended ++ runs.last ∷ [])) ∙ journals_append runs.ended runs.last
+journal_ended : (stop : Option ℕ) (runs : EventsOfRuns) → journal_of (with_end stop runs) ≡ journal_of runs
+journal_ended stop runs = append-nil (journals (runs.ended ++ record { events = runs.last; stop = stop } ∷ [])) ∙ journals_append runs.ended (record { events = runs.last; stop = stop })
 
 restart_kept : (first : World) (n : ℕ) (done : List (Option Step)) (runs : EventsOfRuns) (text : List ℕ) (s : Script) (w : World) (rules : List Rule) → n < 1048576 → rules_from (disk_in s).disk.text ≡ Ok rules → Kept first n done runs text s w
-    → Kept first (n + 1) (done ++ Some Restart ∷ []) (record { ended = runs.ended ++ runs.last ∷ []; last = [] }) (text ++ []) (with_restart rules s) w
+    → Kept first (n + 1) (done ++ Some Restart ∷ []) (with_end None runs) (text ++ []) (with_restart rules s) w
 restart_kept first n done runs text s w rules lt loaded h =
     let step : Option Step = Some Restart in
     let d : DaemonState = daemon_in s in
@@ -387,7 +386,7 @@ restart_kept first n done runs text s w rules lt loaded h =
     let chain : Chain h.start.kernel (Some h.file) (started_at h.start.number beside (with_rules h.start.rules policy)) runs.last w.kernel (Some o.disk) d = subst (λ (x : Option Disk). Chain h.start.kernel (Some h.file) (started_at h.start.number beside (with_rules h.start.rules policy)) runs.last w.kernel x d) (told_now o h.kept) h.chain in
     let run : IsDaemonRun beside policy h.start runs.last w.kernel (Some o.disk) d = daemon_run beside policy h.start h.file runs.last w.kernel (Some o.disk) d h.few_rules h.at_start chain in
     let b : RunStart = record { rules = rules; text = o.disk.text; unsure = left_behind h.start runs.last d; number = d.event; kernel = w.kernel } in
-    let this : EndedRun beside policy h.start runs.last = record {
+    let this : EndedRun beside policy h.start (record { events = runs.last; stop = None }) = record {
       kernel = w.kernel;
       disk = Some o.disk;
       daemon = d;
@@ -397,7 +396,7 @@ restart_kept first n done runs text s w rules lt loaded h =
     } in
     let file : Disk = (after_reading o).disk in
     let given : IsGiven (n + 1) (done ++ step ∷ []) s.setup = given_still n done step s.setup refl refl refl refl refl h.given in
-    let same : journal_of (record { ended = runs.ended ++ runs.last ∷ []; last = [] }) ≡ journal_of runs = journal_ended runs in
+    let same : journal_of (with_end None runs) ≡ journal_of runs = journal_ended None runs in
     record {
       few = omega (arith, lt);
       holds = record { told = h.holds.told; sound = h.holds.sound; stand = no_standing w.kernel };
@@ -414,16 +413,107 @@ restart_kept first n done runs text s w rules lt loaded h =
       few_rules = read.1;
       file = file;
       at_start = record { text = refl; left = λ text is. inr (left_images beside policy h.start runs.last w.kernel o.disk d run text is) };
-      ended = run_ended beside policy (first_start s.setup.rules first.kernel) runs.ended h.start runs.last this h.ended;
+      ended = run_ended beside policy (first_start s.setup.rules first.kernel) runs.ended h.start (record { events = runs.last; stop = None }) this h.ended;
       chain = (unmoving w.kernel, subst (λ (x : Option Disk). StaysOnDisk (Some file) x) (sym (told_reading o h.kept)) (stays_there (Some file)), refl);
       none = λ e. closed_now (sym e);
-      written = append-nil text ∙ h.written ∙ sym (text_ended runs);
+      written = append-nil text ∙ h.written ∙ sym (text_ended None runs);
       nobody = λ q e. subst NameNobody (sym same) (h.nobody (quiet_front done step q).0 e);
       unfailing = λ q. h.unfailing (quiet_front done step q).0;
       unmoved = λ q. h.unmoved (quiet_front done step q).0;
       unplanned = λ q. h.unplanned (quiet_front done step q).0;
       saved = λ q. refl;
     }
+
+-- ---- a stop
+
+-- what is written of a run whose last event was stopped
+stop_append : (call : ℕ) (hs : List Happened) (h : Happened) → text_to_stop call (hs ++ h ∷ []) ≡ events_text hs ++ stopped_text call h.after.sweep.entries
+stop_append call [] h = refl
+stop_append call (g ∷ []) h = ap (λ (l : List ℕ). l ++ stopped_text call h.after.sweep.entries) (sym (append-nil (outcome_text (outcome_of g.after))))
+stop_append call (g ∷ f ∷ hs) h = ap (λ (l : List ℕ). outcome_text (outcome_of g.after) ++ l) (stop_append call (f ∷ hs) h) ∙ sym (append_assoc (outcome_text (outcome_of g.after)) (events_text (f ∷ hs)) (stopped_text call h.after.sweep.entries))
+
+stop_more : (call : ℕ) (runs : EventsOfRuns) (h : Happened) → text_of_runs (with_end (Some call) (with_events (h ∷ []) runs)) ≡ text_of_runs runs ++ stopped_text call h.after.sweep.entries
+stop_more call runs h =
+    text_ended (Some call) (with_events (h ∷ []) runs)
+    ∙ ap (λ (l : List ℕ). runs_text runs.ended ++ l) (stop_append call runs.last h)
+    ∙ sym (append_assoc (runs_text runs.ended) (events_text runs.last) (stopped_text call h.after.sweep.entries))
+
+stop_kept : (first : World) (n : ℕ) (done : List (Option Step)) (runs : EventsOfRuns) (text : List ℕ) (event : events.Event) (s : Script) (w : World) (call : ℕ) (rules : List Rule) → n < 1048576 → rules_from (event_of event s w).disk.disk.text ≡ Ok rules → Kept first n done runs text s w
+    → Kept first (n + 1) (done ++ Some (Event event) ∷ []) (with_end (Some call) (with_events (happened_at event s w ∷ []) runs)) (text ++ stopped_text call (event_of event s w).daemon.sweep.entries) (with_played s (begun_again s.setup rules (event_of event s w))) (over (event_of event s w).world)
+stop_kept first n done runs text event s w call rules lt loaded h =
+    let d : DaemonState = daemon_in s in
+    let o : DiskWorld = disk_of s in
+    let p = event_of event s w in
+    let step : Option Step = Some (Event event) in
+    let this : Happened = happened_at event s w in
+    let hs : List Happened = runs.last ++ this ∷ [] in
+    let beside : Beside = beside_of s.setup in
+    let policy : Judging = policy_of s.setup in
+    let k : Kernel = (over p.world).kernel in
+    let read = from_text p.disk.disk.text rules loaded in
+    let told : p.disk.ran_out ≡ false = event_disk event d w o h.kept in
+    let new : DaemonState = started_at h.start.number beside (with_rules h.start.rules policy) in
+    let so_far : Chain h.start.kernel (Some h.file) new hs k (disk_told p.disk) p.daemon = chain_moves h.start.kernel (Some h.file) new hs p.world.kernel k (disk_told p.disk) (disk_told p.disk) p.daemon (event_chain first n done runs text event s w h) (happened_moves p.world.moves p.world.kernel) (stays_there (disk_told p.disk)) in
+    let chain : Chain h.start.kernel (Some h.file) new hs k (Some p.disk.disk) p.daemon = subst (λ (x : Option Disk). Chain h.start.kernel (Some h.file) new hs k x p.daemon) (told_now p.disk told) so_far in
+    let run : IsDaemonRun beside policy h.start hs k (Some p.disk.disk) p.daemon = daemon_run beside policy h.start h.file hs k (Some p.disk.disk) p.daemon h.few_rules h.at_start chain in
+    let b : RunStart = record { rules = rules; text = p.disk.disk.text; unsure = []; number = p.daemon.event; kernel = k } in
+    let ending : EndedRun beside policy h.start (record { events = hs; stop = Some call }) = record {
+      kernel = k;
+      disk = Some p.disk.disk;
+      daemon = p.daemon;
+      is = run;
+      next = b;
+      behind = record { file = p.disk.disk; told = refl; text = refl; reads = read.0; kept = left_images beside policy h.start hs k p.disk.disk p.daemon run p.disk.disk.text (event_possible event d w o h.kept h.possible); unsure = refl; number = refl; kernel = refl };
+    } in
+    let up : DiskWorld = coming_up p.disk in
+    let file : Disk = (after_reading up).disk in
+    let holds = event_holds event d w o h.holds in
+    let all : journal_of (with_end (Some call) (with_events (this ∷ []) runs)) ≡ journal_of runs ++ p.daemon.sweep.entries = journal_ended (Some call) (with_events (this ∷ []) runs) ∙ journal_more runs this in
+    record {
+      few = omega (arith, lt);
+      holds = record { told = holds.told; sound = holds.sound; stand = no_standing k };
+      on_entries = λ g. event_on_entries event d w o h.holds (h.on_entries g);
+      fits = λ e.
+          let f = event_fits n event d w o lt h.holds h.kept (h.fits e) in
+          let low : p.world.faults ≤ 2199023255552 * (n + 1) = f.few_faults in
+          let low_disk : p.disk.faults ≤ 2 * (n + 1) = f.few_disk_faults in
+          let events : p.daemon.event ≤ (n + 1) + 1 = f.few_events in
+          started_fits (n + 1) p.daemon.event rules p.world.faults p.disk.faults events read.1 low low_disk;
+      given = given_still n done step s.setup refl refl refl refl refl h.given;
+      kept = told;
+      possible = inl refl;
+      start = b;
+      few_rules = read.1;
+      file = file;
+      at_start = record { text = refl; left = λ text is. inl (only_image is) };
+      ended = run_ended beside policy (first_start s.setup.rules first.kernel) runs.ended h.start (record { events = hs; stop = Some call }) ending h.ended;
+      chain = (unmoving k, subst (λ (x : Option Disk). StaysOnDisk (Some file) x) (sym (told_reading up told)) (stays_there (Some file)), refl);
+      none = λ e. closed_now (sym e);
+      written = ap (λ (z : List ℕ). z ++ stopped_text call p.daemon.sweep.entries) h.written ∙ sym (stop_more call runs this);
+      nobody = λ q e.
+          let quiet = (quiet_front done step q).0 in
+          subst NameNobody (sym all) (nobody_more (journal_of runs) p.daemon.sweep.entries (h.nobody quiet e) (event_nobody event d w o h.holds.told (h.unfailing quiet e) h.kept (h.unplanned quiet, refl)));
+      unfailing = λ q e. (refl, refl);
+      unmoved = λ q e. refl;
+      unplanned = λ q. refl;
+      saved = λ q. refl;
+    }
+
+-- an event, whether the machine stopped in it or not
+came_kept : (first : World) (n : ℕ) (done : List (Option Step)) (runs : EventsOfRuns) (text : List ℕ) (event : events.Event) (s : Script) (w : World) (stopped : Bool) (loaded : Result (List Rule) Fault) → n < 1048576 → rules_from (event_of event s w).disk.disk.text ≡ loaded → Kept first n done runs text s w
+    → KeptAfter first (n + 1) (done ++ Some (Event event) ∷ []) (with_stop stopped (stop_of event s w) (with_events (happened_at event s w ∷ []) runs)) text (in_script s (cond stopped (stopped_of s.setup (stop_of event s w) (event_of event s w) loaded) (finished (event_of event s w))))
+came_kept first n done runs text event s w true (Ok rules) lt is h = stop_kept first n done runs text event s w (stop_of event s w) rules lt is h
+came_kept first n done runs text event s w true (Err fault) lt is h = tt
+came_kept first n done runs text event s w false loaded lt is h = event_kept first n done runs text event s w lt h
+
+event_if : (first : World) (n : ℕ) (done : List (Option Step)) (runs : EventsOfRuns) (text : List ℕ) (event : events.Event) (s : Script) (w : World) (stopped : Bool) (came : Outcome Played) (can has : Bool)
+    → KeptAfter first n done (with_stop stopped (stop_of event s w) (with_events (happened_at event s w ∷ []) runs)) text (in_script s came)
+    → KeptAfter first n done (with_stop stopped (stop_of event s w) (with_events (cond (can && has) (happened_at event s w ∷ []) []) runs)) text (cond can (in_script s (cond has came (Refused BadLine (record { daemon = daemon_in s; world = w; disk = disk_in s })))) (Refused InputTooLong (Some s, w)))
+event_if first n done runs text event s w stopped came true true k = k
+event_if first n done runs text event s w stopped came true false k = tt
+event_if first n done runs text event s w stopped came false has k = tt
+
+-- ---- lines
 
 restart_if : (first : World) (n : ℕ) (done : List (Option Step)) (runs : EventsOfRuns) (text : List ℕ) (s : Script) (w : World) (can : Bool) (loaded : Result (List Rule) Fault) → ((rules : List Rule) → loaded ≡ Ok rules → KeptAfter first n done runs text (quiet (with_restart rules s) w)) → KeptAfter first n done runs text (cond can (restarted loaded s w) (Refused InputTooLong (Some s, w)))
 restart_if first n done runs text s w true (Ok rules) k = k rules refl
@@ -453,7 +543,7 @@ nobody_right (e ∷ es) fs n = nobody_right es fs (neither (names_somebody e) (l
 
 -- no move is left for the sweep
 answered_still : (event : events.Event) (d : DaemonState) (w : World) (o : DiskWorld) → w.moves ≡ [] → (answered_from event d w o).world.moves ≡ []
-answered_still event d w o none = by_event event (ready event (tried_by d o).0 d) (begun w) (tried_by d o).1 none
+answered_still event d w o none = by_event event (ready event (tried_by d o).0 d) (start_of d w o) (tried_by d o).1 (halted_moves (tried_by d o).1 (begun w) ∙ none)
   where
     by_event : (event : events.Event) (r : DaemonState) (m : World) (q : DiskWorld) → m.moves ≡ [] → (answered_by event r m q).world.moves ≡ []
     by_event (Sweep moment) r m q none = none
@@ -472,16 +562,17 @@ event_once first n done runs text s w h quiet_lines fails moves event =
     let a = answered_of event s w in
     let p = event_of event s w in
     let l : Kernel = p.world.kernel in
-    let law = handled event d w o h.holds in
+    let m : World = halted a.disk a.world in
+    let law = swept_from a.daemon m (halted_holds a.daemon a.disk a.world (answered_holds event d w o h.holds)) in
     let y : Entry = entry.End a.daemon.event in
     let rest : List Entry = law.law.fair.rest in
     let all : p.daemon.sweep.entries ≡ a.daemon.sweep.entries ++ (rest ++ y ∷ []) = ap (λ (z : State Judging). z.entries) law.entries ∙ ap (λ (z : List Entry). z ++ y ∷ []) law.law.fair.entries ∙ append_assoc a.daemon.sweep.entries rest (y ∷ []) in
-    let quiet : NameNobody rest = nobody_left rest (y ∷ []) (nobody_right a.daemon.sweep.entries (rest ++ y ∷ []) (subst NameNobody all (event_nobody event d w o h.holds.told (h.unfailing quiet_lines fails) h.kept))) in
+    let quiet : NameNobody rest = nobody_left rest (y ∷ []) (nobody_right a.daemon.sweep.entries (rest ++ y ∷ []) (subst NameNobody all (event_nobody event d w o h.holds.told (h.unfailing quiet_lines fails) h.kept (h.unplanned quiet_lines, refl)))) in
     let run = (daemon_run (beside_of s.setup) policy h.start h.file (runs.last ++ happened_at event s w ∷ []) l (disk_told p.disk) p.daemon h.few_rules h.at_start (event_chain first n done runs text event s w h)).run in
     record {
       run = run;
       each = λ i e live.
-          let lived = lived_in_play (handling a.daemon) a.world (answered_still event d w o (h.unmoved quiet_lines moves)) law.law.fair.grows i e live in
+          let lived = lived_in_play (handling a.daemon) m (halted_moves a.disk a.world ∙ answered_still event d w o (h.unmoved quiet_lines moves)) law.law.fair.grows i e live in
           let as_judged : IsAsJudged a.daemon.sweep.hub l law.swept.standings i = elim (law.law.settled i lived.0 lived.1) [
             | inl z ↦ z
             | inr named ↦ elim named [
@@ -521,7 +612,7 @@ step_kept : (first : World) (n : ℕ) (done : List (Option Step)) (runs : Events
 step_kept first n done runs text Skip s w lt h = kept_still first (n + 1) (done ++ Some Skip ∷ []) runs text s w (skip_kept first n done runs text s w lt h)
 step_kept first n done runs text (Setup line) s w lt h =
     let step : Option Step = Some (Setup line) in
-    kept_when first (n + 1) (done ++ step ∷ []) (with_events [] runs) text (takes_setup s.phase) (line_added (one_line_more line s.setup) s w) s w (λ opened. added_kept first n done runs text s w step (one_line_more line s.setup) lt opened h (given_added n done line s.setup lt h.given))
+    kept_when first (n + 1) (done ++ step ∷ []) runs text (takes_setup s.phase) (line_added (one_line_more line s.setup) s w) s w (λ opened. added_kept first n done runs text s w step (one_line_more line s.setup) lt opened h (given_added n done line s.setup lt h.given))
 step_kept first n done runs text (Move action) s w lt h =
     let step : Option Step = Some (Move action) in
     let v : World = with_devices (moved action w.kernel.devices) w in
@@ -538,12 +629,15 @@ step_kept first n done runs text (Schedule p) s w lt h = plan_kept p
     by : (plan : List Planned) (v : World) → HoldsOf (daemon_in s) v → Moves w.kernel v.kernel → v.faults ≡ w.faults → Kept first (n + 1) (done ++ Some (Schedule p) ∷ []) runs text (record (with_setup_closed s) { planned = plan }) v
     by plan v holds moves faults = on_kept first n done runs text s w v (Some (Schedule p)) (closed_phase s.phase) plan lt h (closed_daemon s.setup s.phase) (closed_disk s.setup s.phase) (closed_started s.phase) (given_still n done (Some (Schedule p)) s.setup refl refl refl refl refl h.given) holds moves faults (λ q. loud q) (λ q. loud q) (λ q. loud q)
 
-    plan_kept : (x : Plan) → Kept first (n + 1) (done ++ Some (Schedule p) ∷ []) (with_events [] runs) (text ++ []) (with_plan x (with_setup_closed s)) (planned x w)
+    plan_kept : (x : Plan) → Kept first (n + 1) (done ++ Some (Schedule p) ∷ []) runs (text ++ []) (with_plan x (with_setup_closed s)) (planned x w)
     plan_kept (plan.Move m) = kept_still first (n + 1) (done ++ Some (Schedule p) ∷ []) runs text (with_setup_closed s) (planned (plan.Move m) w) (by s.planned (planned (plan.Move m) w) (plan_holds (plan.Move m) (daemon_in s) w h.holds) (unmoving w.kernel) refl)
     plan_kept (plan.Fail f) = kept_still first (n + 1) (done ++ Some (Schedule p) ∷ []) runs text (with_setup_closed s) (planned (plan.Fail f) w) (by s.planned (planned (plan.Fail f) w) (plan_holds (plan.Fail f) (daemon_in s) w h.holds) (unmoving w.kernel) refl)
-    plan_kept (plan.FailDisk f) = kept_still first (n + 1) (done ++ Some (Schedule p) ∷ []) runs text (with_plan (plan.FailDisk f) (with_setup_closed s)) w (by (s.planned ++ f ∷ []) w h.holds (unmoving w.kernel) refl)
-step_kept first n done runs text (Event event) s w lt h = event_if first (n + 1) (done ++ Some (Event event) ∷ []) runs text event s w (can_start s.setup s.phase) (has_numbers (daemon_in s) w.faults (disk_in s).faults) (event_kept first n done runs text event s w lt h)
-step_kept first n done runs text Restart s w lt h = restart_if first (n + 1) (done ++ Some Restart ∷ []) (record { ended = runs.ended ++ runs.last ∷ []; last = [] }) text s w (can_start s.setup s.phase) (rules_from (disk_in s).disk.text) (λ rules loaded. restart_kept first n done runs text s w rules lt loaded h)
+    plan_kept (plan.OnDisk f) = kept_still first (n + 1) (done ++ Some (Schedule p) ∷ []) runs text (with_plan (plan.OnDisk f) (with_setup_closed s)) w (by (s.planned ++ f ∷ []) w h.holds (unmoving w.kernel) refl)
+step_kept first n done runs text (Event event) s w lt h =
+    let p = event_of event s w in
+    event_if first (n + 1) (done ++ Some (Event event) ∷ []) runs text event s w p.disk.stopped (came_of s.setup s.planned p) (can_start s.setup s.phase) (has_numbers (daemon_in s) w.faults (disk_in s).faults)
+    (came_kept first n done runs text event s w p.disk.stopped (rules_from p.disk.disk.text) lt refl h)
+step_kept first n done runs text Restart s w lt h = restart_if first (n + 1) (done ++ Some Restart ∷ []) (with_end None runs) text s w (can_start s.setup s.phase) (rules_from (disk_in s).disk.text) (λ rules loaded. restart_kept first n done runs text s w rules lt loaded h)
 
 line_kept : (first : World) (n : ℕ) (done : List (Option Step)) (runs : EventsOfRuns) (text : List ℕ) (step : Option Step) (s : Script) (w : World) → n < 1048576 → Kept first n done runs text s w → KeptAfter first (n + 1) (done ++ step ∷ []) (runs_by step s w runs) text (taken_if step s w)
 line_kept first n done runs text None s w lt h = tt
@@ -575,13 +669,13 @@ kept_fresh first h = record {
 
 -- lines one after another
 
-halted : (fault : Fault) (n : ℕ) (text : List ℕ) (p : Option Script × World) (lines : List (List ℕ)) → plays script_step (Halted fault n text p) lines ≡ Halted fault n text p
-halted fault n text p [] = refl
-halted fault n text p (line ∷ lines) = halted fault n text p lines
+refused_on : (fault : Fault) (n : ℕ) (text : List ℕ) (p : Option Script × World) (lines : List (List ℕ)) → plays script_step (Halted fault n text p) lines ≡ Halted fault n text p
+refused_on fault n text p [] = refl
+refused_on fault n text p (line ∷ lines) = refused_on fault n text p lines
 
 -- behind a refused line nothing is taken
 never : (fault : Fault) (n : ℕ) (text : List ℕ) (p : Option Script × World) (lines : List (List ℕ)) (m : ℕ) (out : List ℕ) (q : Option Script × World) → plays script_step (Halted fault n text p) lines ≡ Going m out q → ⊥
-never fault n text p lines m out q e = let h : Halted fault n text p ≡ Going m out q = sym (halted fault n text p lines) ∙ e in let none : ⊥ = cc in none
+never fault n text p lines m out q e = let h : Halted fault n text p ≡ Going m out q = sym (refused_on fault n text p lines) ∙ e in let none : ⊥ = cc in none
 
 -- what holds at a stage
 abbrev KeptAt : World → List (Option Step) → EventsOfRuns → Stage (Option Script × World) → Type 0

@@ -42,15 +42,16 @@ use Rattle.ug_core.specs.Storing.{stored_with, storing}
 use Rattle.ug_core.specs.Event.{trying}
 use Rattle.ug_core.specs.declared.daemon.Event.{Event}
 use Rattle.ug_core.specs.declared.daemon.Event.TheVariants.{Sweep, Order}
+use Rattle.ug_core.proofs.Kept.{sweep_adds}
 use Rattle.ug_core.proofs.Plain.{sweep_keeps_hub}
 use Rattle.ug_core.proofs.Answered.{Answered, answering_made, answering_told, answered_stands, ready_failures, ready_names}
 use Rattle.ug_core.proofs.Failures.{event_tells, event_names}
 use Rattle.ug_script.specs.declared.step.Plan.{Plan}
 use Rattle.ug_script.specs.declared.step.Plan.TheVariants as plan
-use Rattle.ug_script.specs.Script.{Script, daemon_in, disk_in}
-use Rattle.ug_script.specs.Replay.{answered_by, answered_from, disk_of, event_from, tried_by, with_devices, planned}
-use Rattle.ug_script.specs.Laws.{calls_of, faults_of, IsLawfulEvent}
+use Rattle.ug_script.specs.Replay.{answered_by, answered_from, event_from, halted, tried_by, with_devices, planned}
+use Rattle.ug_script.specs.Laws.{calls_of, faults_of}
 use Rattle.ug_script.proofs.Answers.{SweepsSo, handling_ways}
+use Rattle.ug_script.proofs.Halts.{answered_unplanned, answered_unstopped, halted_calls, halted_kernel, halted_not, halted_told}
 use Rattle.ug_script.proofs.OrdersPlayed.{answered_saved, answered_so, answered_told, trying_so}
 
 pub record Holds (standings : List Standing) (next : ℕ) (w : World) : Type 0 where
@@ -107,10 +108,12 @@ pub answers : (event : Event) (d : DaemonState) (w : World) (o : DiskWorld) → 
 answers event d w o h =
     let r : DaemonState = ready event (tried_by d o).0 d in
     let q : DiskWorld = (tried_by d o).1 in
+    let s : World = halted q (begun w) in
     let a = answered_from event d w o in
-    let run : a.world.ran_out ≡ false = world_told event r (begun w) q h.told in
-    let law = answering_told Gives told does_what_it_may MemKeeps event (begun w) q r a.became a.world a.disk a.daemon (order_runs event r (begun w) q) a.world.kernel (told_at a.world run) in
-    let same : law.0 ≡ w.kernel = same_Some law.0 w.kernel (sym law.1 ∙ told_at w h.told) in
+    let alive : s.ran_out ≡ false = halted_told q (begun w) ∙ h.told in
+    let run : a.world.ran_out ≡ false = world_told event r s q alive in
+    let law = answering_told Gives told does_what_it_may MemKeeps event s q r a.became a.world a.disk a.daemon (order_runs event r s q) a.world.kernel (told_at a.world run) in
+    let same : law.0 ≡ w.kernel = same_Some law.0 w.kernel (sym law.1 ∙ told_at s alive ∙ ap (λ (k : Kernel). Some k) (halted_kernel q (begun w))) in
     subst (λ (k : Kernel). AnswersEvent event k r a.became a.world.kernel a.daemon) same (law.2 (rw same h.sound) (rw same h.stand))
 
 pub answered_holds : (event : Event) (d : DaemonState) (w : World) (o : DiskWorld) → HoldsOf d w → HoldsOf (answered_from event d w o).daemon (answered_from event d w o).world
@@ -118,7 +121,16 @@ answered_holds event d w o h =
     let r : DaemonState = ready event (tried_by d o).0 d in
     let a = answered_from event d w o in
     let stands = answered_stands event w.kernel r a.became a.world.kernel a.daemon h.sound h.stand (answers event d w o h) in
-    record { told = world_told event r (begun w) (tried_by d o).1 h.told; sound = stands.0; stand = stands.1 }
+    let q : DiskWorld = (tried_by d o).1 in
+    record { told = world_told event r (halted q (begun w)) q (halted_told q (begun w) ∙ h.told); sound = stands.0; stand = stands.1 }
+
+-- the kernel that the sweep begins with
+pub halted_holds : (d : DaemonState) (o : DiskWorld) (w : World) → HoldsOf d w → HoldsOf d (halted o w)
+halted_holds d o w h = record {
+  told = halted_told o w ∙ h.told;
+  sound = subst (λ (k : Kernel). IsKernel k) (sym (halted_kernel o w)) h.sound;
+  stand = subst (λ (k : Kernel). Stand k d.sweep.standings d.sweep.next) (sym (halted_kernel o w)) h.stand;
+}
 
 -- ---- the sweep behind it
 
@@ -126,7 +138,7 @@ pub plays_sweep : (a : DaemonState) (m : World) → play (handling a) m ≡ play
 unfolding handling
 plays_sweep a m = play_then (sweeping policy_answer policy_later a.sweep) (event.ended a) m
 
-swept_from : (a : DaemonState) (m : World) → HoldsOf a m → Handled m.kernel a (play (handling a) m).1.kernel (play (handling a) m).0
+pub swept_from : (a : DaemonState) (m : World) → HoldsOf a m → Handled m.kernel a (play (handling a) m).1.kernel (play (handling a) m).0
 swept_from a m h =
     let p = sweeping policy_answer policy_later a.sweep in
     let v : State Judging = (play p m).0 in
@@ -148,7 +160,10 @@ swept_from a m h =
 
 -- an event from a kernel that is told
 pub handled : (event : Event) (d : DaemonState) (w : World) (o : DiskWorld) → HoldsOf d w → Handled (answered_from event d w o).world.kernel (answered_from event d w o).daemon (event_from event d w o).world.kernel (event_from event d w o).daemon
-handled event d w o h = swept_from (answered_from event d w o).daemon (answered_from event d w o).world (answered_holds event d w o h)
+handled event d w o h =
+    let a = answered_from event d w o in
+    let p = event_from event d w o in
+    subst (λ (k : Kernel). Handled k a.daemon p.world.kernel p.daemon) (halted_kernel a.disk a.world) (swept_from a.daemon (halted a.disk a.world) (halted_holds a.daemon a.disk a.world (answered_holds event d w o h)))
 
 -- an event, and what is still to come behind it
 pub event_holds : (event : Event) (d : DaemonState) (w : World) (o : DiskWorld) → HoldsOf d w → HoldsOf (event_from event d w o).daemon (over (event_from event d w o).world)
@@ -157,14 +172,14 @@ event_holds event d w o h =
     let p = event_from event d w o in
     let law = handled event d w o h in
     record {
-      told = play_told (handling a.daemon) a.world (answered_holds event d w o h).told;
+      told = play_told (handling a.daemon) (halted a.disk a.world) (halted_holds a.daemon a.disk a.world (answered_holds event d w o h)).told;
       sound = happened_sound p.world.moves p.world.kernel law.law.fair.sound;
       stand = moves_on p.daemon.sweep.standings p.daemon.sweep.next p.world.kernel (over p.world).kernel (happened_moves p.world.moves p.world.kernel) (subst (λ (v : State Judging). Stand p.world.kernel v.standings v.next) (sym law.entries) law.law.fair.stand);
     }
 
 -- a disk that is told stays so
 pub event_disk : (event : Event) (d : DaemonState) (w : World) (o : DiskWorld) → o.ran_out ≡ false → (event_from event d w o).disk.ran_out ≡ false
-event_disk event d w o out = answered_told event (ready event (tried_by d o).0 d) (begun w) (tried_by d o).1 (play_stays_told (trying d) o out)
+event_disk event d w o out = answered_told event (ready event (tried_by d o).0 d) (halted (tried_by d o).1 (begun w)) (tried_by d o).1 (play_stays_told (trying d) o out)
 
 pub move_holds : (action : Move) (d : DaemonState) (w : World) → HoldsOf d w → HoldsOf d (with_devices (moved action w.kernel.devices) w)
 move_holds action d w h = record {
@@ -177,32 +192,50 @@ move_holds action d w h = record {
 pub plan_holds : (p : Plan) (d : DaemonState) (w : World) → HoldsOf d w → HoldsOf d (planned p w)
 plan_holds (plan.Move m) d w h = record { told = h.told; sound = h.sound; stand = h.stand }
 plan_holds (plan.Fail f) d w h = record { told = h.told; sound = h.sound; stand = h.stand }
-plan_holds (plan.FailDisk p) d w h = h
+plan_holds (plan.OnDisk p) d w h = h
 
 pub no_standing : (k : Kernel) → Stand k [] 1
 no_standing k = record { devices = λ s a. absurd a; numbers = λ s a. absurd a; names = tt; order = tt; distinct = tt; done = λ control s a. absurd a }
 
 -- what the event's entries tell of its calls
 
-swept_tells : (a : DaemonState) (m : World) → TellsSweep Gives calls_of faults_of m a (play (handling a) m).1 (play (handling a) m).0
+pub swept_tells : (a : DaemonState) (m : World) → TellsSweep Gives calls_of faults_of m a (play (handling a) m).1 (play (handling a) m).0
 swept_tells a m =
     let p = sweeping policy_answer policy_later a.sweep in
     let v : State Judging = (play p m).0 in
     let t : World = (play p m).1 in
     rw (plays_sweep a m) (record { swept = v; tells = sweeping_tells Gives calls_of faults_of counts_each policy_answer policy_later m a.sweep t v (play_runs p m); entries = refl })
 
-pub made_by : (event : Event) (d : DaemonState) (w : World) (o : DiskWorld) → HoldsOf d w → Answered Gives calls_of faults_of event (begun w) (ready event (tried_by d o).0 d) (answered_from event d w o).became (answered_from event d w o).world (answered_from event d w o).daemon
+-- what the order begins with, on the kernel
+abbrev pub start_of : DaemonState → World → DiskWorld → World
+start_of d w o = halted (tried_by d o).1 (begun w)
+
+pub made_by : (event : Event) (d : DaemonState) (w : World) (o : DiskWorld) → HoldsOf d w → Answered Gives calls_of faults_of event (start_of d w o) (ready event (tried_by d o).0 d) (answered_from event d w o).became (answered_from event d w o).world (answered_from event d w o).daemon
 made_by event d w o h =
     let tried = (tried_by d o).0 in
     let q : DiskWorld = (tried_by d o).1 in
     let a = answered_from event d w o in
-    answering_made Gives calls_of faults_of counts_each MemKeeps event (begun w) q (ready event tried d) a.became a.world a.disk a.daemon refl (record { order = h.stand.order; distinct = h.stand.distinct; numbers = h.stand.numbers }) (ready_failures event tried d) (ready_names event tried d) (order_runs event (ready event tried d) (begun w) q)
+    answering_made Gives calls_of faults_of counts_each MemKeeps event (start_of d w o) q (ready event tried d) a.became a.world a.disk a.daemon (halted_calls q (begun w)) (record { order = h.stand.order; distinct = h.stand.distinct; numbers = h.stand.numbers }) (ready_failures event tried d) (ready_names event tried d) (order_runs event (ready event tried d) (start_of d w o) q)
 
-pub tells_event : (event : Event) (d : DaemonState) (w : World) (o : DiskWorld) → HoldsOf d w → TellsEvent Gives calls_of faults_of event (begun w) (ready event (tried_by d o).0 d) (answered_from event d w o).became (answered_from event d w o).world (answered_from event d w o).daemon (event_from event d w o).world (event_from event d w o).daemon
-tells_event event d w o h =
+-- where the machine hasn't stopped, the sweep goes on from the kernel of the order
+pub tells_event : (event : Event) (d : DaemonState) (w : World) (o : DiskWorld) → HoldsOf d w → (event_from event d w o).disk.stopped ≡ false → TellsEvent Gives calls_of faults_of event (begun w) (ready event (tried_by d o).0 d) (answered_from event d w o).became (answered_from event d w o).world (answered_from event d w o).daemon (event_from event d w o).world (event_from event d w o).daemon
+tells_event event d w o h unstopped =
+    let r : DaemonState = ready event (tried_by d o).0 d in
+    let q : DiskWorld = (tried_by d o).1 in
     let a = answered_from event d w o in
+    let p = event_from event d w o in
     let made = made_by event d w o h in
-    event_tells Gives calls_of faults_of counts_each event (begun w) (ready event (tried_by d o).0 d) a.became a.world a.daemon (play (handling a.daemon) a.world).1 (play (handling a.daemon) a.world).0 made.made refl made.along made.goes made.told (swept_tells a.daemon a.world)
+    let before : q.stopped ≡ false = answered_unstopped event r (start_of d w o) q unstopped in
+    let sweep : TellsSweep Gives calls_of faults_of a.world a.daemon p.world p.daemon = subst (λ (v : World). TellsSweep Gives calls_of faults_of v a.daemon p.world p.daemon) (halted_not a.disk a.world unstopped) (swept_tells a.daemon (halted a.disk a.world)) in
+    subst (λ (v : World). TellsEvent Gives calls_of faults_of event v r a.became a.world a.daemon p.world p.daemon) (halted_not q (begun w) before)
+    (event_tells Gives calls_of faults_of counts_each event (start_of d w o) r a.became a.world a.daemon p.world p.daemon made.made (halted_calls q (begun w)) made.along made.goes made.told sweep)
+
+-- its entries are those of the order and some more, whether it has stopped or not
+pub event_adds : (event : Event) (d : DaemonState) (w : World) (o : DiskWorld) → (added : List entries.Entry) × ((event_from event d w o).daemon.sweep.entries ≡ (answered_from event d w o).daemon.sweep.entries ++ added)
+event_adds event d w o =
+    let a = answered_from event d w o in
+    let p = event_from event d w o in
+    sweep_adds Gives calls_of faults_of (halted a.disk a.world) a.daemon p.world p.daemon (swept_tells a.daemon (halted a.disk a.world))
 
 swept_once : (a : DaemonState) (m : World) → unsettled_names a.sweep.entries ≡ [] → HoldsOf a m → AllDistinct (unsettled_names (play (handling a) m).0.sweep.entries)
 swept_once a m nameless h =
@@ -215,10 +248,10 @@ swept_once a m nameless h =
     let r = once.2 (rw same h.sound) (rw same h.stand) in
     rw (plays_sweep a m) (event_names a.event a.sweep.entries r.0 (v.entries ++ entry.End a.event ∷ []) nameless (ap (λ (es : List entries.Entry). es ++ entry.End a.event ∷ []) r.1) r.2)
 
-names_once : (event : Event) (d : DaemonState) (w : World) (o : DiskWorld) → HoldsOf d w → AllDistinct (unsettled_names (event_from event d w o).daemon.sweep.entries)
+pub names_once : (event : Event) (d : DaemonState) (w : World) (o : DiskWorld) → HoldsOf d w → AllDistinct (unsettled_names (event_from event d w o).daemon.sweep.entries)
 names_once event d w o h =
     let a = answered_from event d w o in
-    swept_once a.daemon a.world (made_by event d w o h).nameless (answered_holds event d w o h)
+    swept_once a.daemon (halted a.disk a.world) (made_by event d w o h).nameless (halted_holds a.daemon a.disk a.world (answered_holds event d w o h))
 
 -- ---- what an event's entries don't tell
 
@@ -242,24 +275,30 @@ ready_nobody (Order moment who line) d None = refl
 ready_nobody (Order moment who line) d (Some became) = refl
 
 -- a script refuses no memory
-event_sure : (event : Event) (d : DaemonState) (w : World) (o : DiskWorld) → o.ran_out ≡ false → tells_memory (event_from event d w o).daemon.sweep.entries ≡ false
+pub event_sure : (event : Event) (d : DaemonState) (w : World) (o : DiskWorld) → o.ran_out ≡ false → tells_memory (event_from event d w o).daemon.sweep.entries ≡ false
 event_sure event d w o out =
     let r : DaemonState = ready event (tried_by d o).0 d in
     let a = answered_from event d w o in
-    let x = answered_so event r (begun w) (tried_by d o).1 (play_stays_told (trying d) o out) in
-    let y = sweep_so a.daemon a.world in
+    let x = answered_so event r (start_of d w o) (tried_by d o).1 (play_stays_told (trying d) o out) in
+    let y = sweep_so a.daemon (halted a.disk a.world) in
     let before : tells_memory a.daemon.sweep.entries ≡ false = ap (λ (es : List entries.Entry). tells_memory es) x.entries ∙ memory_more r.sweep.entries x.rest ∙ ap (λ (b : Bool). b || tells_memory x.rest) (ready_sure event d (tried_by d o).0 (trying_so d o out).sure) ∙ x.wants in
     ap (λ (es : List entries.Entry). tells_memory es) y.so.entries ∙ memory_more a.daemon.sweep.entries y.so.rest ∙ ap (λ (b : Bool). b || tells_memory y.so.rest) before ∙ y.so.wants ∙ y.sure
 
--- where no call of the kernel is to fail, an event names nobody
-pub event_nobody : (event : Event) (d : DaemonState) (w : World) (o : DiskWorld) → w.ran_out ≡ false → IsUnfailing w → o.ran_out ≡ false → NameNobody (event_from event d w o).daemon.sweep.entries
-event_nobody event d w o run none out =
+-- where no call is to fail, an event names nobody
+pub event_nobody : (event : Event) (d : DaemonState) (w : World) (o : DiskWorld) → w.ran_out ≡ false → IsUnfailing w → o.ran_out ≡ false → IsUnplanned o → NameNobody (event_from event d w o).daemon.sweep.entries
+event_nobody event d w o run none out unplanned =
     let r : DaemonState = ready event (tried_by d o).0 d in
+    let q : DiskWorld = (tried_by d o).1 in
     let a = answered_from event d w o in
-    let x = answered_so event r (begun w) (tried_by d o).1 (play_stays_told (trying d) o out) in
-    let y = sweep_so a.daemon a.world in
+    let tried : IsUnplanned q = play_keeps_unplanned (trying d) o unplanned in
+    let still : IsUnplanned a.disk = answered_unplanned event r (start_of d w o) q tried in
+    let x = answered_so event r (start_of d w o) q (play_stays_told (trying d) o out) in
+    let y = sweep_so a.daemon (halted a.disk a.world) in
     let before : NameNobody a.daemon.sweep.entries = subst NameNobody (sym x.entries) (nobody_more r.sweep.entries x.rest (ready_nobody event d (tried_by d o).0) x.nobody) in
-    subst NameNobody (sym y.so.entries) (nobody_more a.daemon.sweep.entries y.so.rest before (y.so.nobody y.sure (y.calm (world_told event r (begun w) (tried_by d o).1 run) (world_calm event r (begun w) (tried_by d o).1 none))))
+    let calm : IsUnfailing (start_of d w o) = subst (λ (v : World). IsUnfailing v) (sym (halted_not q (begun w) tried.1)) none in
+    let calm_on : IsUnfailing (halted a.disk a.world) = subst (λ (v : World). IsUnfailing v) (sym (halted_not a.disk a.world still.1)) (world_calm event r (start_of d w o) q calm) in
+    let alive : (halted a.disk a.world).ran_out ≡ false = halted_told a.disk a.world ∙ world_told event r (start_of d w o) q (halted_told q (begun w) ∙ run) in
+    subst NameNobody (sym y.so.entries) (nobody_more a.daemon.sweep.entries y.so.rest before (y.so.nobody y.sure (y.calm alive calm_on)))
 
 -- where nothing is planned for the disk, an event leaves no save that is pending
 pub event_saved : (event : Event) (d : DaemonState) (w : World) (o : DiskWorld) → o.ran_out ≡ false → IsUnplanned o → d.pending ≡ false → (event_from event d w o).daemon.pending ≡ false
@@ -269,13 +308,4 @@ event_saved event d w o out none saved =
     let a = answered_from event d w o in
     let calm : tried ≡ None = (trying_so d o out).calm saved in
     let begins : r.pending ≡ false = ap (λ (t : Option Saved). (ready event t d).pending) calm ∙ saved in
-    (sweep_so a.daemon a.world).so.pending ∙ answered_saved event r (begun w) (tried_by d o).1 (play_stays_told (trying d) o out) (play_keeps_unplanned (trying d) o none) begins
-
-pub lawful_event : (event : Event) (s : Script) (w : World) → HoldsOf (daemon_in s) w → (disk_in s).ran_out ≡ false → IsLawfulEvent event s w
-lawful_event event s w h out = record {
-  answers = answers event (daemon_in s) w (disk_of s) h;
-  handled = handled event (daemon_in s) w (disk_of s) h;
-  faults = tells_event event (daemon_in s) w (disk_of s) h;
-  once = names_once event (daemon_in s) w (disk_of s) h;
-  room = event_sure event (daemon_in s) w (disk_of s) out;
-}
+    (sweep_so a.daemon (halted a.disk a.world)).so.pending ∙ answered_saved event r (start_of d w o) (tried_by d o).1 (play_stays_told (trying d) o out) (play_keeps_unplanned (trying d) o none) begins

@@ -5,11 +5,13 @@ pub mod Readable
 pub mod AccessLines
 pub mod WellFormed
 pub mod Phases
+pub mod Halts
 pub mod EventSteps
 pub mod Starts
 pub mod Restarts
 pub mod OrdersPlayed
 pub mod Lawful
+pub mod Stopped
 pub mod OnEntries
 pub mod Spent
 pub mod Numbers
@@ -17,6 +19,7 @@ pub mod Setups
 pub mod Skimmed
 pub mod Journals
 pub mod Filed
+mod FirstStop
 mod WholeLines
 mod Counted
 mod Summed

@@ -38,10 +38,11 @@ use Rattle.ug_core.specs.Storing.{stored_with, storing}
 use Rattle.ug_core.specs.declared.choosing.Deed.{Deed}
 use Rattle.ug_core.specs.declared.daemon.Event.{Event}
 use Rattle.ug_core.specs.declared.daemon.Event.TheVariants.{Sweep, Order}
-use Rattle.ug_script.specs.Replay.{answered_by, answered_from, event_from, tried_by}
+use Rattle.ug_script.specs.Replay.{answered_by, answered_from, event_from, halted, tried_by}
 use Rattle.ug_script.proofs.Answers.{ActsSo, Asks, acting_ways, asking_ways, asks_few, is_short_deed}
 use Rattle.ug_script.proofs.OrdersPlayed.{answered_faults, answered_so, order_can, trying_so}
-use Rattle.ug_script.proofs.Lawful.{Holds, answered_holds, plays_sweep}
+use Rattle.ug_script.proofs.Halts.{halted_faults}
+use Rattle.ug_script.proofs.Lawful.{Holds, answered_holds, halted_holds, plays_sweep, start_of}
 
 -- how many standings there are
 
@@ -211,10 +212,12 @@ event_fits n event d w o lt h out f =
     let q : DiskWorld = (tried_by d o).1 in
     let still : q.ran_out ≡ false = play_stays_told (trying d) o out in
     let a = answered_from event d w o in
-    let so = answered_so event r (begun w) q still in
-    let calls = answer_calls event r (begun w) q still in
+    let so = answered_so event r (start_of d w o) q still in
+    let calls = answer_calls event r (start_of d w o) q still in
+    let start = halted_faults q (begun w) in
+    let middle = halted_faults a.disk a.world in
     let tried = (trying_so d o out).faults in
-    let saved = answered_faults event r (begun w) q still in
+    let saved = answered_faults event r (start_of d w o) q still in
     let same_event = so.event in
     let same_next = so.next in
     let more_ids = so.ids in
@@ -223,7 +226,7 @@ event_fits n event d w o lt h out f =
     let old_id = f.few_ids in
     let old_faults = f.few_faults in
     let old_disk = f.few_disk_faults in
-    swept_fits n a.daemon a.world a.disk.faults lt (answered_holds event d w o h) (omega (arith, same_event, old_event)) (omega (arith, same_next, old_next)) (omega (arith, more_ids, old_id)) (omega (arith, calls, old_faults)) (omega (arith, tried, saved, old_disk))
+    swept_fits n a.daemon (halted a.disk a.world) a.disk.faults lt (halted_holds a.daemon a.disk a.world (answered_holds event d w o h)) (omega (arith, same_event, old_event)) (omega (arith, same_next, old_next)) (omega (arith, more_ids, old_id)) (omega (arith, calls, start, middle, old_faults)) (omega (arith, tried, saved, old_disk))
 
 -- a daemon that has had no event, or isn't there yet
 pub started_fits : (n event : ℕ) (rules : List Rule) (faults disk_faults : ℕ) → event ≤ n + 1 → length rules ≤ 65536 → faults ≤ 2199023255552 * n → disk_faults ≤ 2 * n → Fits n event 1 (length rules + 1) faults disk_faults

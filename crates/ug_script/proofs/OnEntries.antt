@@ -19,8 +19,9 @@ use Rattle.ug_core.specs.Event.{DaemonState, handling, ready}
 use Rattle.ug_core.specs.Storing.{stored_with, storing}
 use Rattle.ug_core.specs.declared.daemon.Event.{Event}
 use Rattle.ug_core.specs.declared.daemon.Event.TheVariants.{Sweep, Order}
-use Rattle.ug_script.specs.Replay.{answered_by, answered_from, event_from, tried_by}
-use Rattle.ug_script.proofs.Lawful.{HoldsOf, told_at}
+use Rattle.ug_script.specs.Replay.{answered_by, answered_from, event_from, halted, tried_by}
+use Rattle.ug_script.proofs.Halts.{halted_kernel, halted_told}
+use Rattle.ug_script.proofs.Lawful.{HoldsOf, start_of, told_at}
 
 called_at : (w : World) (call : Call) → w.ran_out ≡ false → IsKernel w.kernel → Called call (answer_of w call).0 w.kernel (answer_of w call).1.kernel
 called_at w call run sound =
@@ -46,10 +47,18 @@ answered_good (Order moment who line) d w o g =
     let b = play_disk (storing d c.0.change) o in
     play_good (acting who (stored_with b.0 c.0.change d) (deed_after b.0 c.0.deed)) c.1 (play_good (asking d who line) w g)
 
+halted_good : (o : DiskWorld) (w : World) → IsGood w → IsGood (halted o w)
+halted_good o w g = (
+  halted_told o w ∙ g.0,
+  subst (λ (k : Kernel). IsKernel k) (sym (halted_kernel o w)) g.1,
+  subst (λ (k : Kernel). HasOnEntries k) (sym (halted_kernel o w)) g.2,
+)
+
 -- an event, and what is still to come behind it
 pub event_on_entries : (event : Event) (d : DaemonState) (w : World) (o : DiskWorld) → HoldsOf d w → HasOnEntries w.kernel → HasOnEntries (over (event_from event d w o).world).kernel
 event_on_entries event d w o h g =
     let a = answered_from event d w o in
     let p = event_from event d w o in
-    let good : IsGood p.world = play_good (handling a.daemon) a.world (answered_good event (ready event (tried_by d o).0 d) (begun w) (tried_by d o).1 (h.told, h.sound, g)) in
+    let start : IsGood (start_of d w o) = halted_good (tried_by d o).1 (begun w) (h.told, h.sound, g) in
+    let good : IsGood p.world = play_good (handling a.daemon) (halted a.disk a.world) (halted_good a.disk a.world (answered_good event (ready event (tried_by d o).0 d) (start_of d w o) (tried_by d o).1 start)) in
     moves_on_entries p.world.kernel (over p.world).kernel (happened_moves p.world.moves p.world.kernel) good.2

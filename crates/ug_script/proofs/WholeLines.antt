@@ -1,8 +1,10 @@
 -- What a line of a script writes is whole lines.
-use Rattle.std.proofs.Common.{◌≡◌, ℕ, Bool, true, false, cond, nat_eq, List, [], ◌∷◌, ◌++◌, Option, Some, None, Result, Ok, Err, refl, ap, ◌∙◌, flat_map}
+use Rattle.std.proofs.Common.{◌≡◌, ℕ, Bool, true, false, cond, nat_eq, List, [], ◌∷◌, ◌++◌, Option, Some, None, Result, Ok, Err, refl, ap, ◌∙◌, flat_map, subst, append_assoc, codes, decimal}
 use Rattle.std.specs.Cmp.Lexicographic.{pointwise}
 use Rattle.ug_types.specs.declared.rule.Rule as types
 use Rattle.ug_audit.specs.Lines.{entry_line}
+use Rattle.ug_audit.specs.declared.entry.Entry.{Entry}
+use Rattle.ug_store.specs.declared.mishap.Planned.{Planned}
 use Rattle.ug_lines.specs.Lines.{lines_of, rest_from}
 use Rattle.ug_lines.proofs.Lines.{rest_from-append, rest_from-end, rest_from-nil}
 use Rattle.ug_proto.specs.declared.reply.Reply.{Reply}
@@ -15,7 +17,7 @@ use Rattle.ug_script.specs.declared.step.Step.TheVariants as step
 use Rattle.ug_script.specs.Grammar.{step_of_line}
 use Rattle.ug_script.specs.Script.{Script, can_start, daemon_in, disk_in, fresh, takes_setup}
 use Rattle.ug_script.specs.Setup.{SetupState, one_line_more, rules_from}
-use Rattle.ug_script.specs.Replay.{EventOutcome, Played, bad, begun_disk, came_of, event_by, event_from, header, in_script, line_added, lines_text, outcome_of, outcome_text, quiet, quoted, reply_lines, restarted, script_step, taken, taken_if, terminated}
+use Rattle.ug_script.specs.Replay.{EventOutcome, Played, bad, begun_disk, came_of, event_by, event_from, finished, first_line, header, in_script, line_added, lines_text, outcome_of, outcome_text, quiet, quoted, reply_lines, restarted, script_step, stop_in, stopped_line, stopped_of, taken, taken_if, terminated}
 
 -- the text is empty or ends with a newline
 abbrev pub IsWhole : List ℕ → Type 0
@@ -49,6 +51,21 @@ either : {M : Type 0} (b : Bool) (x y : Outcome M) → WritesWhole x → WritesW
 either true x y p q = p
 either false x y p q = q
 
+first_whole : (es : List Entry) → IsWhole (first_line es)
+first_whole [] = none_whole
+first_whole (e ∷ es) = line_whole (entry_line e)
+
+call_whole : (call : ℕ) → IsWhole (stopped_line call)
+unfolding stopped_line
+call_whole call = subst (λ (text : List ℕ). IsWhole text) (append_assoc (codes "stopped ") (decimal call) (10 ∷ [])) (line_whole (codes "stopped " ++ decimal call))
+
+stopped_whole : (setup : SetupState) (call : ℕ) (p : Played) (rules : Result (List types.Rule) Fault) → WritesWhole (stopped_of setup call p rules)
+stopped_whole setup call p (Ok rules) = both_whole (first_line p.daemon.sweep.entries) (stopped_line call) (first_whole p.daemon.sweep.entries) (call_whole call)
+stopped_whole setup call p (Err fault) = tt
+
+came_whole : (setup : SetupState) (plan : List Planned) (p : Played) → WritesWhole (came_of setup plan p)
+came_whole setup plan p = either p.disk.stopped (stopped_of setup (stop_in plan p) p (rules_from p.disk.disk.text)) (finished p) (stopped_whole setup (stop_in plan p) p (rules_from p.disk.disk.text)) (outcome_whole (outcome_of p.daemon))
+
 script_whole : (s : Script) (o : Outcome Played) → WritesWhole o → WritesWhole (in_script s o)
 script_whole s (Writes text p) w = w
 script_whole s (Refused fault p) w = tt
@@ -68,9 +85,9 @@ taken_whole (step.Move action) s w = none_whole
 taken_whole (step.Schedule plan) s w = none_whole
 taken_whole (step.Event event) s w =
     let played = event_from event (daemon_in s) w (begun_disk s.planned (disk_in s)) in
-    either (can_start s.setup s.phase) (in_script s (event_by event s.planned (daemon_in s) w (disk_in s))) (Refused InputTooLong (Some s, w))
-    (script_whole s (event_by event s.planned (daemon_in s) w (disk_in s))
-    (either (has_numbers (daemon_in s) w.faults (disk_in s).faults) (came_of played) (Refused BadLine (record { daemon = daemon_in s; world = w; disk = disk_in s })) (outcome_whole (outcome_of played.daemon)) tt))
+    either (can_start s.setup s.phase) (in_script s (event_by s.setup event s.planned (daemon_in s) w (disk_in s))) (Refused InputTooLong (Some s, w))
+    (script_whole s (event_by s.setup event s.planned (daemon_in s) w (disk_in s))
+    (either (has_numbers (daemon_in s) w.faults (disk_in s).faults) (came_of s.setup s.planned played) (Refused BadLine (record { daemon = daemon_in s; world = w; disk = disk_in s })) (came_whole s.setup s.planned played) tt))
     tt
 taken_whole step.Restart s w = either (can_start s.setup s.phase) (restarted (rules_from (disk_in s).disk.text) s w) (Refused InputTooLong (Some s, w)) (restarted_whole (rules_from (disk_in s).disk.text) s w) tt
 

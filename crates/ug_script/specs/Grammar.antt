@@ -144,13 +144,25 @@ mishap_of false = mishap.NoEffect
 -- the same of a call of the disk
 abbrev pub disk_plan : Option Failing → Option Plan
 disk_plan None = None
-disk_plan (Some failing) = Some (plan.FailDisk (record { call = failing.call; mishap = mishap_of failing.effect; stops = false }))
+disk_plan (Some failing) = Some (plan.OnDisk (record { call = failing.call; mishap = mishap_of failing.effect; stops = false }))
+
+abbrev pub stopping_at : Mishap → Option ℕ → Option Plan
+stopping_at leaves None = None
+stopping_at leaves (Some call) = Some (plan.OnDisk (record { call = call; mishap = leaves; stops = true }))
+
+-- `CALL old`, or `CALL new`: the machine stops in that call of the disk, and a swap has had its effect or not
+unfoldable pub stop_plan : List ℕ → Option Plan
+stop_plan text =
+    if ends_with nat_eq text (codes " old") then stopping_at mishap.NoEffect (call_of (take (length text - 4) text))
+    else if ends_with nat_eq text (codes " new") then stopping_at mishap.Effect (call_of (take (length text - 4) text))
+    else None
 
 -- the lines of calls that fail
 unfoldable pub fails_of : List ℕ → Option Plan
 fails_of line =
     if starts_with nat_eq line (codes "fail ") then fail_plan (failing_of (drop 5 line))
     else if starts_with nat_eq line (codes "disk fail ") then disk_plan (failing_of (drop 10 line))
+    else if starts_with nat_eq line (codes "stop ") then stop_plan (drop 5 line)
     else None
 
 unfoldable pub plan_of : List ℕ → Option Plan

@@ -27,7 +27,7 @@ use Rattle.ug_script.specs.declared.step.Step.TheVariants.{Schedule, Event, Rest
 use Rattle.ug_script.specs.Grammar.{step_of_line}
 use Rattle.ug_script.specs.Script.{Script, can_start, daemon_in, disk_in}
 use Rattle.ug_script.specs.Laws.{tried_of}
-use Rattle.ug_script.specs.Replay.{answered_of, event_of, outcome_of, outcome_text, script_step}
+use Rattle.ug_script.specs.Replay.{answered_of, event_of, outcome_of, outcome_text, script_step, stop_in, stopped_text}
 use Rattle.ug_script.specs.Setup.{steps_of, conf_asked, rule_asked, IsSetup, Beside, started_at, with_rules}
 
 -- an event, with what is scheduled for it
@@ -50,19 +50,20 @@ abbrev pub happens_at : events.Event → Script → World → List Happened
 happens_at event s w =
     if can_start s.setup s.phase && has_numbers (daemon_in s) w.faults (disk_in s).faults then happened_at event s w ∷ [] else []
 
--- the event of a step
-abbrev pub happens_by : Option Step → Script → World → List Happened
-happens_by (Some (Event event)) s w = happens_at event s w
-happens_by step s w = []
-
 -- where a line leads
 abbrev pub left_by : {M : Type 0} → Outcome M → M
 left_by (Writes text next) = next
 left_by (Refused fault next) = next
 
--- the events of lines, in the runs of the daemon: those of each run that a `restart` ended, and those since the last start
+-- a run of the daemon that has ended: its events, and the call of the disk in which the machine stopped in the last of them; None where a
+-- `restart` ended it
+pub record RunEnd : Type 0 where
+  pub events : List Happened
+  pub stop : Option ℕ
+
+-- the events of lines, in the runs of the daemon: those that have ended, and the events since the last start
 pub record EventsOfRuns : Type 0 where
-  pub ended : List (List Happened)
+  pub ended : List RunEnd
   pub last : List Happened
 
 abbrev pub no_events : EventsOfRuns
@@ -71,10 +72,23 @@ no_events = record { ended = []; last = [] }
 abbrev pub with_events : List Happened → EventsOfRuns → EventsOfRuns
 with_events hs runs = record runs { last = runs.last ++ hs }
 
+abbrev pub with_end : Option ℕ → EventsOfRuns → EventsOfRuns
+with_end stop runs = record { ended = runs.ended ++ record { events = runs.last; stop = stop } ∷ []; last = [] }
+
+-- an event ends a run where the machine stopped in it
+abbrev pub with_stop : Bool → ℕ → EventsOfRuns → EventsOfRuns
+with_stop true call runs = with_end (Some call) runs
+with_stop false call runs = runs
+
+-- the call in which it stopped
+abbrev pub stop_of : events.Event → Script → World → ℕ
+stop_of event s w = stop_in s.planned (event_of event s w)
+
 -- what a step adds
 abbrev pub runs_by : Option Step → Script → World → EventsOfRuns → EventsOfRuns
-runs_by (Some Restart) s w runs = record { ended = runs.ended ++ runs.last ∷ []; last = [] }
-runs_by step s w runs = with_events (happens_by step s w) runs
+runs_by (Some Restart) s w runs = with_end None runs
+runs_by (Some (Event event)) s w runs = with_stop (event_of event s w).disk.stopped (stop_of event s w) (with_events (happens_at event s w) runs)
+runs_by step s w runs = runs
 
 abbrev pub runs_with : Option Script × World → List ℕ → EventsOfRuns → EventsOfRuns
 runs_with (None, w) line runs = runs
@@ -89,9 +103,9 @@ abbrev pub runs_in : World → List (List ℕ) → EventsOfRuns
 runs_in first lines = runs_after no_events (None, first) lines
 
 -- the entries of runs, one after another
-abbrev pub journals : List (List Happened) → List Entry
+abbrev pub journals : List RunEnd → List Entry
 journals [] = []
-journals (hs ∷ runs) = journal hs ++ journals runs
+journals (run ∷ runs) = journal run.events ++ journals runs
 
 abbrev pub journal_of : EventsOfRuns → List Entry
 journal_of runs = journals runs.ended ++ journal runs.last
@@ -101,9 +115,19 @@ abbrev pub events_text : List Happened → List ℕ
 events_text [] = []
 events_text (h ∷ hs) = outcome_text (outcome_of h.after) ++ events_text hs
 
-abbrev pub runs_text : List (List Happened) → List ℕ
+-- what is written of them where the machine stopped in the last
+abbrev pub text_to_stop : ℕ → List Happened → List ℕ
+text_to_stop call [] = []
+text_to_stop call (h ∷ []) = stopped_text call h.after.sweep.entries
+text_to_stop call (h ∷ g ∷ hs) = outcome_text (outcome_of h.after) ++ text_to_stop call (g ∷ hs)
+
+abbrev pub run_text : Option ℕ → List Happened → List ℕ
+run_text None hs = events_text hs
+run_text (Some call) hs = text_to_stop call hs
+
+abbrev pub runs_text : List RunEnd → List ℕ
 runs_text [] = []
-runs_text (hs ∷ runs) = events_text hs ++ runs_text runs
+runs_text (run ∷ runs) = run_text run.stop run.events ++ runs_text runs
 
 abbrev pub text_of_runs : EventsOfRuns → List ℕ
 text_of_runs runs = runs_text runs.ended ++ events_text runs.last
@@ -139,33 +163,38 @@ pub record IsDaemonRun (beside : Beside) (policy : Judging) (b : RunStart) (hs :
 abbrev pub left_behind : RunStart → List Happened → DaemonState → List (List ℕ)
 left_behind b hs e = permanent_text e.sweep.judge.rules ∷ unsure_of (b.text ∷ b.unsure) hs
 
+-- Behind a stop the machine has come up again, and a further stop leaves no other text than that of the rule file.
+abbrev pub unsure_from : Option ℕ → List (List ℕ) → List (List ℕ)
+unsure_from None texts = texts
+unsure_from (Some call) texts = []
+
 -- The next run begins where that one came to, with the number of the event that was next then. Its rules are those of the rule file, whose
 -- text is one of those that a crash might have left.
-pub record StartsBehind (b : RunStart) (hs : List Happened) (k : Kernel) (p : Option Disk) (e : DaemonState) (c : RunStart) : Type 0 where
+pub record StartsBehind (b : RunStart) (run : RunEnd) (k : Kernel) (p : Option Disk) (e : DaemonState) (c : RunStart) : Type 0 where
   pub file : Disk
   pub told : p ≡ Some file
   pub text : c.text ≡ file.text
   pub reads : file_read c.text ≡ Ok c.rules
-  pub kept : Has (left_behind b hs e) c.text
-  pub unsure : c.unsure ≡ left_behind b hs e
+  pub kept : Has (left_behind b run.events e) c.text
+  pub unsure : c.unsure ≡ unsure_from run.stop (left_behind b run.events e)
   pub number : c.number ≡ e.event
   pub kernel : c.kernel ≡ k
 
--- a run that was ended, where it came to, and with what the next began
-pub record EndedRun (beside : Beside) (policy : Judging) (b : RunStart) (hs : List Happened) : Type 0 where
+-- a run that has ended, where it came to, and with what the next began
+pub record EndedRun (beside : Beside) (policy : Judging) (b : RunStart) (run : RunEnd) : Type 0 where
   pub kernel : Kernel
   pub disk : Option Disk
   pub daemon : DaemonState
-  pub is : IsDaemonRun beside policy b hs kernel disk daemon
+  pub is : IsDaemonRun beside policy b run.events kernel disk daemon
   pub next : RunStart
-  pub behind : StartsBehind b hs kernel disk daemon next
+  pub behind : StartsBehind b run kernel disk daemon next
 
 -- runs one after another
-abbrev pub AreSuccessive : Beside → Judging → RunStart → List (List Happened) → RunStart → Type 0
+abbrev pub AreSuccessive : Beside → Judging → RunStart → List RunEnd → RunStart → Type 0
 AreSuccessive beside policy b [] c = c ≡ b
-AreSuccessive beside policy b (hs ∷ runs) c = (r : EndedRun beside policy b hs) × AreSuccessive beside policy r.next runs c
+AreSuccessive beside policy b (run ∷ runs) c = (r : EndedRun beside policy b run) × AreSuccessive beside policy r.next runs c
 
--- all runs of a script: those that were ended, one after another from the first start, and the last one
+-- all runs of a script: those that have ended, one after another from the first start, and the last one
 pub record AreDaemonRuns (beside : Beside) (policy : Judging) (first : RunStart) (runs : EventsOfRuns) (k : Kernel) (p : Option Disk) (e : DaemonState) : Type 0 where
   pub start : RunStart
   pub ended : AreSuccessive beside policy first runs.ended start
@@ -176,7 +205,7 @@ pub record JudgesOnce (policy : Judging) (hub : Option Write) (first : Kernel) (
   pub run : IsRun policy hub first (Some file) (hs ++ h ∷ []) h.kernel_after h.disk_after h.after
   pub each : (i : ℕ) (d : Device) → Live h.kernel_after.devices i d → IsJudgedOnce hub policy (hs ++ h ∷ []) run.steps h.kernel_after h.after.sweep.standings i
 
--- the step schedules no move and lets no call fail
+-- the step schedules no move, lets no call fail and stops no machine
 abbrev pub is_quiet : Option Step → Bool
 is_quiet (Some (Schedule plan)) = false
 is_quiet step = true

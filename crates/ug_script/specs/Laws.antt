@@ -32,14 +32,16 @@ ready_of event s = ready event (tried_of s) (daemon_in s)
 
 -- An event, if one comes next. Its order is refused and changes nothing but that a save may have failed, or was given by one who may and
 -- does that alone which it asks for, once its change is saved. The sweep behind it is fair and leaves each device settled or named. The
--- calls of the kernel are those of the order, the listing and one part for each name; each that failed is told with its number and its
--- count, and no other is; no name is told twice as unsettled; and none of the entries tells want of memory, as a script refuses none.
+-- calls of the kernel are those of the order, the listing and one part for each name; unless the machine stops in a call of the disk, each
+-- that failed is told with its number and its count, and no other is; no name is told twice as unsettled; and none of the entries tells want
+-- of memory, as a script refuses none. Where the machine stops, no device is written to in this event.
 pub record IsLawfulEvent (event : Event) (s : Script) (w : World) : Type 0 where
   pub answers : AnswersEvent event w.kernel (ready_of event s) (answered_of event s w).became (answered_of event s w).world.kernel (answered_of event s w).daemon
   pub handled : Handled (answered_of event s w).world.kernel (answered_of event s w).daemon (event_of event s w).world.kernel (event_of event s w).daemon
-  pub faults : TellsEvent Gives calls_of faults_of event (begun w) (ready_of event s) (answered_of event s w).became (answered_of event s w).world (answered_of event s w).daemon (event_of event s w).world (event_of event s w).daemon
+  pub faults : (event_of event s w).disk.stopped ≡ false → TellsEvent Gives calls_of faults_of event (begun w) (ready_of event s) (answered_of event s w).became (answered_of event s w).world (answered_of event s w).daemon (event_of event s w).world (event_of event s w).daemon
   pub once : AllDistinct (unsettled_names (event_of event s w).daemon.sweep.entries)
   pub room : tells_memory (event_of event s w).daemon.sweep.entries ≡ false
+  pub unwritten : (event_of event s w).disk.stopped ≡ true → (event_of event s w).world.kernel.log ≡ w.kernel.log
 
 -- The kernel is sound, and a device that was born while its controller's default was off is on only after an On entry, if it was so in the first world; and each standing of the daemon, or of the one that an event would start, is of one of its devices; and so is an
 -- event, if one comes next. The disk is told, and a crash may leave the rule file as it is. And where the first world had no fault, the

@@ -1,5 +1,5 @@
 -- What each line of a script writes, and what it leaves.
-use Rattle.std.specs.Prelude.{◌≡◌, ◌⊎◌, ℕ, ◌+◌, ◌-◌, Bool, true, false, nat_eq, cond, List, [], ◌∷◌, ◌++◌, codes, decimal, Option, Some, None, Result, Ok, Err, flat_map}
+use Rattle.std.specs.Prelude.{◌≡◌, ◌⊎◌, ℕ, zero, suc, ◌+◌, ◌-◌, Bool, true, false, nat_eq, cond, List, [], ◌∷◌, ◌++◌, codes, decimal, Option, Some, None, Result, Ok, Err, flat_map}
 use Rattle.std.specs.Cmp.Lexicographic.{pointwise}
 use Rattle.ug_types.specs.Principals.{Named}
 use Rattle.ug_types.specs.declared.rule.Rule as types
@@ -14,7 +14,7 @@ use Rattle.ug_proto.specs.declared.reply.Reply.{Reply}
 use Rattle.ug_proto.specs.Replies.{reply_text}
 use Rattle.ug_play.specs.Play.{play, tells_memory}
 use Rattle.ug_store.specs.PlayDisk.{play_disk}
-use Rattle.ug_store.specs.Scripted.{DiskWorld, begun_on, forgetting}
+use Rattle.ug_store.specs.Scripted.{DiskWorld, begun_on, coming_up, forgetting, plan_at, stops_by}
 use Rattle.ug_store.specs.declared.mishap.Planned.{Planned}
 use Rattle.ug_core.specs.Answering.{acting, asking, deed_after}
 use Rattle.ug_core.specs.Storing.{stored_with, storing}
@@ -122,11 +122,11 @@ with_devices ds w = record w { kernel = record w.kernel { devices = ds } }
 abbrev pub planned : Plan → World → World
 planned (plan.Move m) w = record w { moves = with_move m w.moves }
 planned (plan.Fail f) w = record w { fails = w.fails ++ f ∷ [] }
-planned (plan.FailDisk p) w = w
+planned (plan.OnDisk p) w = w
 
 -- the disk of the next event may not be there yet: the script keeps what is to fail on it
 abbrev pub with_plan : Plan → Script → Script
-with_plan (plan.FailDisk p) s = record s { planned = s.planned ++ p ∷ [] }
+with_plan (plan.OnDisk p) s = record s { planned = s.planned ++ p ∷ [] }
 with_plan plan s = s
 
 -- ---- events
@@ -162,19 +162,22 @@ answered_by (Sweep moment) d w o = record { daemon = d; became = stored.NotNeede
 answered_by (Order moment who line) d w o = with_choice who d o (play (asking d who line) w)
 
 -- An event as the world and the disk fix it, whose calls are numbered anew: a pending save is tried, the order is answered, and then comes
--- the sweep.
+-- the sweep. The kernel is halted as soon as the machine has stopped in a call of the disk.
+
+abbrev pub halted : DiskWorld → World → World
+halted o w = cond o.stopped (halting w) w
 
 abbrev pub tried_by : DaemonState → DiskWorld → Option Saved × DiskWorld
 tried_by d o = play_disk (trying d) o
 
 abbrev pub answered_from : Event → DaemonState → World → DiskWorld → OrderPlayed
-answered_from event d w o = answered_by event (ready event (tried_by d o).0 d) (begun w) (tried_by d o).1
+answered_from event d w o = answered_by event (ready event (tried_by d o).0 d) (halted (tried_by d o).1 (begun w)) (tried_by d o).1
 
 abbrev pub swept_over : DiskWorld → DaemonState × World → Played
 swept_over o p = record { daemon = p.0; world = p.1; disk = o }
 
 abbrev pub swept_behind : OrderPlayed → Played
-swept_behind a = swept_over a.disk (play (handling a.daemon) a.world)
+swept_behind a = swept_over a.disk (play (handling a.daemon) (halted a.disk a.world))
 
 abbrev pub event_from : Event → DaemonState → World → DiskWorld → Played
 event_from event d w o = swept_behind (answered_from event d w o)
@@ -188,29 +191,7 @@ abbrev pub IsEventPlayed : Event → DaemonState → World → DiskWorld → Dae
 IsEventPlayed event d w o e t p =
     (record { daemon = e; world = t; disk = p } ≡ event_from event d w o) ⊎ (tells e ⊎ ((t.ran_out ≡ true) ⊎ (p.ran_out ≡ true)))
 
--- ---- with something between its stages
-
--- The same event with something that is done to the kernel behind the pending save and behind the order, by what became of the disk.
-
-abbrev pub answer_through : (DiskWorld → World → World) → Event → DaemonState → World → DiskWorld → OrderPlayed
-answer_through halts event d w o = answered_by event (ready event (tried_by d o).0 d) (halts (tried_by d o).1 (begun w)) (tried_by d o).1
-
-abbrev pub swept_through : (DiskWorld → World → World) → OrderPlayed → Played
-swept_through halts a = swept_over a.disk (play (handling a.daemon) (halts a.disk a.world))
-
-abbrev pub event_through : (DiskWorld → World → World) → Event → DaemonState → World → DiskWorld → Played
-event_through halts event d w o = swept_through halts (answer_through halts event d w o)
-
--- the event came to that, or its entries tell want of memory, or the kernel or the disk has run out
-abbrev pub IsPlayedThrough : (DiskWorld → World → World) → Event → DaemonState → World → DiskWorld → DaemonState → World → DiskWorld → Type 0
-IsPlayedThrough halts event d w o e t p =
-    (record { daemon = e; world = t; disk = p } ≡ event_through halts event d w o) ⊎ (tells e ⊎ ((t.ran_out ≡ true) ⊎ (p.ran_out ≡ true)))
-
--- the kernel is halted as soon as the machine has stopped in a call of the disk
-abbrev pub halted : DiskWorld → World → World
-halted o w = cond o.stopped (halting w) w
-
--- the calls that are to fail are those that lines planned, and they are numbered anew
+-- the calls that are to fail, or to stop the machine, are those that lines planned, and they are numbered anew
 abbrev pub begun_disk : List Planned → DiskWorld → DiskWorld
 begun_disk plan o = record (begun_on o) { planned = plan }
 
@@ -228,12 +209,48 @@ event_of event s w = event_from event (daemon_in s) w (disk_of s)
 abbrev pub left_played : Played → Played
 left_played p = record p { world = over p.world; disk = forgetting p.disk }
 
-abbrev pub came_of : Played → Outcome Played
-came_of p = Writes (outcome_text (outcome_of p.daemon)) (left_played p)
+abbrev pub finished : Played → Outcome Played
+finished p = Writes (outcome_text (outcome_of p.daemon)) (left_played p)
+
+-- the first of so many calls in which the machine is to stop, else that one
+abbrev pub first_stop : List Planned → ℕ → ℕ → ℕ
+first_stop plan other zero = other
+first_stop plan other (suc n) = first_stop plan (cond (stops_by (plan_at (suc n) None plan)) (suc n) other) n
+
+-- the call of the disk in which the machine stopped in an event
+abbrev pub stop_in : List Planned → Played → ℕ
+stop_in plan p = first_stop plan 0 p.disk.calls
+
+abbrev pub first_line : List Entry → List ℕ
+first_line [] = []
+first_line (e ∷ es) = terminated e
+
+unfoldable pub stopped_line : ℕ → List ℕ
+stopped_line call = codes "stopped " ++ decimal call ++ 10 ∷ []
+
+-- the line of its beginning, and that of the call: of an event in which the machine stopped, no more is written
+abbrev pub stopped_text : ℕ → List Entry → List ℕ
+stopped_text call entries = first_line entries ++ stopped_line call
+
+-- The machine comes up again behind the event, and a new daemon reads the rule file as the stop left it.
+
+abbrev pub up_again : Played → Played
+up_again p = record p { world = over p.world; disk = after_reading (coming_up p.disk) }
+
+abbrev pub begun_again : SetupState → List types.Rule → Played → Played
+begun_again setup rules p = record (up_again p) { daemon = started_at p.daemon.event (beside_of setup) (with_rules rules (policy_of setup)) }
+
+abbrev pub stopped_of : SetupState → ℕ → Played → Result (List types.Rule) Fault → Outcome Played
+stopped_of setup call p (Ok rules) = Writes (stopped_text call p.daemon.sweep.entries) (begun_again setup rules p)
+stopped_of setup call p (Err fault) = Refused fault (up_again p)
+
+-- what an event with that plan comes to
+abbrev pub came_of : SetupState → List Planned → Played → Outcome Played
+came_of setup plan p = cond p.disk.stopped (stopped_of setup (stop_in plan p) p (rules_from p.disk.disk.text)) (finished p)
 
 -- unless the numbers have run out
-abbrev pub event_by : Event → List Planned → DaemonState → World → DiskWorld → Outcome Played
-event_by event plan d w o = cond (has_numbers d w.faults o.faults) (came_of (event_from event d w (begun_disk plan o))) (Refused BadLine (record { daemon = d; world = w; disk = o }))
+abbrev pub event_by : SetupState → Event → List Planned → DaemonState → World → DiskWorld → Outcome Played
+event_by setup event plan d w o = cond (has_numbers d w.faults o.faults) (came_of setup plan (event_from event d w (begun_disk plan o))) (Refused BadLine (record { daemon = d; world = w; disk = o }))
 
 -- nothing is planned any more
 abbrev pub with_played : Script → Played → Script
@@ -245,7 +262,7 @@ in_script s (Refused fault p) = Refused fault (Some (with_played s p), p.world)
 
 -- the first event starts the daemon
 abbrev pub event_taken : Event → Script → World → Outcome (Option Script × World)
-event_taken event s w = cond (can_start s.setup s.phase) (in_script s (event_by event s.planned (daemon_in s) w (disk_in s))) (Refused InputTooLong (Some s, w))
+event_taken event s w = cond (can_start s.setup s.phase) (in_script s (event_by s.setup event s.planned (daemon_in s) w (disk_in s))) (Refused InputTooLong (Some s, w))
 
 -- ---- a new daemon
 

@@ -18,8 +18,8 @@ pub data Phase : Type 0 where
   Unstarted : Phase
   Started : DaemonState → DiskWorld → Phase
 
--- A script whose first line was read: what the setup lines gave, how far it has come, and which calls of the disk are to fail in the next
--- event.
+-- A script whose first line was read: what the setup lines gave, how far it has come, and what is planned for calls of the disk in the
+-- next event.
 pub record Script : Type 0 where
   pub setup : SetupState
   pub phase : Phase

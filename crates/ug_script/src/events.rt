@@ -1,15 +1,20 @@
 // Events of a script.
-ghost use Rattle.std.specs.Prelude.{◌≡◌, ◌≤◌, ◌++◌, ◌∷◌, [], true, false, OnOk, Some};
+ghost use Rattle.std.specs.Prelude.{◌≡◌, ◌≤◌, ◌++◌, ◌∷◌, [], true, false, cond, OnOk, None, Some};
 ghost use Rattle.ug_types.specs.Ends.{Rose};
 ghost use Rattle.ug_console.specs.Runs.{Closes, Steps};
 ghost use Rattle.ug_core.specs.Event.{daemon_of, has_numbers};
 ghost use Rattle.ug_script.specs.RuleFiles.{IsStillOn};
+ghost use Rattle.ug_store.specs.Scripted.{coming_up, plan_at, stops_by};
+ghost use Rattle.ug_sysfs.specs.World.{World, over};
 ghost use Rattle.ug_script.specs.Replay as replay;
-ghost use Rattle.ug_script.specs.Replay.{IsEventPlayed, IsPlayedThrough, came_of, event_by, event_from};
+ghost use Rattle.ug_script.specs.Replay.{IsEventPlayed, came_of, event_by, event_from};
+ghost use Rattle.ug_script.specs.Setup.{StartsOn, after_reading, rules_from};
 
 use crate::halting::Halting;
 use crate::session::Session;
-use crate::text::{outcome_text, put, tells_memory};
+use crate::setup::Setup;
+use crate::start::restart_daemon;
+use crate::text::{outcome_text, put, stopped_text, tells_memory};
 use std::alloc::Global;
 use ug_audit::Panel;
 use ug_console::Ran;
@@ -49,10 +54,7 @@ fn begin_disk(disk: &mut MemDisk, plan: &[Planned]) -> Result<(), NoMemory>
 /// An event, which the script fixes unless it is told that memory was wanting. Nobody but the journal notes it.
 fn handle(alloc: Global, session: &mut Session, event: &Event, kernel: &mut SimKernel)
     requires { has_numbers (daemon_of session.old.daemon) kernel.old.faults session.old.disk.faults ≡ true }
-    ensures played { IsPlayedThrough replay.halted event.now (daemon_of session.old.daemon) kernel.old session.old.disk
-        (daemon_of session.new.daemon) kernel.new session.new.disk }
-    ensures unstopped { session.new.disk.stopped ≡ false
-        → IsEventPlayed event.now (daemon_of session.old.daemon) kernel.old session.old.disk
+    ensures played { IsEventPlayed event.now (daemon_of session.old.daemon) kernel.old session.old.disk
         (daemon_of session.new.daemon) kernel.new session.new.disk }
     ensures all { session.new.daemon.report.entries.entries
         ≡ (daemon_of session.new.daemon).sweep.entries }
@@ -83,40 +85,99 @@ fn put_outcome<K: Sink>(alloc: Global, report: &Report, out: &mut K) -> Ran
     }
 }
 
-/// An event over a disk that has begun it, and its text.
-fn play_event<K: Sink>(
-    alloc: Global,
-    session: &mut Session,
-    event: &Event,
-    kernel: &mut SimKernel,
-    out: &mut K,
-) -> Ran
-    requires { has_numbers (daemon_of session.old.daemon) kernel.old.faults session.old.disk.faults ≡ true }
-    ensures ran { Steps (came_of (event_from event.now (daemon_of session.old.daemon) kernel.old session.old.disk))
-        (record { daemon = daemon_of session.new.daemon; world = kernel.new; disk = session.new.disk })
+/// What a crash might have left of the rule file is forgotten, and the event's text is written.
+fn write_event<K: Sink>(alloc: Global, session: &mut Session, out: &mut K) -> Ran
+    requires { session.old.daemon.report.entries.entries ≡ (daemon_of session.old.daemon).sweep.entries }
+    ensures ran { (w : World) → Steps (replay.finished (record { daemon = daemon_of session.old.daemon; world = w; disk = session.old.disk }))
+        (record { daemon = daemon_of session.new.daemon; world = over w; disk = session.new.disk })
         (K.held out.old) (K.held out.new) result }
     ensures counted { K.faults out.old ≤ K.faults out.new }
     ensures cause { result ≡ Ran.SinkFailed → Rose (K.faults out.old) (K.faults out.new) }
 {
-    handle(alloc, session, event, kernel);
-    if session.disk.stopped() {
-        // No line plans a stop yet.
-        return Ran::Memory;
-    }
-    let noted = session.daemon.report().entries.as_slice();
-    if kernel.ran_out() || session.disk.ran_out() || tells_memory(noted) {
-        return Ran::Memory;
-    }
-    kernel.end_event();
     match session.disk.forget() {
         Ok(()) => put_outcome(alloc, session.daemon.report(), out),
         Err(_) => Ran::Memory,
     }
 }
 
-/// An event and its text.
-fn run_event<K: Sink>(
+/// Whether the last plan for a call stops the machine in it.
+fn stops_at(plan: &[Planned], call: u64) -> bool
+    ensures { result ≡ stops_by (plan_at call None plan.now) }
+{
+    let mut found = None;
+    for planned in plan {
+        if planned.call == call {
+            found = Some(*planned);
+        }
+    }
+    match found {
+        None => false,
+        Some(planned) => planned.stops,
+    }
+}
+
+/// The call, if the machine is to stop in it, else the other one.
+fn stop_or(plan: &[Planned], call: u64, other: u64) -> u64
+    ensures { result ≡ cond (stops_by (plan_at call None plan.now)) call other }
+{
+    if stops_at(plan, call) { call } else { other }
+}
+
+/// The first of so many calls in which the machine is to stop.
+fn first_stop(plan: &[Planned], calls: u64) -> u64
+    ensures { result ≡ replay.first_stop plan.now 0 calls }
+{
+    let mut first = 0;
+    let mut call = calls;
+    while call > 0 {
+        first = stop_or(plan, call, first);
+        call -= 1;
+    }
+    first
+}
+
+/// The machine comes up again, and a new daemon is started.
+fn begin_again(alloc: Global, setup: &Setup, session: &mut Session) -> Result<(), NoMemory>
+    ensures started { OnOk result (StartsOn setup.now (daemon_of session.old.daemon).event
+        (coming_up session.old.disk) (daemon_of session.new.daemon)) }
+    ensures read { OnOk result (session.new.disk ≡ after_reading (coming_up session.old.disk)) }
+{
+    session.disk.come_up()?;
+    restart_daemon(alloc, setup, session)
+}
+
+/// A new daemon is started behind an event in which the machine stopped in that call, and the event's text is written.
+#[tactic(auto, using(crate::proofs::EventSteps::memory_steps))]
+fn stop_event<K: Sink>(
     alloc: Global,
+    setup: &Setup,
+    session: &mut Session,
+    call: u64,
+    out: &mut K,
+) -> Ran
+    requires { session.old.daemon.report.entries.entries ≡ (daemon_of session.old.daemon).sweep.entries }
+    ensures ran { (w : World) → Steps (replay.stopped_of setup.now call
+        (record { daemon = daemon_of session.old.daemon; world = w; disk = session.old.disk })
+        (rules_from session.old.disk.disk.text))
+        (record { daemon = daemon_of session.new.daemon; world = over w; disk = session.new.disk })
+        (K.held out.old) (K.held out.new) result }
+    ensures counted { K.faults out.old ≤ K.faults out.new }
+    ensures cause { result ≡ Ran.SinkFailed → Rose (K.faults out.old) (K.faults out.new) }
+{
+    match stopped_text(alloc, session.daemon.report().entries.as_slice(), call) {
+        Ok(text) => match begin_again(alloc, setup, session) {
+            Ok(()) => put(out, text.as_slice()),
+            Err(_) => Ran::Memory,
+        },
+        Err(_) => Ran::Memory,
+    }
+}
+
+/// An event over a disk that has begun it, and its text.
+#[tactic(auto, using(crate::proofs::EventSteps::memory_steps))]
+fn play_event<K: Sink>(
+    alloc: Global,
+    setup: &Setup,
     session: &mut Session,
     plan: &[Planned],
     event: &Event,
@@ -124,7 +185,39 @@ fn run_event<K: Sink>(
     out: &mut K,
 ) -> Ran
     requires { has_numbers (daemon_of session.old.daemon) kernel.old.faults session.old.disk.faults ≡ true }
-    ensures ran { Steps (came_of (event_from event.now (daemon_of session.old.daemon) kernel.old
+    ensures ran { Steps (came_of setup.now plan.now
+        (event_from event.now (daemon_of session.old.daemon) kernel.old session.old.disk))
+        (record { daemon = daemon_of session.new.daemon; world = kernel.new; disk = session.new.disk })
+        (K.held out.old) (K.held out.new) result }
+    ensures counted { K.faults out.old ≤ K.faults out.new }
+    ensures cause { result ≡ Ran.SinkFailed → Rose (K.faults out.old) (K.faults out.new) }
+{
+    handle(alloc, session, event, kernel);
+    let noted = session.daemon.report().entries.as_slice();
+    if kernel.ran_out() || session.disk.ran_out() || tells_memory(noted) {
+        return Ran::Memory;
+    }
+    kernel.end_event();
+    if session.disk.stopped() {
+        let call = first_stop(plan, session.disk.calls());
+        return stop_event(alloc, setup, session, call, out);
+    }
+    write_event(alloc, session, out)
+}
+
+/// An event and its text.
+#[tactic(auto, using(crate::proofs::EventSteps::memory_steps))]
+fn run_event<K: Sink>(
+    alloc: Global,
+    setup: &Setup,
+    session: &mut Session,
+    plan: &[Planned],
+    event: &Event,
+    kernel: &mut SimKernel,
+    out: &mut K,
+) -> Ran
+    requires { has_numbers (daemon_of session.old.daemon) kernel.old.faults session.old.disk.faults ≡ true }
+    ensures ran { Steps (came_of setup.now plan.now (event_from event.now (daemon_of session.old.daemon) kernel.old
         (replay.begun_disk plan.now session.old.disk)))
         (record { daemon = daemon_of session.new.daemon; world = kernel.new; disk = session.new.disk })
         (K.held out.old) (K.held out.new) result }
@@ -132,7 +225,7 @@ fn run_event<K: Sink>(
     ensures cause { result ≡ Ran.SinkFailed → Rose (K.faults out.old) (K.faults out.new) }
 {
     match begin_disk(&mut session.disk, plan) {
-        Ok(()) => play_event(alloc, session, event, kernel, out),
+        Ok(()) => play_event(alloc, setup, session, plan, event, kernel, out),
         Err(_) => Ran::Memory,
     }
 }
@@ -140,13 +233,14 @@ fn run_event<K: Sink>(
 /// An event and its text, unless the numbers have run out.
 pub fn next_event<K: Sink>(
     alloc: Global,
+    setup: &Setup,
     session: &mut Session,
     plan: &[Planned],
     event: &Event,
     kernel: &mut SimKernel,
     out: &mut K,
 ) -> Ran
-    ensures ran { Steps (event_by event.now plan.now (daemon_of session.old.daemon) kernel.old session.old.disk)
+    ensures ran { Steps (event_by setup.now event.now plan.now (daemon_of session.old.daemon) kernel.old session.old.disk)
         (record { daemon = daemon_of session.new.daemon; world = kernel.new; disk = session.new.disk })
         (K.held out.old) (K.held out.new) result }
     ensures counted { K.faults out.old ≤ K.faults out.new }
@@ -158,5 +252,5 @@ pub fn next_event<K: Sink>(
     {
         return Ran::Bad;
     }
-    run_event(alloc, session, plan, event, kernel, out)
+    run_event(alloc, setup, session, plan, event, kernel, out)
 }

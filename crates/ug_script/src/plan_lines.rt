@@ -99,13 +99,40 @@ fn planned_disk_fail(text: &[u8]) -> Option<Plan>
     ensures { result ≡ disk_plan (failing_of text.now) }
 {
     match failing(text) {
-        Some(failing) => Some(Plan::FailDisk(Planned {
+        Some(failing) => Some(Plan::OnDisk(Planned {
             call: failing.call,
             mishap: mishap(failing.effect),
             stops: false,
         })),
         None => None,
     }
+}
+
+fn stopping_at(leaves: Mishap, text: &[u8]) -> Option<Plan>
+    ensures { result ≡ grammar.stopping_at leaves (words.call_of text.now) }
+{
+    match call(text) {
+        None => None,
+        Some(call) => Some(Plan::OnDisk(Planned {
+            call,
+            mishap: leaves,
+            stops: true,
+        })),
+    }
+}
+
+/// `CALL old` or `CALL new`.
+#[tactic(auto, unfolding(crate::specs::Grammar::stop_plan))]
+fn planned_stop(text: &[u8]) -> Option<Plan>
+    ensures { result ≡ stop_plan text.now }
+{
+    if text.ends_with(b" old") {
+        return stopping_at(Mishap::NoEffect, &text[..text.len() - 4]);
+    }
+    if text.ends_with(b" new") {
+        return stopping_at(Mishap::Effect, &text[..text.len() - 4]);
+    }
+    None
 }
 
 #[tactic(auto, unfolding(crate::specs::Grammar::fails_of))]
@@ -118,12 +145,16 @@ fn fail_line(line: &[u8]) -> Option<Plan>
     if line.starts_with(b"disk fail ") {
         return planned_disk_fail(&line[10..]);
     }
+    if line.starts_with(b"stop ") {
+        return planned_stop(&line[5..]);
+    }
     None
 }
 
 /// Reads a line for a call of the next event. `before` and `after` take a call's number, from 1 to 1,048,576, and a `plug` or
 /// an `unplug` line. `fail` takes a call's number, and `effect` behind it where a write is to have its effect all the same. `disk fail`
-/// takes the same of a call of the disk.
+/// takes the same of a call of the disk. `stop` takes the number of one in which the machine stops, and `old`, or `new` where a swap is to
+/// have had its effect.
 #[tactic(auto, unfolding(crate::specs::Grammar::plan_of))]
 pub fn plan_line(alloc: Global, line: &[u8]) -> Result<Plan, StepFault>
     ensures { Parses (plan_of line.now) result }

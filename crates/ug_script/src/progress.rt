@@ -14,7 +14,7 @@ pub enum Phase {
     Started(Session),
 }
 
-/// What the setup lines gave, how far the script has come, and which calls of the disk are to fail in the next event.
+/// What the setup lines gave, how far the script has come, and what is planned for calls of the disk in the next event.
 #[derive(Drop)]
 pub struct Running {
     pub setup: Setup,

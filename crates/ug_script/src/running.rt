@@ -52,20 +52,21 @@ fn add_planned(plan: &mut Vec<Planned>, planned: Planned) -> Result<(), NoMemory
 /// The next event, which takes what was planned for the disk.
 fn planned_event<K: Sink>(
     alloc: Global,
+    setup: &Setup,
     session: &mut Session,
     plan: &mut Vec<Planned>,
     event: &Event,
     kernel: &mut SimKernel,
     out: &mut K,
 ) -> Ran
-    ensures ran { Steps (event_by event.now plan.old.items (daemon_of session.old.daemon) kernel.old session.old.disk)
+    ensures ran { Steps (event_by setup.now event.now plan.old.items (daemon_of session.old.daemon) kernel.old session.old.disk)
         (record { daemon = daemon_of session.new.daemon; world = kernel.new; disk = session.new.disk })
         (K.held out.old) (K.held out.new) result }
     ensures planned { plan.new.items ≡ [] }
     ensures counted { K.faults out.old ≤ K.faults out.new }
     ensures cause { result ≡ Ran.SinkFailed → Rose (K.faults out.old) (K.faults out.new) }
 {
-    let ran = next_event(alloc, session, plan.as_slice(), event, kernel, out);
+    let ran = next_event(alloc, setup, session, plan.as_slice(), event, kernel, out);
     plan.clear();
     ran
 }
@@ -169,8 +170,9 @@ impl Running {
         match start_daemon(alloc, &self.setup) {
             Ok(session) => {
                 let mut session = session;
+                let setup = &self.setup;
                 let plan = &mut self.plan;
-                let ran = planned_event(alloc, &mut session, plan, event, kernel, out);
+                let ran = planned_event(alloc, setup, &mut session, plan, event, kernel, out);
                 self.phase = Phase::Started(session);
                 ran
             }
@@ -227,7 +229,9 @@ impl Running {
         ensures cause { result ≡ Ran.SinkFailed → Rose (K.faults out.old) (K.faults out.new) }
     {
         if let Phase::Started(session) = &mut self.phase {
-            return planned_event(alloc, session, &mut self.plan, event, kernel, out);
+            let setup = &self.setup;
+            let plan = &mut self.plan;
+            return planned_event(alloc, setup, session, plan, event, kernel, out);
         }
         self.first_event(alloc, event, kernel, out)
     }
@@ -244,7 +248,7 @@ impl Running {
         let scheduled = match plan {
             Plan::Move(next) => kernel.schedule(next.call, next.after, next.action),
             Plan::Fail(failing) => kernel.fail(failing.call, failing.effect),
-            Plan::FailDisk(planned) => add_planned(&mut self.plan, planned),
+            Plan::OnDisk(planned) => add_planned(&mut self.plan, planned),
         };
         match scheduled {
             Ok(()) => Ran::Done,

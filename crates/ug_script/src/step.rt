@@ -34,8 +34,8 @@ pub enum Plan {
     Move(Scheduled),
     /// The call of the kernel fails.
     Fail(Failing),
-    /// The call of the disk fails.
-    FailDisk(Planned),
+    /// The call of the disk fails, or the machine stops in it.
+    OnDisk(Planned),
 }
 
 /// One line's step.

@@ -10,7 +10,7 @@ use crate::quoting::push_reply;
 use std::alloc::Global;
 use ug_console::Ran;
 use ug_core::{Entry, Fault, Report, line_of};
-use ug_types::{NoMemory, Put, Refusal, Saved, Sink};
+use ug_types::{Line, NoMemory, Put, Refusal, Saved, Sink};
 
 fn push_line(text: &mut Vec<u8>, entry: &Entry) -> Result<(), NoMemory>
     ensures { OnOk result (text.new.items ≡ text.old.items ++ terminated entry.now) }
@@ -43,6 +43,27 @@ pub fn outcome_text(alloc: Global, report: &Report) -> Result<Vec<u8>, NoMemory>
     if let Some(reply) = &report.reply {
         push_reply(alloc, &mut text, reply)?;
     }
+    Ok(text)
+}
+
+fn stopped_line(call: u64) -> Line
+    ensures { result ≡ replay.stopped_line call }
+{
+    let mut line = Line::of(b"stopped ");
+    line.push_decimal(call);
+    line.push(b"\n");
+    line
+}
+
+/// What is written of an event in which the machine stopped: the line of its beginning, and that of the call.
+pub fn stopped_text(alloc: Global, entries: &[Entry], call: u64) -> Result<Vec<u8>, NoMemory>
+    ensures { IfOk result (λ text. text.items ≡ replay.stopped_text call entries.now) }
+{
+    let mut text = Vec::new(alloc);
+    if let Some(first) = entries.first() {
+        push_line(&mut text, first)?;
+    }
+    text.extend_from_slice(stopped_line(call).bytes())?;
     Ok(text)
 }
 

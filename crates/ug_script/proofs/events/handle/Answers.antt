@@ -1,18 +1,12 @@
 use Rattle.ug_core.specs.Event.{daemon_of}
-use Rattle.ug_script.proofs.EventSteps.{stopped_played, unstopped_played}
+use Rattle.ug_script.proofs.EventSteps.{event_played}
 use Rattle.ug_script.proofs.Filed.{event_files}
 use Rattle.ug_script.proofs.events.handle.Goals as goal
 
 pub returns-clause-played : goal.returns-clause-played
 returns-clause-played c =
     let h = c.handle_between.ensures.passes in
-    stopped_played c.args.event.now (daemon_of c.args.session.now.daemon) c.args.kernel.now h.started c.args.session.now.disk h.tried h.disk_tried h.tries h.became h.middle c.handle_between.new.disk h.answered h.answers h.resumed h.passes_on (daemon_of c.handle_between.new.self) c.handle_between.new.sysfs h.runs h.start h.begun_there h.passes
-
-pub returns-clause-unstopped : goal.returns-clause-unstopped
-returns-clause-unstopped c unstopped =
-    let h = c.handle_between.ensures.passes in
-    unstopped_played c.args.event.now (daemon_of c.args.session.now.daemon) c.args.kernel.now c.args.session.now.disk (daemon_of c.handle_between.new.self) c.handle_between.new.sysfs c.handle_between.new.disk unstopped
-    (stopped_played c.args.event.now (daemon_of c.args.session.now.daemon) c.args.kernel.now h.started c.args.session.now.disk h.tried h.disk_tried h.tries h.became h.middle c.handle_between.new.disk h.answered h.answers h.resumed h.passes_on (daemon_of c.handle_between.new.self) c.handle_between.new.sysfs h.runs h.start h.begun_there h.passes)
+    event_played c.args.event.now (daemon_of c.args.session.now.daemon) c.args.kernel.now h.started c.args.session.now.disk h.tried h.disk_tried h.tries h.became h.middle c.handle_between.new.disk h.answered h.answers h.resumed h.passes_on (daemon_of c.handle_between.new.self) c.handle_between.new.sysfs h.runs h.start h.begun_there h.passes
 
 pub invariant_of-session : goal.invariant_of-session
 invariant_of-session c =

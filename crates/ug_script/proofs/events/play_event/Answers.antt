@@ -1,18 +1,19 @@
-use Rattle.std.proofs.Common.{rules, ◌≡◌, List, Option, Some, ◌∙◌, ap, sym, subst, ℕ}
-use Rattle.ug_audit.specs.declared.entry.Entry.{Entry}
-use Rattle.ug_proto.specs.declared.reply.Reply.{Reply}
-use Rattle.ug_core.specs.Event.{DaemonState, daemon_of}
-use Rattle.ug_console.specs.Runs.{Closes}
-use Rattle.ug_script.specs.Replay.{outcome_text}
-use Rattle.ug_script.proofs.EventSteps.{event_steps}
+use Rattle.std.proofs.Common.{rules, ◌≡◌, sym, ◌∙◌}
+use Rattle.ug_core.specs.Event.{daemon_of}
+use Rattle.ug_script.specs.Replay.{Played, event_from}
+use Rattle.ug_script.proofs.EventSteps.{came_ended, came_stopped, event_fixed}
 use Rattle.ug_script.proofs.events.play_event.Goals as goal
 
-same_text : (es fs : List Entry) (q r : Option Reply) → es ≡ fs → q ≡ r → outcome_text (record { entries = es; reply = q }) ≡ outcome_text (record { entries = fs; reply = r })
-same_text es fs q r same replied = ap (λ (x : List Entry). outcome_text (record { entries = x; reply = q })) same ∙ ap (λ (x : Option Reply). outcome_text (record { entries = fs; reply = x })) replied
+pub returns-then-stopped-clause-ran : goal.returns-then-stopped-clause-ran
+returns-then-stopped-clause-ran g c =
+    let p : Played = record { daemon = daemon_of c.handle.new.session.daemon; world = c.handle.new.kernel; disk = c.handle.new.session.disk } in
+    let x : Played = event_from c.args.event.now (daemon_of c.args.session.now.daemon) c.args.kernel.now c.args.session.now.disk in
+    let same : p ≡ x = event_fixed c.args.event.now (daemon_of c.args.session.now.daemon) c.args.kernel.now c.args.session.now.disk p.daemon p.world p.disk c.handle.ensures.played (search rules) (search rules) (search rules) in
+    came_stopped c.args.setup.now c.args.plan.now p x c.first_stop-call.result (daemon_of c.stop_event.new.session.daemon) c.end_event.new.self c.stop_event.new.session.disk (g.K.Sink.held c.args.out.now) (g.K.Sink.held c.stop_event.new.out) c.stop_event.result same (sym c.stopped.ensures ∙ c.if-stopped.true) (search rules) c.end_event.ensures (c.stop_event.ensures.ran p.world)
 
-pub returns-in-Ok-clause-ran : goal.returns-in-Ok-clause-ran
-returns-in-Ok-clause-ran g c =
-    let e : DaemonState = daemon_of c.handle.new.session.daemon in
-    event_steps c.args.event.now (daemon_of c.args.session.now.daemon) c.args.kernel.now c.args.session.now.disk e c.handle.new.kernel c.handle.new.session.disk (g.K.Sink.held c.args.out.now) (g.K.Sink.held c.put_outcome.new.out) c.put_outcome.result (c.handle.ensures.unstopped (sym c.stopped.ensures ∙ c.if-stopped.false)) (search rules) (search rules) (search rules)
-    (subst (λ (x : List ℕ). Closes (Some x) (g.K.Sink.held c.args.out.now) (g.K.Sink.held c.put_outcome.new.out) c.put_outcome.result) (same_text _ _ _ _ (search rules) (search rules)) c.put_outcome.ensures.ran)
-    (search rules) (search rules)
+pub returns-clause-ran : goal.returns-clause-ran
+returns-clause-ran g c =
+    let p : Played = record { daemon = daemon_of c.handle.new.session.daemon; world = c.handle.new.kernel; disk = c.handle.new.session.disk } in
+    let x : Played = event_from c.args.event.now (daemon_of c.args.session.now.daemon) c.args.kernel.now c.args.session.now.disk in
+    let same : p ≡ x = event_fixed c.args.event.now (daemon_of c.args.session.now.daemon) c.args.kernel.now c.args.session.now.disk p.daemon p.world p.disk c.handle.ensures.played (search rules) (search rules) (search rules) in
+    came_ended c.args.setup.now c.args.plan.now p x (daemon_of c.write_event.new.session.daemon) c.end_event.new.self c.write_event.new.session.disk (g.K.Sink.held c.args.out.now) (g.K.Sink.held c.write_event.new.out) c.write_event.result same (sym c.stopped.ensures ∙ c.if-stopped.false) c.end_event.ensures (c.write_event.ensures.ran p.world)

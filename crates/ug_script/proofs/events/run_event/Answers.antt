@@ -7,5 +7,5 @@ use Rattle.ug_script.proofs.events.run_event.Goals as goal
 
 pub returns-in-Ok-clause-ran : goal.returns-in-Ok-clause-ran
 returns-in-Ok-clause-ran g c =
-    subst (λ (o : DiskWorld). Steps (came_of (event_from c.args.event.now (daemon_of c.args.session.now.daemon) c.args.kernel.now o)) (record { daemon = daemon_of c.play_event.new.session.daemon; world = c.play_event.new.kernel; disk = c.play_event.new.session.disk }) (g.K.Sink.held c.args.out.now) (g.K.Sink.held c.play_event.new.out) c.play_event.result)
+    subst (λ (o : DiskWorld). Steps (came_of c.args.setup.now c.args.plan.now (event_from c.args.event.now (daemon_of c.args.session.now.daemon) c.args.kernel.now o)) (record { daemon = daemon_of c.play_event.new.session.daemon; world = c.play_event.new.kernel; disk = c.play_event.new.session.disk }) (g.K.Sink.held c.args.out.now) (g.K.Sink.held c.play_event.new.out) c.play_event.result)
     c.in-Ok.ensures.ok c.play_event.ensures.ran

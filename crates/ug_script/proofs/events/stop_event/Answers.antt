@@ -1,0 +1,11 @@
+use Rattle.ug_core.specs.Event.{daemon_of}
+use Rattle.ug_script.specs.Replay.{Played}
+use Rattle.ug_sysfs.specs.World.{over}
+use Rattle.std.proofs.Common.{refl}
+use Rattle.ug_script.proofs.EventSteps.{stopped_steps}
+use Rattle.ug_script.proofs.events.stop_event.Goals as goal
+
+pub returns-in-Ok-in-Ok-clause-ran : goal.returns-in-Ok-in-Ok-clause-ran
+returns-in-Ok-in-Ok-clause-ran g c = λ w.
+    let p : Played = record { daemon = daemon_of c.args.session.now.daemon; world = w; disk = c.args.session.now.disk } in
+    stopped_steps c.args.setup.now c.args.call p (daemon_of c.begin_again.new.session.daemon) (over w) c.begin_again.new.session.disk (g.K.Sink.held c.args.out.now) (g.K.Sink.held c.put.new.out) c.put.result refl c.in-Ok-2.ensures.started c.in-Ok-2.ensures.read c.put.ensures.ran
