@@ -43,10 +43,10 @@ taken_append dev [] fs = omega arith
 taken_append dev (e ∷ es) fs = let h = taken_append dev es fs in omega arith
 
 -- a rule that decides, and one that doesn't
-found_here : (dev : DeviceRecord) (ctx : Context) (records : List DeviceRecord) (e : RuleEntry) (es : List RuleEntry) (stream : Stream) → decides dev ctx records e stream ≡ true → find_decider dev ctx records (e ∷ es) stream ≡ record { before = []; rest = e ∷ es }
+pub found_here : (dev : DeviceRecord) (ctx : Context) (records : List DeviceRecord) (e : RuleEntry) (es : List RuleEntry) (stream : Stream) → decides dev ctx records e stream ≡ true → find_decider dev ctx records (e ∷ es) stream ≡ record { before = []; rest = e ∷ es }
 found_here dev ctx records e es stream h = cond-true (decides dev ctx records e stream) (record { before = []; rest = e ∷ es }) (put_before e (find_decider dev ctx records es (behind (rule_takes dev e) stream))) h
 
-found_later : (dev : DeviceRecord) (ctx : Context) (records : List DeviceRecord) (e : RuleEntry) (es : List RuleEntry) (stream : Stream) → decides dev ctx records e stream ≡ false → find_decider dev ctx records (e ∷ es) stream ≡ put_before e (find_decider dev ctx records es (behind (rule_takes dev e) stream))
+pub found_later : (dev : DeviceRecord) (ctx : Context) (records : List DeviceRecord) (e : RuleEntry) (es : List RuleEntry) (stream : Stream) → decides dev ctx records e stream ≡ false → find_decider dev ctx records (e ∷ es) stream ≡ put_before e (find_decider dev ctx records es (behind (rule_takes dev e) stream))
 found_later dev ctx records e es stream h = cond-false (decides dev ctx records e stream) (record { before = []; rest = e ∷ es }) (put_before e (find_decider dev ctx records es (behind (rule_takes dev e) stream))) h
 
 -- the words of the rules behind the first

@@ -7,3 +7,4 @@ pub mod Finding
 pub mod Lists
 pub mod Walking
 pub mod Indexing
+pub mod Unasked

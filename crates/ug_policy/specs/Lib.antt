@@ -3,3 +3,4 @@ pub mod Edits
 pub mod Matching
 pub mod Deciding
 pub mod Kept
+pub mod Asking

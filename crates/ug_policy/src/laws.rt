@@ -1,5 +1,6 @@
 // What the definitions of changes and of deciding come to.
-ghost use Rattle.std.specs.Prelude.{◌≡◌, ◌⊎◌, ◌↔◌, ℕ, ◌+◌, List, ◌∷◌, ◌++◌, Some, None, IsTrue, filter, take};
+ghost use Rattle.std.specs.Prelude.{◌≡◌, ◌⊎◌, ◌↔◌, ℕ, ◌+◌, List, ◌∷◌, ◌++◌, Some, None, IsTrue, false, filter, take};
+ghost use Rattle.std.specs.List.{list_any};
 ghost use Rattle.ug_types.specs.Elements.{Has, AllDistinct};
 ghost use Rattle.ug_types.specs.declared.record.DeviceRecord.{DeviceRecord};
 ghost use Rattle.ug_types.specs.declared.verdict.Target.{Target};
@@ -9,7 +10,8 @@ ghost use Rattle.ug_cond.specs.Judgements.{Judgement};
 ghost use Rattle.ug_policy.specs.declared.entry.RuleEntry.{RuleEntry};
 ghost use Rattle.ug_policy.specs.Rules.{ids};
 ghost use Rattle.ug_policy.specs.Edits.{IsThere, aimed, inserted, removed, retargeted};
-ghost use Rattle.ug_policy.specs.Deciding.{HasNoDecider, IsDecider, RuleHolds, find_decider, judgement_found, rule_holds};
+ghost use Rattle.ug_policy.specs.Asking.{rule_asks};
+ghost use Rattle.ug_policy.specs.Deciding.{HasNoDecider, IsDecider, RuleHolds, find_decider, judgement_found, reached, rule_holds};
 ghost use Rattle.ug_policy.specs.Kept.{StandsFor};
 ghost use Rattle.ug_policy.specs.Matching.{matched};
 
@@ -33,4 +35,11 @@ pub fn decider_law()
     ensures found { (dev : DeviceRecord) (ctx : when.Context) (records : List DeviceRecord) (rules : List RuleEntry) (stream : Stream) (place : ℕ) (entry : RuleEntry) → IsDecider dev ctx records rules stream place entry → judgement_found dev ctx.moment (find_decider dev ctx records rules stream) ≡ record { moment = ctx.moment; evaluated = ids (filter (matched dev) (take (place + 1) rules)); applied = Some entry.id } }
     ensures not_found { (dev : DeviceRecord) (ctx : when.Context) (records : List DeviceRecord) (rules : List RuleEntry) (stream : Stream) → HasNoDecider dev ctx records rules stream → judgement_found dev ctx.moment (find_decider dev ctx records rules stream) ≡ record { moment = ctx.moment; evaluated = ids (filter (matched dev) rules); applied = None } }
     ensures judgements { (judgements : List Judgement) (rules : List RuleEntry) (next : ℕ) (rule : RuleEntry) (ctx : when.Context) (records : List DeviceRecord) (stream : Stream) → StandsFor rules next judgements → Has rules rule → (IsTrue (rule_holds ctx records rule stream) ↔ RuleHolds judgements ctx records rule stream) }
+{}
+
+/// Where none of the rules that are reached matches the device and asks for the devices that are allowed, these make no difference.
+pub fn asking_law()
+    ensures { (dev : DeviceRecord) (ctx : when.Context) (records others : List DeviceRecord) (rules : List RuleEntry) (stream : Stream)
+        → list_any (rule_asks dev) (reached (find_decider dev ctx records rules stream)) ≡ false
+        → find_decider dev ctx others rules stream ≡ find_decider dev ctx records rules stream }
 {}

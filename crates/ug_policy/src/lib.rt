@@ -8,5 +8,5 @@ mod laws;
 mod list;
 
 pub use entry::{InsertFault, NoRule, RuleEntry};
-pub use laws::{decider_law, edits_law};
+pub use laws::{asking_law, decider_law, edits_law};
 pub use list::RuleList;
