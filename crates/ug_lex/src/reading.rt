@@ -1,5 +1,5 @@
 // Tokens read from a line.
-ghost use Rattle.std.specs.Prelude.{List, Ok, Err, IfOk, IfErr};
+ghost use Rattle.std.specs.Prelude.{◌≡◌, [], List, Ok, Err, IfOk, IfErr};
 ghost use Rattle.ug_lex.specs.declared.token.Token.{Token};
 ghost use Rattle.ug_lex.specs.Lexing.{Answers, Fault, tokens_from, tokens_of};
 ghost use Rattle.ug_lex.specs.Grammar.{Good, Bad, IfLexical};
@@ -9,7 +9,7 @@ use crate::front::front;
 use crate::pieces::Front;
 use crate::token::Token;
 use std::alloc::Global;
-use ug_types::List;
+use ug_types::{List, NoMemory};
 
 /// The tokens of a line, or its first fault. Space, tab and carriage return separate, and `#` outside a string ends the
 /// line. Linear in the number of bytes.
@@ -24,10 +24,17 @@ pub fn tokens(alloc: Global, line: &[u8]) -> Result<List<Token>, LexFault>
     read(alloc, line)
 }
 
+// No tokens, with room for those of most lines.
+fn room_for_some(alloc: Global) -> Result<List<Token>, NoMemory>
+    ensures { IfOk result (λ tokens. tokens ≡ []) }
+{
+    Ok(List::from_vec(Vec::with_capacity(alloc, 16)?))
+}
+
 fn read(alloc: Global, line: &[u8]) -> Result<List<Token>, LexFault>
     ensures { Answers result (tokens_from 0 0 line.now) }
 {
-    let mut tokens = List::new(alloc);
+    let mut tokens = room_for_some(alloc)?;
     let mut at = 0;
     while at < line.len() {
         match front(alloc, line, at)? {

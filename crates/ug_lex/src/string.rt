@@ -1,11 +1,11 @@
 // Strings in double quotes.
-ghost use Rattle.std.specs.Prelude.{◌≡◌, ◌+◌, ◌<◌, ◌≤◌, IfOk, length, drop};
+ghost use Rattle.std.specs.Prelude.{◌≡◌, ◌+◌, ◌<◌, ◌≤◌, [], IfOk, length, drop};
 ghost use Rattle.ug_lex.specs.Lexing.{Answers, digit_of, digits_of, escape_of, inner_of, more_of, quoted_from};
 
 use crate::fault::LexFault;
 use crate::pieces::{Inner, Quoted};
 use std::alloc::Global;
-use ug_types::{List, Text};
+use ug_types::{List, NoMemory, Text};
 
 fn digit(byte: u8) -> Option<u8>
     ensures { result ≡ digit_of byte }
@@ -66,13 +66,21 @@ fn inner(bytes: &[u8]) -> Inner
     }
 }
 
+// No bytes, with room for those before the next quote.
+fn room_for(alloc: Global, bytes: &[u8]) -> Result<List<u8>, NoMemory>
+    ensures { IfOk result (λ text. text ≡ []) }
+{
+    let room = bytes.iter().take_while(|b| **b != b'"').count();
+    Ok(List::from_vec(Vec::with_capacity(alloc, room)?))
+}
+
 /// Reads a string from its opening quote on.
 pub fn string(alloc: Global, line: &[u8], opening: usize) -> Result<Quoted, LexFault>
     requires { opening < length line.now }
     ensures read { Answers result (quoted_from opening (opening + 1) 0 (drop (opening + 1) line.now)) }
     ensures fits { IfOk result (λ quoted. opening + quoted.more < length line.now) }
 {
-    let mut text = List::new(alloc);
+    let mut text = room_for(alloc, &line[opening + 1..])?;
     let mut at = opening + 1;
     while at < line.len() {
         match inner(&line[at..]) {

@@ -9,7 +9,7 @@ use Rattle.ug_lex.proofs.reading.read.Goals as goal
 
 pub returns-in_err-front : goal.returns-in_err-front
 returns-in_err-front c =
-    let p = err_from_is_err_and c.from_residual.result c.from_residual.ensures.1 in
+    let p = err_from_is_err_and c.from_residual-in_err-front.result c.from_residual-in_err-front.ensures.1 in
     rw (p.1, p.2) (handed_on c.in_err-front.field-0.0 (front_of c.loop-at.at (drop c.loop-at.at c.args.line.now)) (tokens_from 0 0 c.args.line.now)
     (λ fault e. line_turn c.args.line.now c.loop-at.at c.loop-at.tokens (Err fault) (tokens_from 0 0 c.args.line.now) c.loop-at-test.true c.loop-at.invariant.read e (omega (arith, c.loop-at-test.true)))
     c.in_err-front.ensures.read)
