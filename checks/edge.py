@@ -470,6 +470,49 @@ def trial_ready(o, machine, folder):
     guard.end()
 
 
+def trial_root_hubs(o, machine, folder):
+    """What becomes of the default of a root hub, and what is told of it."""
+    hub = DEVICES / "usb1/authorized_default"
+    told = "root hubs that switch on what comes to them: 1."
+    written = "wrote 1 usb1 default-off done"
+    hub.write_text("1\n")
+    guard = Guard(o, folder)
+    guard.await_line("end 3")
+    check("by default a person is told once that a root hub is open", guard.told().count(told) == 1, guard.told())
+    check("and its default stays", hub.read_text() == "1\n" and "default-" not in guard.journal.read_text())
+    guard.end()
+    hub.write_text("0\n")
+    guard.start()
+    guard.await_line("end 1")
+    check("nothing is told of one that is closed", guard.told() == "", guard.told())
+    guard.end()
+    hub.write_text("1\n")
+    settings = folder / "settings.conf"
+    settings.write_text(settings.read_text() + "AuthorizedDefault=none\n")
+    for what in ("with none", "behind a kill"):
+        guard.start()
+        guard.await_line("end 3")
+        check("%s the default is written once" % what, guard.lines().count(written) == 1 and hub.read_text() == "0\n")
+        check("%s nothing is told" % what, guard.told() == "", guard.told())
+        guard.end()
+        check("%s it stays when the daemon is killed" % what, hub.read_text() == "0\n")
+    hub.unlink()
+    hub.mkdir()
+    guard.start()
+    guard.await_line("end 3")
+    events = sum(line.startswith("end ") for line in guard.lines())
+    unsettled = sum(line.startswith("unsettled usb1 fault ") for line in guard.lines())
+    check("a default that can't be written is told in each event", events <= unsettled <= events + 1, "%d of %d" % (unsettled, events))
+    hub.rmdir()
+    hub.write_text("1\n")
+    check("and written once it can be", guard.await_line(written) and hub.read_text() == "0\n")
+    time.sleep(1.5)
+    check("and told no more", not guard.lines()[-2].startswith("unsettled"), guard.lines()[-2])
+    judges(machine, "root hubs")
+    guard.end()
+    hub.unlink()
+
+
 def main():
     trials = {name[6:].replace("_", "-"): value for name, value in globals().items() if name.startswith("trial_")}
     a = argparse.ArgumentParser(description=__doc__, formatter_class=argparse.RawDescriptionHelpFormatter)

@@ -4,6 +4,7 @@
 mod about;
 mod last_line;
 mod link_words;
+mod open_hubs;
 mod serve;
 mod shown;
 mod told;

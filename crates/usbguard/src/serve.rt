@@ -1,4 +1,5 @@
 // The daemon over this machine.
+use crate::open_hubs::tell_open_hubs;
 use crate::told::{LastPaths, tell_end};
 use std::alloc::AllocError;
 use std::cell::Cell;
@@ -143,6 +144,7 @@ pub fn serve(rt: HostRuntime, words: &[&str]) -> u8 {
         Ok(links) => links,
         Err(e) => return status_without(&e),
     };
+    tell_open_hubs(&rt, words, DEVICES);
     let status = serve_with(rt, words, seed, devices, &mut waiter, &mut links, found);
     mem::forget(links);
     status

@@ -58,7 +58,8 @@ fn around(text: &str, place: usize) -> Option<(&str, usize)> {
     Some((text.get(from..to)?, count))
 }
 
-fn read_text(rt: &HostRuntime, path: &str) -> Option<Vec<u8>> {
+/// The bytes of a file, as far as they are looked at. None where they can't be had.
+pub fn read_text(rt: &HostRuntime, path: &str) -> Option<Vec<u8>> {
     let mut text = Vec::new(rt.alloc());
     let file = fs::open(rt, path).ok()?;
     file.take(MOST).read_to_end(&mut text).ok()?;

@@ -1,0 +1,69 @@
+// What the daemon tells a person of root hubs that switch new devices on.
+ghost use Rattle.std.specs.Prelude.{◌≡◌, is_none};
+ghost use Rattle.ug_core.specs.Settings.{hub_default};
+
+use crate::shown::read_text;
+use std::{fs, str};
+use ug_arguments::read_daemon_words;
+use ug_conf::{AuthDefault, Settings, parse_conf};
+use ug_types::Text;
+
+/// Whether a daemon with these settings leaves the default of each root hub as it is.
+fn leaves_defaults(settings: &Settings) -> bool
+    ensures { result ≡ is_none (hub_default settings.now.default) }
+{
+    matches!(settings.default, AuthDefault::Keep | AuthDefault::Internal)
+}
+
+// Whether a root hub whose `authorized_default` has this text switches on what comes to it, or some of it.
+fn switches_on(text: &[u8]) -> bool {
+    match text.first() {
+        Some(byte) => *byte != b'0',
+        None => false,
+    }
+}
+
+// How many root hubs of the folder of devices switch on what comes to them.
+fn count_open(rt: &HostRuntime, devices: &str) -> Option<u64> {
+    let mut count = 0u64;
+    for entry in fs::read_dir(rt, devices).ok()? {
+        let entry = entry.ok()?;
+        let name = entry.file_name();
+        if name.starts_with("usb") {
+            let path = format!(in rt.alloc(); "{devices}/{name}/authorized_default").ok()?;
+            if let Some(text) = read_text(rt, path.as_str())
+                && switches_on(text.as_slice())
+            {
+                count = count.saturating_add(1);
+            }
+        }
+    }
+    Some(count)
+}
+
+// The settings in that file, where they are good ones.
+fn settings_at(rt: &HostRuntime, path: &Text) -> Option<Settings> {
+    let text = read_text(rt, str::from_utf8(path.bytes()).ok()?)?;
+    parse_conf(rt.alloc(), text.as_slice()).ok()
+}
+
+/// Tells on standard error how many root hubs switch on what comes to them, where the settings of a daemon with these words leave them so.
+/// It is called before the start, which reads the settings anew. Where they aren't good ones nothing is told.
+pub fn tell_open_hubs(rt: &HostRuntime, words: &[&str], devices: &str) {
+    let Ok(path) = read_daemon_words(rt.alloc(), words) else {
+        return;
+    };
+    let Some(settings) = settings_at(rt, &path) else {
+        return;
+    };
+    if !leaves_defaults(&settings) {
+        return;
+    }
+    if let Some(count) = count_open(rt, devices)
+        && count > 0
+    {
+        let _told = eprintln!(rt;
+            "usbguard: root hubs that switch on what comes to them: {count}. A device works there before it is judged; with AuthorizedDefault=none it waits."
+        );
+    }
+}
