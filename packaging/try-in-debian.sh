@@ -53,6 +53,7 @@ device() {
     printf '%s\n' "$2" >"$root/sys/made/authorized"
     echo 1 >"$root/sys/made/devnum"
     printf "$3" >"$root/sys/made/descriptors"
+    case $1 in usb*) echo 1 >"$root/sys/made/authorized_default" ;; esac
     mv "$root/sys/made" "$root/sys/bus/usb/devices/$1"
 }
 
@@ -129,12 +130,15 @@ show 'useradd joe; useradd eve; printf "" | usbguard add-user joe --devices list
 echo
 echo '# The service, by hand: there is no systemd here. A user alice is there, and none of the name alice.smith'
 show 'useradd alice; printf "" | usbguard add-user alice.smith --devices list > /etc/usbguard/IPCAccessControl.d/alice.smith'
-chroot "$root" /usr/libexec/usbguard-prepare rules hashes
+chroot "$root" /usr/libexec/usbguard-prepare rules hubs hashes
+check 'before the daemon starts the root hub is closed: a device that comes is off until it is judged' 'grep -x 0 /sys/bus/usb/devices/usb1/authorized_default'
 start
 check "a socket isn't given to a user of another name" 'test "$(stat -c %U /run/usbguard/alice.smith.socket)" = root'
 check 'and is given to the user of its name' 'test "$(stat -c %U /run/usbguard/joe.socket)" = joe'
 show 'ls -l /run/usbguard'
 show 'usbguard list-devices'
+check 'the daemon closes it too, and tells it' \
+    'for i in 1 2 3 4 5 6; do grep -qx "wrote 1 usb1 default-off done" /tmp/journal && exit; sleep 0.5; done; exit 1'
 (sleep 2; device 1-3 1 "$stranger") &
 show 'timeout 20 usbguard watch -n 2'
 show 'usbguard list-devices | tail -n 1; cat /sys/bus/usb/devices/1-3/authorized'
@@ -159,6 +163,7 @@ check 'a rule that was appended, and that of a permanent verdict, stand in the r
 check 'a device that no rule names was blocked, and then allowed by order' \
     'grep -x "judged 4 1-3 block implicit" /tmp/journal && grep -x "judged 4 1-3 allow order root" /tmp/journal && grep -x 1 /sys/bus/usb/devices/1-3/authorized'
 stop
+check 'it stays closed when the daemon has ended' 'grep -x 0 /sys/bus/usb/devices/usb1/authorized_default'
 rm -r "$root/sys/bus/usb/devices/1-3" "$root/etc/usbguard/IPCAccessControl.d/joe" "$root/etc/usbguard/IPCAccessControl.d/alice.smith" "$root/run/usbguard"
 
 echo
@@ -243,6 +248,27 @@ show 'timeout 3 usbguard daemon --conf /etc/usbguard/usbguard-daemon.conf'
 show 'cd /sys/bus/usb/devices && grep . */authorized'
 check 'the settings as they come are accepted, with no note' \
     'timeout 3 usbguard daemon | head -n 1 | grep "^event 1 sweep "'
+echo
+echo "== The hubs, as the settings say"
+# hubs SETTING VALUE: with that line of settings the hub, which has 2, has the value behind the step
+hubs() {
+    check "$1: $2" "echo '$1' >/tmp/settings; echo 2 >/sys/bus/usb/devices/usb1/authorized_default
+        /usr/libexec/usbguard-prepare -c /tmp/settings hubs && grep -x $2 /sys/bus/usb/devices/usb1/authorized_default"
+}
+hubs AuthorizedDefault=none 0
+hubs ' AuthorizedDefault = none ' 0
+hubs AuthorizedDefault=all 1
+hubs AuthorizedDefault=keep 2
+hubs AuthorizedDefault=internal 2
+hubs '#AuthorizedDefault=none' 2
+hubs RuleFile=none 2
+check "a hub that can't be written is told" 'mkdir -p /tmp/devices/usb1/authorized_default && echo AuthorizedDefault=none >/tmp/settings
+    ! /usr/libexec/usbguard-prepare -c /tmp/settings -d /tmp/devices hubs 2>/tmp/1 && grep -x "usbguard-prepare: can.t write 0 to /tmp/devices/usb1/authorized_default" /tmp/1'
+echo 1 >"$root/sys/bus/usb/devices/usb1/authorized_default"
+echo AuthorizedDefault=keep >"$root/tmp/settings"
+show 'timeout 3 usbguard daemon --conf /tmp/settings | head -n 3'
+check 'with keep a person is told that the hub is open' \
+    'timeout 3 usbguard daemon --conf /tmp/settings 2>&1 >/dev/null | grep -x "usbguard: root hubs that switch on what comes to them: 1\. .*"'
 show 'usbguard'
 show 'usbguard daemon --conf /etc/absent'
 

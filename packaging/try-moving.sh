@@ -134,6 +134,11 @@ guards() {
         'for i in 1 2 3 4 5 6 7 8 9; do journalctl -o cat -u usbguard | grep -q "^judged 2 1-1 allow rule 2" && exit; sleep 0.5; done; exit 1'
 }
 
+# hub VALUE WHEN: the root hub's authorized_default
+hub() {
+    check "$2 the root hub's authorized_default is $1" "grep -x $1 /sys/bus/usb/devices/usb1/authorized_default"
+}
+
 # policy: the original has rules for the devices that are there
 policy='usbguard generate-policy > /etc/usbguard/rules.conf; cp -p /etc/usbguard/rules.conf /root/rules; cp /etc/usbguard/usbguard-daemon.conf /root/settings'
 
@@ -145,6 +150,7 @@ show 'dpkg -i /root/package.deb'
 show 'systemctl is-enabled usbguard; systemctl is-active usbguard; journalctl -o cat -u usbguard | grep -v -e ^event -e ^end | tail -n 12'
 ours
 guards
+hub 0 'with the original'"'"'s AuthorizedDefault=none'
 check 'it is enabled still' 'systemctl is-enabled usbguard'
 check 'a root hub has its own hash in the rules, and nothing else is changed' \
     'diff /root/rules /etc/usbguard/rules.conf | grep -c "^>" | grep -qx 2'
@@ -155,16 +161,37 @@ echo "== An upgrade, which runs the new program"
 show 'systemctl show -p MainPID usbguard; dpkg -i /root/next.deb; systemctl show -p MainPID usbguard'
 ours
 guards
+hub 0 'behind it'
 check 'the program that runs is the one that is installed' \
     '[ "$(readlink /proc/$(systemctl show --value -p MainPID usbguard)/exe)" = /usr/bin/usbguard ]'
 check 'it is enabled still' 'systemctl is-enabled usbguard'
 
 echo
+echo "== A stop, a kill and a start that fails"
+show 'systemctl stop usbguard'
+hub 0 'behind a stop'
+run 'echo 1 >/sys/bus/usb/devices/usb1/authorized_default; echo Frob=1 >>/etc/usbguard/usbguard-daemon.conf'
+show 'systemctl start usbguard; systemctl is-active usbguard; journalctl -o cat -u usbguard | tail -n 4'
+check "the service doesn't run" '! systemctl is-active usbguard'
+hub 0 'behind a start that failed, before which it was 1,'
+run 'cp -p /root/settings /etc/usbguard/usbguard-daemon.conf; systemctl start usbguard'
+guards
+check 'the daemon tells its own write' 'journalctl -o cat -u usbguard | grep -x "wrote 1 usb1 default-off done"'
+run 'systemctl kill -s KILL usbguard; sleep 0.3'
+hub 0 'behind a kill'
+show 'for i in $(seq 20); do systemctl is-active usbguard && break; sleep 1; done'
+guards
+hub 0 'behind the start that follows it'
+
+echo
 echo "== Our package is removed, and installed again"
-show "dpkg -r $name; systemctl is-active usbguard; ls -l /etc/systemd/system/*/usbguard.service; ls /etc/usbguard"
+show "dpkg -r $name 2>&1 | tee /root/removal; systemctl is-active usbguard; ls -l /etc/systemd/system/*/usbguard.service; ls /etc/usbguard"
+hub 1 'behind the removal'
+check 'and the package has said so' 'grep "authorized_default of the root hubs is 1 again" /root/removal'
 show 'dpkg -i /root/package.deb'
 ours
 guards
+hub 0 'behind the installation'
 check 'it is enabled still' 'systemctl is-enabled usbguard'
 
 echo
@@ -199,6 +226,14 @@ ours
 check 'it is disabled still, and not started' '! systemctl is-enabled usbguard && ! systemctl is-active usbguard'
 show 'systemctl start usbguard; sleep 1; systemctl is-active usbguard'
 guards
+
+echo
+echo "== AuthorizedDefault=keep"
+run 'echo 1 >/sys/bus/usb/devices/usb1/authorized_default; sed -i "s/^AuthorizedDefault=.*/AuthorizedDefault=keep/" /etc/usbguard/usbguard-daemon.conf; systemctl restart usbguard'
+hub 1 'with keep'
+check 'the log says once what that means' 'journalctl -o cat -u usbguard | grep -c "root hubs that switch on what comes to them: 1" | grep -x 1'
+run 'cp -p /root/settings /etc/usbguard/usbguard-daemon.conf; systemctl restart usbguard'
+hub 0 'with none again'
 
 echo
 echo "== A rule file in another folder, as usbguard-daemon.conf(5) says"
