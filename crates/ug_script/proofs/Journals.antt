@@ -62,7 +62,7 @@ use Rattle.ug_script.specs.Grammar.{step_of_line}
 use Rattle.ug_script.specs.Setup.{Beside, SetupState, no_setup, one_line_more, beside_of, after_reading, policy_of, rules_disk, rules_from, rules_if_read, started, started_at, steps_of, with_rules}
 use Rattle.ug_script.specs.Script.{Script, Phase, fresh, takes_setup, has_started, closed_phase, with_setup_closed, daemon_by, daemon_in, disk_by, disk_in, can_start}
 use Rattle.ug_script.specs.Replay.{header, outcome_of, outcome_text, quiet, bad, line_added, with_devices, with_plan, with_played, with_restart, planned, Played, answered_by, answered_from, answered_of, begun_again, came_of, disk_of, event_from, event_of, finished, halted, in_script, left_played, restarted, stopped_of, stopped_text, taken, taken_if, tried_by, script_step}
-use Rattle.ug_script.specs.Laws.{StaysLawful}
+use Rattle.ug_script.specs.Laws.{calls_of, faults_of, StaysLawful}
 use Rattle.ug_script.specs.Journal.{happened_at, left_by, left_behind, EventsOfRuns, RunEnd, no_events, with_end, with_events, with_stop, runs_by, runs_after, runs_in, stop_of, text_to_stop, journals, journal_of, events_text, run_text, runs_text, text_of_runs, RunStart, first_start, HoldsAtStart, IsDaemonRun, EndedRun, AreSuccessive, JudgesOnce, is_quiet, AreQuiet, Recorded, StaysRecorded}
 use Rattle.ug_script.proofs.OnEntries.{event_on_entries}
 use Rattle.ug_script.proofs.Phases.{open_unstarted, closed_daemon, closed_disk, closed_started}
