@@ -267,6 +267,6 @@ module _ {Y D : Type 0} (sysfs : Sysfs.Ghosts Y) (disk : RuleDisk.Ghosts D)
 
 pub turns_serve : {Y D N W C : Type 0} (sysfs : Sysfs.Ghosts Y) (disk : RuleDisk.Ghosts D) (net : Links.Ghosts N) (wait : Waiter.Ghosts W) (ticks : Clock.Ghosts C) → TurnsServe sysfs disk net wait ticks
 turns_serve sysfs disk net wait ticks acl before s turns t none below can whole access h =
-    let start : AreSound (may_listen acl) before [] [] [] = record { accounts = tt; lines = tt; distinct = tt; known = tt; said_known = tt; handed_known = tt; calls_known = below } in
+    let start : AreSound (may_listen acl) before [] [] [] = record { accounts = tt; lines = tt; distinct = tt; known = tt; said_known = tt; handed_known = tt; calls_known = below; too_long = tt } in
     let served = turns_sound sysfs disk net wait ticks acl before s turns t [] [] whole access can h (subst (λ (ss : List Session). AreSound (may_listen acl) before [] [] ss) (sym none) start) in
     record { said = served.more; by_events = served.by_events; sound = served.sound }

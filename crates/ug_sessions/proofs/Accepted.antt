@@ -26,8 +26,9 @@ use Rattle.ug_sessions.specs.Handed.{bytes_read, lines_handed, AllLines, HoldsLi
 use Rattle.ug_sessions.proofs.LinesRead.{read-append}
 use Rattle.ug_sessions.specs.Tried.{is_tried}
 use Rattle.ug_sessions.proofs.Sends.{sent-append}
+use Rattle.ug_sessions.proofs.TooLong.{all_still}
 
-differs : (m n k : ℕ) → m < n → n ≤ k → nat_eq m k ≡ false
+pub differs : (m n k : ℕ) → m < n → n ≤ k → nat_eq m k ≡ false
 differs m n k a b = grind (arith, nat_tests)
 
 differs_round : (m n k : ℕ) → m < n → n ≤ k → nat_eq k m ≡ false
@@ -176,6 +177,7 @@ module _ (holds : Section → Named → Bool) (said : List Said) (handed : List 
         known = known_more (ids_end before) (ids_end (before ++ step ∷ [])) ss le h.known;
         said_known = said_more (ids_end before) (ids_end (before ++ step ∷ [])) said le h.said_known;
         calls_known = calls_more (ids_end before) (ids_end (before ++ step ∷ [])) (before ++ step ∷ []) le (calls_behind (ids_end before) before step h.calls_known (quiet_call (ids_end before) step q));
+        too_long = all_still before (step ∷ []) said h.too_long;
       }
 
   accounts_behind : (steps : List LinkStep) (ss : List Session) (t : Session) → AllAccounts holds steps said ss → Accounts (said_all holds t.id t.principal nothing_due said) (sent_to t.id steps) t → AllAccounts holds steps said (ss ++ t ∷ [])
@@ -201,6 +203,7 @@ module _ (holds : Section → Named → Bool) (said : List Said) (handed : List 
         lines = lines_behind steps ss (new_session id p) k.lines (subst (λ (l : List (List ℕ)). HoldsLines l (bytes_read id steps) (new_session id p)) (sym (none_handed (ids_end before) id handed le h.handed_known)) (subst (λ (l : List ℕ). HoldsLines [] l (new_session id p)) (sym (none_read (ids_end before) id steps le (calls_behind (ids_end before) before step h.calls_known tt))) (record { lines = refl; begun = refl; limit = refl })));
         handed_known = k.handed_known;
         calls_known = k.calls_known;
+        too_long = k.too_long;
       }
 
   abbrev Sound : List LinkStep → List Session → Type 0

@@ -11,7 +11,7 @@ use Rattle.ug_sessions.specs.Sessions.{is_open_session}
 use Rattle.ug_sessions.specs.Answering.{Each, AnswersOne, WatchesOne, GivesUpOne, NoticesOne, is_due, with_none_left, HandsFirst, Passes}
 use Rattle.ug_sessions.specs.Due.{AllAccounts, IsNoneOf, HaveOwnIds, Said, Answered, Watched, Noticed, Overlong, overlong_all}
 use Rattle.ug_sessions.specs.Handed.{bytes_read, HoldsLines, lines_handed, AllLines}
-use Rattle.ug_sessions.specs.Known.{AreKnown, AreSaidBelow, AreHandedBelow, AreSound}
+use Rattle.ug_sessions.specs.Known.{AreKnown, AreSaidBelow, AreHandedBelow, AreLinesTooLong, AreSound}
 use Rattle.ug_sessions.proofs.Each.{each_append}
 use Rattle.ug_sessions.proofs.Sends.{own}
 use Rattle.ug_sessions.proofs.Owning.{Who}
@@ -20,6 +20,7 @@ use Rattle.ug_sessions.proofs.Saying.{untold_if}
 use Rattle.ug_sessions.proofs.Everyone.{each_keeps, answers_keep, watches_keep, notices_keep, who_answers, who_watches, who_notices}
 use Rattle.ug_sessions.proofs.Handings.{hands_keep, passes_keep, gives_up_keep, who_passes, who_gives, Apart, distinct_split}
 use Rattle.ug_sessions.proofs.LinesKept.{answer_lines, watch_lines, notice_lines, give_up_lines, pass_lines, hand_lines}
+use Rattle.ug_sessions.proofs.TooLong.{long_append, overlongs_long}
 use Rattle.ug_sessions.proofs.Sound.{SameIds, none_same, distinct_same, known_same}
 
 -- a session keeps its id and its lines
@@ -95,8 +96,8 @@ module _ (holds : Section → Named → Bool) (steps : List LinkStep) (said : Li
   abbrev n : ℕ
   n = ids_end steps
 
-  each_sound : (R : Session → Session → Type 0) (more : List Said) (h : (s t : Session) → R s t → Stands s t) (ss ts : List Session) → Each R ss ts → AreSaidBelow n more → AllAccounts holds steps (said ++ more) ts → AreSound holds steps said handed ss → AreSound holds steps (said ++ more) handed ts
-  each_sound R more h ss ts e m a k = record {
+  each_sound : (R : Session → Session → Type 0) (more : List Said) (h : (s t : Session) → R s t → Stands s t) (ss ts : List Session) → Each R ss ts → AreSaidBelow n more → AreLinesTooLong steps more → AllAccounts holds steps (said ++ more) ts → AreSound holds steps said handed ss → AreSound holds steps (said ++ more) handed ts
+  each_sound R more h ss ts e m l a k = record {
     accounts = a;
     lines = each_lines steps handed R h ss ts e k.lines;
     distinct = distinct_same ss ts (each_ids R h ss ts e) k.distinct;
@@ -104,33 +105,34 @@ module _ (holds : Section → Named → Bool) (steps : List LinkStep) (said : Li
     said_known = said_append n said more k.said_known m;
     handed_known = k.handed_known;
     calls_known = k.calls_known;
+    too_long = long_append steps said more k.too_long l;
   }
 
   pub answers_sound : (id : LinkId) (text : List ℕ) (ss ts : List Session) → id.0 < ids_end steps → Each (AnswersOne id text) ss ts → AreSound holds steps said handed ss → AreSound holds steps (said ++ Answered id text ∷ []) handed ts
   answers_sound id text ss ts lt e k =
-      each_sound (AnswersOne id text) (Answered id text ∷ []) (λ s t p. (ap (λ (w : Who). w.id) (who_answers (nat_eq s.id.0 id.0) s text t p), λ hs bytes h. answer_lines (nat_eq s.id.0 id.0) hs bytes text s t p h)) ss ts e (lt, tt) (answers_keep holds steps said id text ss ts e k.accounts) k
+      each_sound (AnswersOne id text) (Answered id text ∷ []) (λ s t p. (ap (λ (w : Who). w.id) (who_answers (nat_eq s.id.0 id.0) s text t p), λ hs bytes h. answer_lines (nat_eq s.id.0 id.0) hs bytes text s t p h)) ss ts e (lt, tt) tt (answers_keep holds steps said id text ss ts e k.accounts) k
 
   pub watches_sound : (id : LinkId) (ss ts : List Session) → id.0 < ids_end steps → Each (WatchesOne id) ss ts → AreSound holds steps said handed ss → AreSound holds steps (said ++ Watched id ∷ []) handed ts
   watches_sound id ss ts lt e k =
-      each_sound (WatchesOne id) (Watched id ∷ []) (λ s t p. (ap (λ (w : Who). w.id) (who_watches (nat_eq s.id.0 id.0) s t p), λ hs bytes h. watch_lines (nat_eq s.id.0 id.0) hs bytes s t p h)) ss ts e (lt, tt) (watches_keep holds steps said id ss ts e k.accounts) k
+      each_sound (WatchesOne id) (Watched id ∷ []) (λ s t p. (ap (λ (w : Who). w.id) (who_watches (nat_eq s.id.0 id.0) s t p), λ hs bytes h. watch_lines (nat_eq s.id.0 id.0) hs bytes s t p h)) ss ts e (lt, tt) tt (watches_keep holds steps said id ss ts e k.accounts) k
 
   pub notices_sound : (section : Section) (text : List ℕ) (ss ts : List Session) → Each (NoticesOne (holds section) text) ss ts → AreSound holds steps said handed ss → AreSound holds steps (said ++ Noticed section text ∷ []) handed ts
   notices_sound section text ss ts e k =
-      each_sound (NoticesOne (holds section) text) (Noticed section text ∷ []) (λ s t p. (ap (λ (w : Who). w.id) (who_notices (cond s.watch (holds section s.principal) false) s text t p), λ hs bytes h. notice_lines (cond s.watch (holds section s.principal) false) hs bytes text s t p h)) ss ts e (tt, tt) (notices_keep holds steps said section text ss ts e k.accounts) k
+      each_sound (NoticesOne (holds section) text) (Noticed section text ∷ []) (λ s t p. (ap (λ (w : Who). w.id) (who_notices (cond s.watch (holds section s.principal) false) s text t p), λ hs bytes h. notice_lines (cond s.watch (holds section s.principal) false) hs bytes text s t p h)) ss ts e (tt, tt) tt (notices_keep holds steps said section text ss ts e k.accounts) k
 
   pub gives_up_sound : (id : LinkId) (ss ts : List Session) → Each (GivesUpOne id) ss ts → AreSound holds steps said handed ss → AreSound holds steps said handed ts
   gives_up_sound id ss ts e k =
       subst (λ (l : List Said). AreSound holds steps l handed ts) (append-nil said)
-      (each_sound (GivesUpOne id) [] (λ s t p. (ap (λ (w : Who). w.id) (who_gives holds steps (nat_eq s.id.0 id.0) (is_open_session s) s t p), λ hs bytes h. give_up_lines (nat_eq s.id.0 id.0) hs bytes s t p h)) ss ts e tt (subst (λ (l : List Said). AllAccounts holds steps l ts) (sym (append-nil said)) (gives_up_keep holds steps said id ss ts e k.accounts)) k)
+      (each_sound (GivesUpOne id) [] (λ s t p. (ap (λ (w : Who). w.id) (who_gives holds steps (nat_eq s.id.0 id.0) (is_open_session s) s t p), λ hs bytes h. give_up_lines (nat_eq s.id.0 id.0) hs bytes s t p h)) ss ts e tt tt (subst (λ (l : List Said). AllAccounts holds steps l ts) (sym (append-nil said)) (gives_up_keep holds steps said id ss ts e k.accounts)) k)
 
   -- a session that is given up for its reply
   pub untold_sound : (id : LinkId) (text : List ℕ) (ss ts : List Session) → id.0 < ids_end steps → Each (GivesUpOne id) ss ts → AreSound holds steps said handed ss → AreSound holds steps (said ++ Answered id text ∷ []) handed ts
   untold_sound id text ss ts lt e k =
-      each_sound (GivesUpOne id) (Answered id text ∷ []) (λ s t p. (ap (λ (w : Who). w.id) (who_gives holds steps (nat_eq s.id.0 id.0) (is_open_session s) s t p), λ hs bytes h. give_up_lines (nat_eq s.id.0 id.0) hs bytes s t p h)) ss ts e (lt, tt)
+      each_sound (GivesUpOne id) (Answered id text ∷ []) (λ s t p. (ap (λ (w : Who). w.id) (who_gives holds steps (nat_eq s.id.0 id.0) (is_open_session s) s t p), λ hs bytes h. give_up_lines (nat_eq s.id.0 id.0) hs bytes s t p h)) ss ts e (lt, tt) tt
       (each_keeps holds steps said (Answered id text) (GivesUpOne id) (λ s t p. (who_gives holds steps (nat_eq s.id.0 id.0) (is_open_session s) s t p, λ a sent h. untold_if (nat_eq s.id.0 id.0) a text sent s t p h)) ss ts e k.accounts) k
 
   pub passes_sound : (ss ts : List Session) → Each Passes ss ts → AreSound holds steps said handed ss → AreSound holds steps (said ++ overlong_all ss) handed ts
-  passes_sound ss ts e k = each_sound Passes (overlong_all ss) (pass_stands holds steps) ss ts e (overlong_known n ss k.known) (passes_keep holds steps said ss ts k.distinct e k.accounts) k
+  passes_sound ss ts e k = each_sound Passes (overlong_all ss) (pass_stands holds steps) ss ts e (overlong_known n ss k.known) (overlongs_long steps handed ss k.lines) (passes_keep holds steps said ss ts k.distinct e k.accounts) k
 
   apart_none : (a : List Session) (s : Session) (b : List Session) → Apart holds steps a (s ∷ b) → IsNoneOf s.id a
   apart_none [] s b p = tt
@@ -164,4 +166,5 @@ module _ (holds : Section → Named → Bool) (steps : List LinkStep) (said : Li
         said_known = said_append n said (overlong_all h.front) k.said_known (overlong_known n h.front known.0);
         handed_known = handed_append n handed ((id, line) ∷ []) k.handed_known (subst (λ (i : LinkId). i.0 < n) (sym h.its_id) known.1.0, tt);
         calls_known = k.calls_known;
+        too_long = long_append steps said (overlong_all h.front) k.too_long (overlongs_long steps handed h.front lines.0);
       }

@@ -17,14 +17,14 @@ use Rattle.ug_sessions.specs.Reading.{closing_doomed}
 use Rattle.ug_sessions.proofs.LinesRead.{closing_id}
 use Rattle.ug_sessions.specs.Sending.{after_writing, writing_if, writing_some, is_served, finish_ended, finish_refused, finish_open, finish_sent, finishing, sending_if, flushing_one, EndsWaiting}
 
-empty_of : (xs : List ℕ) → length xs ≤ 0 → xs ≡ []
+pub empty_of : (xs : List ℕ) → length xs ≤ 0 → xs ≡ []
 empty_of [] le = refl
 empty_of (x ∷ xs) le = let none : ⊥ = omega (arith, le) in absurd none
 
-positive : (n : ℕ) → nat_eq n 0 ≡ false → 0 < n
+pub positive : (n : ℕ) → nat_eq n 0 ≡ false → 0 < n
 positive n e = grind (arith, nat_tests)
 
-zero_of : (n : ℕ) → nat_eq n 0 ≡ true → n ≤ 0
+pub zero_of : (n : ℕ) → nat_eq n 0 ≡ true → n ≤ 0
 zero_of n e = grind (arith, nat_tests)
 
 -- nothing is unsent, or the last call waits
@@ -77,7 +77,7 @@ some_writes : (s : Session) (t : Turn) (before steps : List LinkStep) (r : Bool 
 unfolding writing_some
 some_writes s t before steps r a h = write_writes (nat_eq (length s.unsent) 0) s t before steps r refl a h
 
-steps_apart : (before a b : List LinkStep) → AreSteps before (a ++ b) → AreSteps before a × AreSteps (before ++ a) b
+pub steps_apart : (before a b : List LinkStep) → AreSteps before (a ++ b) → AreSteps before a × AreSteps (before ++ a) b
 steps_apart before [] b h = (tt, subst (λ (l : List LinkStep). AreSteps l b) (sym (append-nil before)) h)
 steps_apart before (x ∷ a) b h =
     let k = steps_apart (before ++ x ∷ []) a b h.1 in

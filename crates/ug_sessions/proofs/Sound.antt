@@ -29,6 +29,7 @@ use Rattle.ug_sessions.proofs.ReadKeeps.{one_stays, reading_keeps}
 use Rattle.ug_sessions.proofs.LinesRead.{closing_id}
 use Rattle.ug_sessions.proofs.Lists.{flushing_keeps}
 use Rattle.ug_sessions.specs.Handed.{AllLines}
+use Rattle.ug_sessions.proofs.TooLong.{all_still}
 use Rattle.ug_sessions.proofs.LinesOfAll.{reading_lines, flushing_lines}
 use Rattle.ug_sessions.proofs.Accepted.{ids_behind, known_more, said_more, handed_more, calls_more}
 
@@ -97,6 +98,7 @@ module _ (f : Session → Turn → Talk (Session × Turn)) (same : (s : Session)
         known = known_more n m r.0 le (known_same n ss r.0 ids k.known);
         said_known = said_more n m said le k.said_known;
         calls_known = calls_more n m (before ++ steps) le (calls_append n before steps k.calls_known (calls_walk n [] ss t steps r k.known h));
+        too_long = all_still before steps said k.too_long;
       }
 
 read_calls : (n : ℕ) (ready : List Ready) (s : Session) (steps : List LinkStep) → s.id.0 < n → AllRead (One ready s) steps → AreCallsBelow n steps
@@ -236,4 +238,5 @@ module _ (keep : Session → Bool) where
     known = some_known (ids_end steps) ss k.known;
     said_known = k.said_known;
     calls_known = k.calls_known;
+    too_long = k.too_long;
   }

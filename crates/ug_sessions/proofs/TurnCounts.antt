@@ -4,9 +4,8 @@ use Rattle.std.proofs.lemmas.List.{append-nil}
 use Rattle.std.proofs.lemmas.Bool.Decides.{nat_tests}
 use Rattle.ug_types.specs.declared.waiter.Ready.{Ready}
 use Rattle.ug_links.specs.declared.step.LinkStep.{LinkStep}
-use Rattle.ug_links.specs.Talk.{Return, Path, Talks, Makes, and_then}
+use Rattle.ug_links.specs.Talk.{Return, Path, and_then}
 use Rattle.ug_links.proofs.Paths.{path_split}
-use Rattle.ug_links.proofs.Told.{path_made}
 use Rattle.ug_sessions.specs.declared.session.Session.{Session}
 use Rattle.ug_sessions.specs.declared.session.Listener.{Listener}
 use Rattle.ug_sessions.specs.declared.session.Turn.{Turn}
@@ -70,9 +69,3 @@ by_count false ready v steps r e h = inl (listeners_count ready v steps r h)
 pub turn_counts : (ready : List Ready) (v : ServerState) (steps : List LinkStep) (r : ServerState × Turn) → Path (turning ready v) steps r → CountsTurn ready v steps r.0 r.1
 unfolding turning
 turn_counts ready v steps r h = by_count (nat_lt (length v.listeners) (length v.principals)) ready v steps r refl h
-
--- the same of a run over any links
-pub run_counts : {S : Type 0} (gives : S → LinkStep → S → Type 0) (ready : List Ready) (v : ServerState) (s : S) (u : ServerState) (counts : Turn) (t : S) → Talks gives s (turning ready v) (u, counts) t → (steps : List LinkStep) × Makes gives s steps t × CountsTurn ready v steps u counts
-run_counts gives ready v s u counts t h =
-    let p = path_made gives s (turning ready v) (u, counts) t h in
-    (p.0, p.2, turn_counts ready v p.0 (u, counts) p.1)

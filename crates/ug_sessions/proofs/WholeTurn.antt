@@ -27,7 +27,7 @@ module _ (holds : Section → Named → Bool) (said : List Said) (handed : List 
   nothing_more : (before steps : List LinkStep) (ss ts : List Session) → steps ≡ [] → ts ≡ ss → AreSound holds before said handed ss → AreSound holds (before ++ steps) said handed ts
   nothing_more before steps ss ts e f k = subst (λ (l : List LinkStep). AreSound holds (before ++ l) said handed ts) (sym e) (subst (λ (l : List LinkStep). AreSound holds l said handed ts) (sym (append-nil before)) (subst (λ (l : List Session). AreSound holds before said handed l) (sym f) k))
 
-  accepting_keeps : (ready : List Ready) (before : List LinkStep) (ls : List Listener) (x : List Session × Turn) (steps : List LinkStep) (r : List Listener × (List Session × Turn)) → AreSteps before steps → Path (accepting_all ready ls x) steps r → AreSound holds before said handed x.0 → AreSound holds (before ++ steps) said handed r.1.0
+  pub accepting_keeps : (ready : List Ready) (before : List LinkStep) (ls : List Listener) (x : List Session × Turn) (steps : List LinkStep) (r : List Listener × (List Session × Turn)) → AreSteps before steps → Path (accepting_all ready ls x) steps r → AreSound holds before said handed x.0 → AreSound holds (before ++ steps) said handed r.1.0
   unfolding accepting_all
   accepting_keeps ready before ls x steps r a h k = accepts_sound holds said handed ready before [] ls x steps r a h k
 
@@ -35,7 +35,7 @@ module _ (holds : Section → Named → Bool) (said : List Said) (handed : List 
   unfolding reading_all
   reading_keeps ready before ss t steps r h k = reading_sound holds before said handed ready ss t steps r h k
 
-  flushing_keeps : (before : List LinkStep) (ss : List Session) (t : Turn) (steps : List LinkStep) (r : List Session × Turn) → Path (flushing_all ss t) steps r → AreSound holds before said handed ss → AreSound holds (before ++ steps) said handed r.0
+  pub flushing_keeps : (before : List LinkStep) (ss : List Session) (t : Turn) (steps : List LinkStep) (r : List Session × Turn) → Path (flushing_all ss t) steps r → AreSound holds before said handed ss → AreSound holds (before ++ steps) said handed r.0
   unfolding flushing_all
   flushing_keeps before ss t steps r h k = flushing_sound holds before said handed ss t steps r h k
 

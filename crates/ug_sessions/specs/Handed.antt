@@ -1,5 +1,5 @@
 -- The lines of a session: those that were handed out, and those that wait.
-use Rattle.std.specs.Prelude.{◌≡◌, ℕ, List, [], ◌∷◌, ◌++◌, cond, nat_eq}
+use Rattle.std.specs.Prelude.{◌≡◌, ℕ, List, [], ◌∷◌, ◌++◌, true, cond, nat_eq}
 use Rattle.ug_types.specs.declared.waiter.LinkId.{LinkId}
 use Rattle.ug_links.specs.declared.step.LinkStep.{LinkStep}
 use Rattle.ug_links.specs.declared.step.LinkStep.TheVariants.{ReadFrom}
@@ -46,6 +46,10 @@ AreLinesBy (life.Closed w) handed bytes s = AreLinesFor w handed bytes s
 -- of a session these lines were handed out, and these bytes were read
 abbrev pub HoldsLines : List (List ℕ) → List ℕ → Session → Type 0
 HoldsLines handed bytes s = AreLinesBy s.life handed bytes s
+
+-- 65,536 bytes without a newline were read of the session
+abbrev pub IsLineTooLong : LinkId → List LinkStep → Type 0
+IsLineTooLong id steps = is_overlong (begun_after (Partial []) (bytes_read id steps)) ≡ true
 
 -- the lines that were handed out of a session, among all that were, each with its session
 abbrev pub lines_handed : LinkId → List (LinkId × List ℕ) → List (List ℕ)

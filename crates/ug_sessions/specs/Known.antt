@@ -7,7 +7,7 @@ use Rattle.ug_links.specs.declared.step.LinkStep.{LinkStep}
 use Rattle.ug_links.specs.declared.step.LinkStep.TheVariants.{ReadFrom, WroteTo}
 use Rattle.ug_links.specs.Steps.{ids_end}
 use Rattle.ug_sessions.specs.declared.session.Session.{Session}
-use Rattle.ug_sessions.specs.Handed.{AllLines}
+use Rattle.ug_sessions.specs.Handed.{AllLines, IsLineTooLong}
 use Rattle.ug_sessions.specs.Due.{Said, Answered, Watched, Noticed, Overlong, AllAccounts, HaveOwnIds}
 
 -- each session has an id below this number
@@ -41,8 +41,16 @@ abbrev pub AreHandedBelow : ℕ → List (LinkId × List ℕ) → Type 0
 AreHandedBelow n [] = Unit {0}
 AreHandedBelow n (h ∷ hs) = (h.0.0 < n) × AreHandedBelow n hs
 
+-- each session that was told so has a line that is too long
+abbrev pub AreLinesTooLong : List LinkStep → List Said → Type 0
+AreLinesTooLong steps [] = Unit {0}
+AreLinesTooLong steps (Answered id text ∷ said) = AreLinesTooLong steps said
+AreLinesTooLong steps (Watched id ∷ said) = AreLinesTooLong steps said
+AreLinesTooLong steps (Noticed section text ∷ said) = AreLinesTooLong steps said
+AreLinesTooLong steps (Overlong id ∷ said) = IsLineTooLong id steps × AreLinesTooLong steps said
+
 -- each session has its account and its lines, no two have one id, and all that was said, handed out and called is of sessions
--- that were accepted
+-- that were accepted; and who was told that a line is too long has such a line
 pub record AreSound (holds : Section → Named → Bool) (steps : List LinkStep) (said : List Said) (handed : List (LinkId × List ℕ)) (sessions : List Session) : Type 0 where
   pub accounts : AllAccounts holds steps said sessions
   pub lines : AllLines steps handed sessions
@@ -51,3 +59,4 @@ pub record AreSound (holds : Section → Named → Bool) (steps : List LinkStep)
   pub said_known : AreSaidBelow (ids_end steps) said
   pub handed_known : AreHandedBelow (ids_end steps) handed
   pub calls_known : AreCallsBelow (ids_end steps) steps
+  pub too_long : AreLinesTooLong steps said

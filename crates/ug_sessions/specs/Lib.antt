@@ -5,11 +5,14 @@ pub mod Counting
 pub mod Due
 pub mod Handed
 pub mod Known
+pub mod LastAnswers
 pub mod Reading
+pub mod Rounds
 pub mod Sending
 pub mod Serving
 pub mod Sessions
 pub mod States
+pub mod Tied
 pub mod Tokens
 pub mod Tried
 pub mod Waiting

@@ -17,6 +17,7 @@ ghost use Rattle.ug_sessions.specs.declared.session.Session.{Session};
 ghost use Rattle.ug_sessions.specs.declared.session.Turn.{Turn};
 ghost use Rattle.ug_sessions.specs.Due.{Dues, over_due, Accounts, Answered, Watched, Noticed, Said, said_one, sent_to, overlong_all, AllAccounts, HaveOwnIds};
 ghost use Rattle.ug_sessions.specs.Answering.{Each, RefusesIf, is_due, AnswersOne, WatchesOne, NoticesOne, GivesUpOne, HandsOne, HandsFirst, Passes};
+ghost use Rattle.ug_sessions.specs.Tied.{AcceptsNone, AreTied, Flushes, IsTied, IsWhose, TriesDue};
 ghost use Rattle.ug_sessions.specs.Waiting.{lines_waiting};
 ghost use Rattle.ug_sessions.specs.Accepting.{accepting_all};
 ghost use Rattle.ug_sessions.specs.Arriving.{AreArrivals, CountsTurn};
@@ -241,6 +242,45 @@ pub fn calls_keep_all()
         (id : LinkId) (ss ts : List Session)
         → Each (GivesUpOne id) ss ts
         → AreSound holds steps said handed ss → AreSound holds steps said handed ts }
+{}
+
+/// Whatever calls were made before: a turn tries each listener and each session that is named or is owed a try by the last answer, up
+/// to its limit, and no other. A flush writes to each open session until all is sent, or its link isn't ready or fails, and closes it
+/// just where its link failed, or where all is sent and it is done for. Every call leaves each session its listener's principal's,
+/// and what is owed and ended what the last answers say; a line is handed out for the principal at whose listener its session came.
+pub fn calls_keep_tied()
+    ensures begins { (calls : List LinkStep) (v : ServerState)
+        → v.listeners ≡ [] → v.sessions ≡ [] → AcceptsNone calls → IsTied calls v }
+    ensures turns { (holds : Section → Named → Bool) (said : List Said)
+        (handed : List (LinkId × List ℕ)) (ready : List Ready)
+        (calls : List LinkStep) (v : ServerState) (steps : List LinkStep) (r : ServerState × Turn)
+        → AreSteps calls steps → AreSound holds calls said handed v.sessions → IsTied calls v
+        → Path (turning ready v) steps r
+        → TriesDue ready calls v steps r.0 × IsTied (calls ++ steps) r.0 }
+    ensures flushes { (calls : List LinkStep) (v : ServerState) (steps : List LinkStep)
+        (r : ServerState × Turn)
+        → AreSteps calls steps → IsTied calls v → Path (flushing v) steps r
+        → Flushes calls v steps r.0 r.1 × IsTied (calls ++ steps) r.0 }
+    ensures hands { (principals : List Named) (calls : List LinkStep) (ss ts : List Session)
+        (id : LinkId) (principal : Named) (line : List ℕ)
+        → HandsFirst ss id principal line ts → AreTied principals calls ss
+        → IsWhose principals calls id principal × AreTied principals calls ts }
+    ensures passes { (principals : List Named) (calls : List LinkStep) (ss ts : List Session)
+        → Each Passes ss ts → AreTied principals calls ss → AreTied principals calls ts }
+    ensures answers { (principals : List Named) (calls : List LinkStep) (id : LinkId)
+        (text : List ℕ) (ss ts : List Session)
+        → Each (AnswersOne id text) ss ts
+        → AreTied principals calls ss → AreTied principals calls ts }
+    ensures watches { (principals : List Named) (calls : List LinkStep) (id : LinkId)
+        (ss ts : List Session)
+        → Each (WatchesOne id) ss ts → AreTied principals calls ss → AreTied principals calls ts }
+    ensures notices { (principals : List Named) (calls : List LinkStep) (holds : Named → Bool)
+        (text : List ℕ) (ss ts : List Session)
+        → Each (NoticesOne holds text) ss ts
+        → AreTied principals calls ss → AreTied principals calls ts }
+    ensures gives_up { (principals : List Named) (calls : List LinkStep) (id : LinkId)
+        (ss ts : List Session)
+        → Each (GivesUpOne id) ss ts → AreTied principals calls ss → AreTied principals calls ts }
 {}
 
 /// Where sessions are read, and where they are flushed, the counts are those before and one more for each session whose link is

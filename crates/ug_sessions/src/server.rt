@@ -4,6 +4,7 @@ ghost use Rattle.ug_links.specs.declared.step.LinkStep.{LinkStep};
 ghost use Rattle.ug_links.specs.Talk.{Makes, Talks};
 ghost use Rattle.ug_sessions.specs.Arriving.{CountsTurn};
 ghost use Rattle.ug_sessions.specs.Serving.{turning, turning_listeners, flushing};
+ghost use Rattle.ug_sessions.specs.Tied.{FlushWrites, TurnTries};
 ghost use Rattle.ug_sessions.specs.Answering.{Each, AnswersOne, WatchesOne, GivesUpOne, NoticesOne, HandsNext, may_listen};
 
 use crate::accept::{accept_kept, list_listeners};
@@ -88,7 +89,8 @@ impl Server {
         ensures talks { Talks N.gives links.old (turning ready.now self.old) (self.new, result)
             links.new }
         ensures counted { (steps : List LinkStep) × Makes N.gives links.old steps links.new
-            × CountsTurn ready.now self.old steps self.new result }
+            × CountsTurn ready.now self.old steps self.new result
+            × TurnTries ready.now self.old steps self.new }
     {
         self.try_all(ready, links)
     }
@@ -164,6 +166,14 @@ impl Server {
 
     /// Sends each session's unsent bytes, as far as its link takes them, and closes those to which nothing more is due.
     pub fn flush<N: Links>(&mut self, links: &mut N) -> Turn
+        ensures talks { Talks N.gives links.old (flushing self.old) (self.new, result) links.new }
+        ensures writes { (steps : List LinkStep) × Makes N.gives links.old steps links.new
+            × FlushWrites self.old steps self.new result }
+    {
+        self.send_all(links)
+    }
+
+    fn send_all<N: Links>(&mut self, links: &mut N) -> Turn
         ensures { Talks N.gives links.old (flushing self.old) (self.new, result) links.new }
     {
         let mut turn = Turn::new();

@@ -34,7 +34,7 @@ returns-then-not-serve_events-clause-turn g c =
 pub returns-clause-turn : goal.returns-clause-turn
 returns-clause-turn g c =
     let came = path_made g.N.Links.gives _ _ _ _ c.turn-came.ensures.talks in
-    let sent = path_made g.N.Links.gives _ _ _ _ c.flush-sent.ensures in
+    let sent = path_made g.N.Links.gives _ _ _ _ c.flush-sent.ensures.talks in
     let events = c.serve_events.ensures in (
       record { tokens = take c.in-Got.count c.wait.new.into; moment = c.now-moment.result; comes = came.0; events = events.0; sends = sent.0; whole = true },
       record {

@@ -3,7 +3,7 @@ use Rattle.ug_sessions.proofs.AllKept.{hands_sound, passes_sound, answers_sound,
 use Rattle.ug_sessions.proofs.laws.calls_keep_all.Goals as goal
 
 pub returns-clause-begins : goal.returns-clause-begins
-returns-clause-begins c = λ holds steps k. record { accounts = tt; lines = tt; distinct = tt; known = tt; said_known = tt; handed_known = tt; calls_known = k }
+returns-clause-begins c = λ holds steps k. record { accounts = tt; lines = tt; distinct = tt; known = tt; said_known = tt; handed_known = tt; calls_known = k; too_long = tt }
 
 pub returns-clause-turns : goal.returns-clause-turns
 returns-clause-turns c = turn_keeps

@@ -1,5 +1,5 @@
-use Rattle.ug_sessions.proofs.Served.{flushed}
+use Rattle.ug_sessions.proofs.TiedAll.{run_writes}
 use Rattle.ug_sessions.proofs.server.Server.flush.Goals as goal
 
-pub returns : goal.returns
-returns g c = flushed g.N.Links.gives c.args.links.now c.flush_kept.new.links c.args.self.now c.self.inside.principals.items c.self.inside.listeners.items c.self.inside.sessions.items c.flush_kept.new.sessions.items c.forget.new.sessions.items c.new-turn.result c.flush_kept.new.turn c.self.view_is c.new-turn.ensures c.forget.ensures c.flush_kept.ensures
+pub returns-clause-writes : goal.returns-clause-writes
+returns-clause-writes g c = run_writes g.N.Links.gives c.args.self.now c.args.links.now c.send_all.new.self c.send_all.result c.send_all.new.links c.send_all.ensures
