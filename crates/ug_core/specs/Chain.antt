@@ -211,8 +211,8 @@ pub record IsExplained (hub : Option Write) (policy : Judging) (hs : List Happen
   pub decided : WasDecided policy hs steps k effect.device decision
 
 -- What a log gained, by the entries since, both in their order: an effect for each write that is
--- told to have had one, and for no other but one that failed, which may have had its effect. Each is
--- explained where its intent stands.
+-- told to have had one, and for no other but one that failed, which may have had its effect. Each
+-- is explained where its intent stands.
 pub data Explains (hub : Option Write) (policy : Judging) (hs : List Happened)
     (steps : List PolicyStep) (k : Kernel) : List Entry → List Effect → Type 0 where
   Nothing_told : Explains hub policy hs steps k [] []

@@ -192,9 +192,9 @@ IsInForce p (Some change) stored.NotNeeded = CanChange change p.rules × (is_sav
 IsInForce p (Some change) stored.Done = CanChange change p.rules × (is_saved change p.rules ≡ true)
 IsInForce p (Some change) became = ⊥
 
--- What an ordered verdict leaves, by what came of it. Where the reply tells of want of memory behind
--- the verdict, a removal wanted it, so the verdict is Reject. The standing of that number is marked
--- as it was brought to the verdict, and the others are as they were.
+-- What an ordered verdict leaves, by what came of it. Where the reply tells of want of memory
+-- behind the verdict, a removal wanted it, so the verdict is Reject. The standing of that number is
+-- marked as it was brought to the verdict, and the others are as they were.
 pub record LeavesVerdict (number : ℕ) (verdict : Target) (before after : List Standing)
     (how : Settled) (said : Option Reply) : Type 0 where
   pub wanting : said ≡ Some (replies.Refused (refusal.Memory true)) → verdict ≡ target.Reject

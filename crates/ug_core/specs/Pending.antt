@@ -1,4 +1,4 @@
--- When a save that is pending is tried, what is told of saves, and whether one is pending behind an event.
+-- When a pending save is tried, what is told of saves, and whether one is pending behind an event.
 use Rattle.std.specs.Prelude.{◌≡◌, Bool, true, false, List, [], ◌∷◌, ◌++◌, Option, Some, None, is_some}
 use Rattle.ug_types.specs.declared.saved.Saved.{Saved}
 use Rattle.ug_types.specs.declared.saved.Saved.TheVariants as saved
@@ -28,8 +28,8 @@ abbrev pub saves_tried : Option Saved → List Saved
 saves_tried None = []
 saves_tried (Some saved) = saved ∷ []
 
--- Whether a save is pending then: the last one that was done or failed decides, and an order's comes
--- behind a pending one. Where neither was, it is as before.
+-- Whether a save is pending then: the last one that was done or failed decides, and that of an order
+-- comes behind a pending one. Where neither was, it is as before.
 abbrev pub IsPendingThen : Option Saved → Stored → Bool → Bool → Type 0
 IsPendingThen tried stored.Done was now = now ≡ false
 IsPendingThen tried (stored.Failed count) was now = now ≡ true
@@ -40,7 +40,8 @@ IsPendingThen None became was now = now ≡ was
 
 -- A save is tried before all else exactly where one was pending. What became of it stands directly
 -- behind the event's first entry, and of saves nothing else is told but that of the order.
-pub record TriesSave (event : Event) (tried : Option Saved) (became : Stored) (d e : DaemonState) : Type 0 where
+pub record TriesSave (event : Event) (tried : Option Saved) (became : Stored)
+    (d e : DaemonState) : Type 0 where
   pub when : is_some tried ≡ d.pending
   pub rest : List Entry
   pub told : e.sweep.entries ≡ first_entry d.event event ∷ rest
