@@ -86,6 +86,9 @@ if_whose false all n who arrivals calls e h f = subst (λ (l : List Arrival). Ar
 one_behind : (n k : ℕ) → (n + 1) + k ≡ n + suc k
 one_behind n k = omega arith
 
+from_none : (k : ℕ) → 0 + k ≡ k
+from_none k = omega arith
+
 none_behind : (n : ℕ) → n + zero ≡ n
 none_behind n = omega arith
 
@@ -263,7 +266,7 @@ module _ (holds : Section → Named → Bool) (said : List Said) (handed : List 
       let reads : ReadsSessions ready (calls ++ accepts) (v.sessions ++ more) q.front read.0 = subst (λ (l : List Session). ReadsSessions ready (calls ++ accepts) l q.front read.0) took.sessions read.2 in
       let all_whose : AreWhose v.principals (calls ++ steps) (v.sessions ++ more) =
       whose_append v.principals (calls ++ steps) v.sessions more (whose_more v.principals calls steps v.sessions whose)
-      (tries_whose v.principals ready calls 0 v.principals arrivals (calls ++ steps) (λ k who e. e) took.tries (λ step k. has_behind calls steps step (subst (λ (l : List LinkStep). Has l step) (sym made) (has_front accepts q.front step k)))) in
+      (tries_whose v.principals ready calls 0 v.principals arrivals (calls ++ steps) (λ k who e. ap (λ (i : ℕ). principal_at i v.principals) (from_none k) ∙ e) took.tries (λ step k. has_behind calls steps step (subst (λ (l : List LinkStep). Has l step) (sym made) (has_front accepts q.front step k)))) in
       let u : ServerState = state v.principals p.value.0 q.value.0 in
       let same : r.0 ≡ u = ap (λ (w : ServerState × Turn). w.0) q.second.0 in
       let now_listeners : AreListenersOf (calls ++ steps) 0 v.principals p.value.0 =
