@@ -24,7 +24,7 @@ use Rattle.ug_store.proofs.PlayedDisk.{then_ends}
 use Rattle.ug_store.proofs.Playing.{EndsByMemory, is_played, run_stays_out, saving_ends}
 use Rattle.ug_core.specs.Answering.{acting, asking, deed_after}
 use Rattle.ug_core.specs.Changes.{changed_by, is_saved}
-use Rattle.ug_core.specs.Event.{DaemonState, handling, if_pending, ready, trying}
+use Rattle.ug_core.specs.Event.{DaemonState, handling, has_numbers, if_pending, ready, trying}
 use Rattle.ug_core.specs.Laws.{RunsAnswer, RunsOrder}
 use Rattle.ug_core.specs.Storing.{after_saving, if_fits, if_saved, stored_with, storing}
 use Rattle.ug_core.specs.declared.changes.Change.{Change}
@@ -39,7 +39,7 @@ use Rattle.ug_console.specs.declared.machine.Ran.{Ran}
 use Rattle.ug_console.specs.declared.machine.Ran.TheVariants.{Done, Bad, TooLong, SinkFailed, Memory}
 use Rattle.ug_console.specs.Fold.{Fault, Outcome, Writes, Refused}
 use Rattle.ug_script.specs.Setup.{SetupState, StartsOn, after_reading, rules_disk, rules_from, started}
-use Rattle.ug_script.specs.Script.{Script, Phase, SettingUp, Unstarted, Started, has_started, fits_file}
+use Rattle.ug_script.specs.Script.{Script, Phase, SettingUp, Unstarted, Started, daemon_by, disk_by, has_started, fits_file}
 use Rattle.ug_script.specs.Replay.{IsEventPlayed, OrderPlayed, Played, answered_by, begun_again, came_of, finished, event_by, event_from, event_taken, halted, in_script, stop_in, stopped_of, stopped_text, swept_behind, swept_over, tells, tried_by, with_choice, with_played, with_store}
 use Rattle.ug_script.proofs.Halts.{halted_told}
 use Rattle.ug_script.proofs.Answers.{ActsSo, Asks, CanAct, SweepsSo, acting_ways, asking_ways, asks_can, asks_short, handling_ways, is_short_deed, short_asks, stored_can, stored_so}
@@ -332,3 +332,9 @@ first_by event setup (Started e disk) plan w p before after r new fits h = let n
 
 pub first_steps : (event : daemon.Event) (setup : SetupState) (phase : Phase) (d : DaemonState) (disk : DiskWorld) (plan left : List Planned) (w : World) (p : Played) (before after : Option (List ℕ)) (r : Ran) → has_started phase ≡ false → fits_file setup ≡ true → d ≡ started setup → disk ≡ rules_disk setup → left ≡ [] → Steps (event_by setup event plan d w disk) p before after r → Steps (event_taken event (record { setup = setup; phase = phase; planned = plan }) w) (Some (record { setup = setup; phase = Started p.daemon p.disk; planned = left }), p.world) before after r
 first_steps event setup phase d disk plan left w p before after r new fits is on none h = subst (λ (ps : List Planned). Steps (event_taken event (record { setup = setup; phase = phase; planned = plan }) w) (Some (record { setup = setup; phase = Started p.daemon p.disk; planned = ps }), p.world) before after r) (sym none) (first_by event setup phase plan w p before after r new fits (subst (λ (o : DiskWorld). Steps (event_by setup event plan (started setup) w o) p before after r) on (subst (λ (x : DaemonState). Steps (event_by setup event plan x w disk) p before after r) is h)))
+
+-- the numbers that it has room for are those of the daemon that it starts
+pub first_numbers : (setup : SetupState) (phase : Phase) (d : DaemonState) (o : DiskWorld) (w : World) → has_started phase ≡ false → d ≡ started setup → o ≡ rules_disk setup → has_numbers d w.faults o.faults ≡ false → has_numbers (daemon_by setup phase) w.faults (disk_by setup phase).faults ≡ false
+first_numbers setup SettingUp d o w new is on h = subst (λ (x : DiskWorld). has_numbers (started setup) w.faults x.faults ≡ false) on (subst (λ (x : DaemonState). has_numbers x w.faults o.faults ≡ false) is h)
+first_numbers setup Unstarted d o w new is on h = subst (λ (x : DiskWorld). has_numbers (started setup) w.faults x.faults ≡ false) on (subst (λ (x : DaemonState). has_numbers x w.faults o.faults ≡ false) is h)
+first_numbers setup (Started e disk) d o w new is on h = let none : ⊥ = cc in absurd none

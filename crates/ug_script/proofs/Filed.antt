@@ -1,5 +1,5 @@
 -- Events, readings and starts keep a script's rule file one that a daemon starts with.
-use Rattle.std.proofs.Common.{◌≡◌, ℕ, Bool, true, false, cond, List, [], ◌∷◌, Option, Some, None, Result, Ok, Err, inl, inr, ◌⊎◌, refl, sym, ◌∙◌, ap, subst}
+use Rattle.std.proofs.Common.{◌≡◌, ℕ, Bool, true, false, cond, List, [], ◌∷◌, Option, Some, None, Result, Ok, Err, OnOk, OnErr, inl, inr, ◌⊎◌, refl, sym, ◌∙◌, ap, subst}
 use Rattle.std.proofs.lemmas.Option.{same_Some}
 use Rattle.ug_types.specs.Elements.{Has}
 use Rattle.ug_types.proofs.Elements.{has_cases}
@@ -116,6 +116,10 @@ up_files o was ran = (
   λ c h. elim h [ inl e ↦ subst (λ (t : List ℕ). is_startable t ≡ true) e (left_starts o was ran) | inr none ↦ absurd none ],
   λ never. never (inl refl),
 )
+
+pub up_or_not : {A E : Type 0} (o p : DiskWorld) (r : Result A E) → OnOk r (p ≡ coming_up o) → OnErr r (p ≡ o) → StaysReadable o → StaysReadable p
+up_or_not o p (Ok value) up same was = subst (λ (x : DiskWorld). StaysReadable x) (sym up) (up_files o was)
+up_or_not o p (Err e) up same was = subst (λ (x : DiskWorld). StaysReadable x) (sym same) was
 
 -- the rule file gives a daemon
 pub gives_rules : (o : DiskWorld) (fault : Fault) → StaysReadable o → o.ran_out ≡ false → rules_from o.disk.text ≡ Err fault → ⊥

@@ -298,6 +298,13 @@ abbrev pub taken_if : Option Step → Script → World → Outcome (Option Scrip
 taken_if None s w = bad s w
 taken_if (Some step) s w = taken step s w
 
+-- An event and a restart are refused only where no daemon was started and the rules fit no file, and an event where the numbers leave no
+-- room. What a stop left of the rule file is never a reason, nor what a save that failed left.
+abbrev pub StartsAgain : Option Step → Script → World → Ran → Type 0
+StartsAgain (Some (step.Event event)) s w result = (result ≡ ran.Bad → has_numbers (daemon_in s) w.faults (disk_in s).faults ≡ false) × (result ≡ ran.TooLong → can_start s.setup s.phase ≡ false)
+StartsAgain (Some step.Restart) s w result = (result ≡ ran.Bad → ⊥) × (result ≡ ran.TooLong → can_start s.setup s.phase ≡ false)
+StartsAgain other s w result = Unit {0}
+
 -- the first line is the header
 abbrev pub first_step : List ℕ → World → Outcome (Option Script × World)
 first_step line w = cond (pointwise nat_eq line header) (quiet fresh w) (Refused BadLine (None, w))

@@ -1,5 +1,5 @@
 // Events of a script.
-ghost use Rattle.std.specs.Prelude.{◌≡◌, ◌≤◌, ◌++◌, ◌∷◌, [], true, false, cond, OnOk, None, Some};
+ghost use Rattle.std.specs.Prelude.{◌≡◌, ◌≤◌, ◌++◌, ◌∷◌, [], true, false, cond, IfOk, OnOk, None, Some};
 ghost use Rattle.ug_types.specs.Ends.{Rose};
 ghost use Rattle.ug_console.specs.Runs.{Closes, Steps};
 ghost use Rattle.ug_core.specs.Event.{daemon_of, has_numbers};
@@ -76,6 +76,7 @@ fn put_outcome<K: Sink>(alloc: Global, report: &Report, out: &mut K) -> Ran
       entries = report.now.entries.entries;
       reply = report.now.reply;
     }))) (K.held out.old) (K.held out.new) result }
+    ensures taken { (¬ (result ≡ Ran.Bad)) × (¬ (result ≡ Ran.TooLong)) }
     ensures counted { K.faults out.old ≤ K.faults out.new }
     ensures cause { result ≡ Ran.SinkFailed → Rose (K.faults out.old) (K.faults out.new) }
 {
@@ -91,6 +92,7 @@ fn write_event<K: Sink>(alloc: Global, session: &mut Session, out: &mut K) -> Ra
     ensures ran { (w : World) → Steps (replay.finished (record { daemon = daemon_of session.old.daemon; world = w; disk = session.old.disk }))
         (record { daemon = daemon_of session.new.daemon; world = over w; disk = session.new.disk })
         (K.held out.old) (K.held out.new) result }
+    ensures taken { (¬ (result ≡ Ran.Bad)) × (¬ (result ≡ Ran.TooLong)) }
     ensures counted { K.faults out.old ≤ K.faults out.new }
     ensures cause { result ≡ Ran.SinkFailed → Rose (K.faults out.old) (K.faults out.new) }
 {
@@ -146,7 +148,26 @@ fn begin_again(alloc: Global, setup: &Setup, session: &mut Session) -> Result<()
     restart_daemon(alloc, setup, session)
 }
 
-/// A new daemon is started behind an event in which the machine stopped in that call, and the event's text is written.
+/// A new daemon is started behind an event in which the machine stopped in that call. The event's text is given.
+fn restart_behind(
+    alloc: Global,
+    setup: &Setup,
+    session: &mut Session,
+    call: u64,
+) -> Result<Vec<u8>, NoMemory>
+    requires { session.old.daemon.report.entries.entries ≡ (daemon_of session.old.daemon).sweep.entries }
+    ensures text { IfOk result (λ text. text.items
+        ≡ replay.stopped_text call (daemon_of session.old.daemon).sweep.entries) }
+    ensures started { OnOk result (StartsOn setup.now (daemon_of session.old.daemon).event
+        (coming_up session.old.disk) (daemon_of session.new.daemon)) }
+    ensures read { OnOk result (session.new.disk ≡ after_reading (coming_up session.old.disk)) }
+{
+    let text = stopped_text(alloc, session.daemon.report().entries.as_slice(), call)?;
+    begin_again(alloc, setup, session)?;
+    Ok(text)
+}
+
+/// The same, and the text is written.
 #[tactic(auto, using(crate::proofs::EventSteps::memory_steps))]
 fn stop_event<K: Sink>(
     alloc: Global,
@@ -161,14 +182,12 @@ fn stop_event<K: Sink>(
         (rules_from session.old.disk.disk.text))
         (record { daemon = daemon_of session.new.daemon; world = over w; disk = session.new.disk })
         (K.held out.old) (K.held out.new) result }
+    ensures taken { (¬ (result ≡ Ran.Bad)) × (¬ (result ≡ Ran.TooLong)) }
     ensures counted { K.faults out.old ≤ K.faults out.new }
     ensures cause { result ≡ Ran.SinkFailed → Rose (K.faults out.old) (K.faults out.new) }
 {
-    match stopped_text(alloc, session.daemon.report().entries.as_slice(), call) {
-        Ok(text) => match begin_again(alloc, setup, session) {
-            Ok(()) => put(out, text.as_slice()),
-            Err(_) => Ran::Memory,
-        },
+    match restart_behind(alloc, setup, session, call) {
+        Ok(text) => put(out, text.as_slice()),
         Err(_) => Ran::Memory,
     }
 }
@@ -189,6 +208,7 @@ fn play_event<K: Sink>(
         (event_from event.now (daemon_of session.old.daemon) kernel.old session.old.disk))
         (record { daemon = daemon_of session.new.daemon; world = kernel.new; disk = session.new.disk })
         (K.held out.old) (K.held out.new) result }
+    ensures taken { (¬ (result ≡ Ran.Bad)) × (¬ (result ≡ Ran.TooLong)) }
     ensures counted { K.faults out.old ≤ K.faults out.new }
     ensures cause { result ≡ Ran.SinkFailed → Rose (K.faults out.old) (K.faults out.new) }
 {
@@ -221,6 +241,7 @@ fn run_event<K: Sink>(
         (replay.begun_disk plan.now session.old.disk)))
         (record { daemon = daemon_of session.new.daemon; world = kernel.new; disk = session.new.disk })
         (K.held out.old) (K.held out.new) result }
+    ensures taken { (¬ (result ≡ Ran.Bad)) × (¬ (result ≡ Ran.TooLong)) }
     ensures counted { K.faults out.old ≤ K.faults out.new }
     ensures cause { result ≡ Ran.SinkFailed → Rose (K.faults out.old) (K.faults out.new) }
 {
@@ -243,6 +264,9 @@ pub fn next_event<K: Sink>(
     ensures ran { Steps (event_by setup.now event.now plan.now (daemon_of session.old.daemon) kernel.old session.old.disk)
         (record { daemon = daemon_of session.new.daemon; world = kernel.new; disk = session.new.disk })
         (K.held out.old) (K.held out.new) result }
+    ensures numbers { result ≡ Ran.Bad
+        → has_numbers (daemon_of session.old.daemon) kernel.old.faults session.old.disk.faults ≡ false }
+    ensures short { ¬ (result ≡ Ran.TooLong) }
     ensures counted { K.faults out.old ≤ K.faults out.new }
     ensures cause { result ≡ Ran.SinkFailed → Rose (K.faults out.old) (K.faults out.new) }
 {

@@ -1,12 +1,13 @@
 // The machine that takes a script's lines.
-ghost use Rattle.std.specs.Prelude.{◌≡◌, ◌≤◌, ℕ, List, Option, None};
+ghost use Rattle.std.specs.Prelude.{◌≡◌, ◌≤◌, ℕ, List, Option, None, Some};
 ghost use Rattle.ug_console.specs.Fold.{of_first};
 ghost use Rattle.ug_console.specs.Runs.{Closes, Steps};
 ghost use Rattle.ug_types.specs.Ends.{Rose};
 ghost use Rattle.ug_script.specs.Script.{Script};
 ghost use Rattle.ug_sysfs.specs.World.{World};
 ghost use Rattle.ug_script.specs.Generating.{generate_end, generate_step};
-ghost use Rattle.ug_script.specs.Replay.{Begins, done_line, first_step, has_begun, interpreter_state, script_step, script_end};
+ghost use Rattle.ug_script.specs.Grammar.{step_of_line};
+ghost use Rattle.ug_script.specs.Replay.{Begins, StartsAgain, done_line, first_step, has_begun, interpreter_state, script_step, script_end};
 
 use crate::progress::Running;
 use crate::step::StepFault;
@@ -54,6 +55,27 @@ impl Interpreter {
             Err(StepFault::Bad) => Ran::Bad,
             Err(StepFault::Memory) => Ran::Memory,
         }
+    }
+
+    /// Takes a line, and writes its text.
+    pub fn take<K: Sink>(
+        &mut self,
+        alloc: Global,
+        kernel: &mut SimKernel,
+        line: &[u8],
+        out: &mut K,
+    ) -> Ran
+        ensures ran { Steps (script_step (interpreter_state self.old, kernel.old) line.now)
+            (interpreter_state self.new, kernel.new) (K.held out.old) (K.held out.new) result }
+        ensures why { (s : Script) → interpreter_state self.old ≡ Some s
+            → StartsAgain (step_of_line line.now) s kernel.old result }
+        ensures counted { K.faults out.old ≤ K.faults out.new }
+        ensures cause { result ≡ Ran.SinkFailed → Rose (K.faults out.old) (K.faults out.new) }
+    {
+        if let Some(running) = &mut self.running {
+            return running.line(alloc, line, kernel, out);
+        }
+        self.take_header(alloc, line)
     }
 
     /// Writes the last line, which tells the number of events.
@@ -139,10 +161,7 @@ impl Machine<SimKernel> for Interpreter {
         line: &[u8],
         out: &mut K,
     ) -> Ran {
-        if let Some(running) = &mut self.running {
-            return running.line(alloc, line, world, out);
-        }
-        self.take_header(alloc, line)
+        self.take(alloc, world, line, out)
     }
 
     fn finish<K: Sink>(&self, _alloc: Global, _world: &SimKernel, out: &mut K) -> Ran {

@@ -2,7 +2,7 @@
 ghost use Rattle.std.specs.Prelude.{◌≡◌, nat_eq};
 ghost use Rattle.std.specs.List.{position};
 ghost use Rattle.ug_script.specs.Grammar as grammar;
-ghost use Rattle.ug_script.specs.Grammar.{disk_plan, fail_plan, failing_at, failing_of, fails_of, move_of, move_plan, plan_of};
+ghost use Rattle.ug_script.specs.Grammar.{disk_plan, fail_plan, failing_at, failing_of, fails_of, move_of, move_plan, plan_of, stop_plan};
 ghost use Rattle.ug_script.specs.Words as words;
 ghost use Rattle.ug_script.specs.Words.{Parses};
 

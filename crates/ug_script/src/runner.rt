@@ -1,14 +1,17 @@
 // The run of a script by single lines.
-ghost use Rattle.std.specs.Prelude.{◌≡◌, ◌≢◌, ◌≤◌, ℕ, List, None, Option};
+ghost use Rattle.std.specs.Prelude.{◌≡◌, ◌≢◌, ◌≤◌, ℕ, true, List, None, Option, Some};
+ghost use Rattle.ug_console.specs.Fold as fold;
 ghost use Rattle.ug_types.specs.Ends.{Rose};
 ghost use Rattle.ug_console.specs.Runs.{Closes};
 ghost use Rattle.ug_script.specs.Generating as generating;
 ghost use Rattle.ug_script.specs.Generating.{generate_end};
-ghost use Rattle.ug_script.specs.Replay.{TakesLine, runner_state, script_end, script_step};
+ghost use Rattle.ug_script.specs.Grammar.{step_of_line};
+ghost use Rattle.ug_script.specs.Script.{Script};
+ghost use Rattle.ug_script.specs.Replay.{StartsAgain, TakesLine, runner_state, script_end, script_step};
 
 use crate::interpreter::Interpreter;
 use std::alloc::Global;
-use ug_console::{Machine, Ran, is_within};
+use ug_console::{Ran, is_within};
 use ug_sysfs::SimKernel;
 use ug_types::Sink;
 
@@ -39,6 +42,8 @@ impl Runner {
         requires { self.old.so_far ≡ Ran.Done }
         ensures taken { TakesLine script_step (runner_state self.old) kernel.old line.now
             (K.held out.old) (K.held out.new) result (runner_state self.new) kernel.new }
+        ensures why { (s : Script) → (runner_state self.old).script ≡ Some s → fold.is_within self.old.lines line.now ≡ true
+            → StartsAgain (step_of_line line.now) s kernel.old result }
         ensures counted { K.faults out.old ≤ K.faults out.new }
         ensures cause { result ≡ Ran.SinkFailed → Rose (K.faults out.old) (K.faults out.new) }
     {
@@ -46,7 +51,7 @@ impl Runner {
             self.so_far = Ran::Bad;
             return Ran::Bad;
         }
-        let ran = self.interpreter.step(self.alloc, kernel, line, out);
+        let ran = self.interpreter.take(self.alloc, kernel, line, out);
         self.so_far = ran;
         if matches!(ran, Ran::Done) {
             self.lines += 1;
@@ -78,6 +83,9 @@ impl Runner {
         ensures taken { (runner_state self.old).so_far ≡ Ran.Done
             → TakesLine script_step (runner_state self.old) kernel.old line.now
             (K.held out.old) (K.held out.new) result (runner_state self.new) kernel.new }
+        ensures why { (s : Script) → (runner_state self.old).so_far ≡ Ran.Done → (runner_state self.old).script ≡ Some s
+            → fold.is_within (runner_state self.old).lines line.now ≡ true
+            → StartsAgain (step_of_line line.now) s kernel.old result }
         ensures counted { K.faults out.old ≤ K.faults out.new }
         ensures cause { (runner_state self.old).so_far ≡ Ran.Done → result ≡ Ran.SinkFailed
             → Rose (K.faults out.old) (K.faults out.new) }

@@ -8,11 +8,11 @@ ghost use Rattle.ug_script.specs.Generating.{skimmed, skimmed_if};
 ghost use Rattle.ug_script.specs.Grammar.{AsksForRule, AsksForRules, step_of_line};
 ghost use Rattle.ug_script.specs.Replay as replay;
 ghost use Rattle.ug_script.specs.Script as script;
-ghost use Rattle.ug_script.specs.Script.{can_start, daemon_in, fresh, phase_of, with_setup_closed};
+ghost use Rattle.ug_script.specs.Script.{can_start, daemon_in, disk_in, fresh, phase_of, with_setup_closed};
 ghost use Rattle.ug_script.specs.Setup.{rules_from};
 ghost use Rattle.ug_store.specs.declared.mishap.Planned.{Planned};
-ghost use Rattle.ug_core.specs.Event.{daemon_of};
-ghost use Rattle.ug_script.specs.Replay.{event_by, event_taken, line_taken, restart_taken, restarted, script_of, started_script, taken, taken_if, with_plan};
+ghost use Rattle.ug_core.specs.Event.{daemon_of, has_numbers};
+ghost use Rattle.ug_script.specs.Replay.{StartsAgain, event_by, event_taken, line_taken, restart_taken, restarted, script_of, started_script, taken, taken_if, with_plan};
 
 use crate::events::next_event;
 use crate::parse::parse_line;
@@ -62,6 +62,9 @@ fn planned_event<K: Sink>(
     ensures ran { Steps (event_by setup.now event.now plan.old.items (daemon_of session.old.daemon) kernel.old session.old.disk)
         (record { daemon = daemon_of session.new.daemon; world = kernel.new; disk = session.new.disk })
         (K.held out.old) (K.held out.new) result }
+    ensures numbers { result ≡ Ran.Bad
+        → has_numbers (daemon_of session.old.daemon) kernel.old.faults session.old.disk.faults ≡ false }
+    ensures short { ¬ (result ≡ Ran.TooLong) }
     ensures planned { plan.new.items ≡ [] }
     ensures counted { K.faults out.old ≤ K.faults out.new }
     ensures cause { result ≡ Ran.SinkFailed → Rose (K.faults out.old) (K.faults out.new) }
@@ -164,6 +167,9 @@ impl Running {
         requires { script.has_started (phase_of self.old.phase) ≡ false }
         ensures ran { Steps (event_taken event.now (script_of self.old) kernel.old)
             (Some (script_of self.new), kernel.new) (K.held out.old) (K.held out.new) result }
+        ensures numbers { result ≡ Ran.Bad → has_numbers (daemon_in (script_of self.old)) kernel.old.faults
+            (disk_in (script_of self.old)).faults ≡ false }
+        ensures short { result ≡ Ran.TooLong → can_start (script_of self.old).setup (script_of self.old).phase ≡ false }
         ensures counted { K.faults out.old ≤ K.faults out.new }
         ensures cause { result ≡ Ran.SinkFailed → Rose (K.faults out.old) (K.faults out.new) }
     {
@@ -225,6 +231,9 @@ impl Running {
     ) -> Ran
         ensures ran { Steps (event_taken event.now (script_of self.old) kernel.old)
             (Some (script_of self.new), kernel.new) (K.held out.old) (K.held out.new) result }
+        ensures numbers { result ≡ Ran.Bad → has_numbers (daemon_in (script_of self.old)) kernel.old.faults
+            (disk_in (script_of self.old)).faults ≡ false }
+        ensures short { result ≡ Ran.TooLong → can_start (script_of self.old).setup (script_of self.old).phase ≡ false }
         ensures counted { K.faults out.old ≤ K.faults out.new }
         ensures cause { result ≡ Ran.SinkFailed → Rose (K.faults out.old) (K.faults out.new) }
     {
@@ -266,6 +275,7 @@ impl Running {
     ) -> Ran
         ensures ran { Steps (taken_if (step_of_line line.now) (script_of self.old) kernel.old)
             (Some (script_of self.new), kernel.new) (K.held out.old) (K.held out.new) result }
+        ensures why { StartsAgain (step_of_line line.now) (script_of self.old) kernel.old result }
         ensures counted { K.faults out.old ≤ K.faults out.new }
         ensures cause { result ≡ Ran.SinkFailed → Rose (K.faults out.old) (K.faults out.new) }
     {
@@ -287,6 +297,7 @@ impl Running {
         requires { AsksForRules step }
         ensures ran { Steps (taken step (script_of self.old) kernel.old)
             (Some (script_of self.new), kernel.new) (K.held out.old) (K.held out.new) result }
+        ensures why { StartsAgain (Some step) (script_of self.old) kernel.old result }
         ensures counted { K.faults out.old ≤ K.faults out.new }
         ensures cause { result ≡ Ran.SinkFailed → Rose (K.faults out.old) (K.faults out.new) }
     {

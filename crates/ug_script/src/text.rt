@@ -46,6 +46,7 @@ pub fn outcome_text(alloc: Global, report: &Report) -> Result<Vec<u8>, NoMemory>
     Ok(text)
 }
 
+#[tactic(auto, unfolding(crate::specs::Replay::stopped_line))]
 fn stopped_line(call: u64) -> Line
     ensures { result ≡ replay.stopped_line call }
 {
@@ -90,6 +91,7 @@ pub fn tells_memory(entries: &[Entry]) -> bool
 /// Writes a text.
 pub fn put<K: Sink>(out: &mut K, text: &[u8]) -> Ran
     ensures ran { Closes (Some text.now) (K.held out.old) (K.held out.new) result }
+    ensures taken { (¬ (result ≡ Ran.Bad)) × (¬ (result ≡ Ran.TooLong)) }
     ensures counted { K.faults out.old ≤ K.faults out.new }
     ensures cause { result ≡ Ran.SinkFailed → Rose (K.faults out.old) (K.faults out.new) }
 {

@@ -1,4 +1,0 @@
-use Rattle.ug_script.proofs.interpreter.InterpreterMachineSimKernel.step.Goals as goal
-
-pub returns-clause-ran : goal.returns-clause-ran
-returns-clause-ran g c = rw c.in_default.is (c.take_header.ensures.ran c.args.world.now (g.K.Sink.held c.args.out.now))
