@@ -6,7 +6,6 @@ use Rattle.ug_types.proofs.Elements.{has_cases}
 use Rattle.ug_types.specs.declared.rule.Rule as types
 use Rattle.ug_types.specs.declared.saved.Saved.{Saved}
 use Rattle.ug_types.specs.declared.saved.Saved.TheVariants as saved
-use Rattle.ug_console.specs.Fold.{Fault}
 use Rattle.ug_lines.specs.LineReading.{lines_read}
 use Rattle.ug_lines.specs.Lines.{whole_from, rest_from}
 use Rattle.ug_lex.specs.Lexing.{tokens_of, tokens_from, front_of}
@@ -88,13 +87,6 @@ event_files event tried became d o e p file writes saves was ran =
 
 -- ---- a start
 
--- over a disk of which a stop leaves the text that was read alone
-pub first_files : (o : DiskWorld) (text : List ℕ) (rules : List types.Rule) → o.disk.left ≡ Texts (text ∷ []) → o.disk.text ≡ text → rules_from text ≡ Ok rules → StaysReadable o
-first_files o text rules left file is ran = (
-  λ c h. elim (subst (λ (i : Images). IsImage i c) left h) [ inl e ↦ subst (λ (t : List ℕ). is_startable t ≡ true) e (ap is_given is) | inr none ↦ absurd none ],
-  λ never. never (subst (λ (i : Images). IsImage i o.disk.text) (sym left) (inl (sym file))),
-)
-
 pub still_files : (o p : DiskWorld) → IsStillOn o p → StaysReadable o → StaysReadable p
 still_files o p still was ran =
     let f = was (sym still.ran_out ∙ ran) in (
@@ -120,12 +112,6 @@ up_files o was ran = (
 pub up_or_not : {A E : Type 0} (o p : DiskWorld) (r : Result A E) → OnOk r (p ≡ coming_up o) → OnErr r (p ≡ o) → StaysReadable o → StaysReadable p
 up_or_not o p (Ok value) up same was = subst (λ (x : DiskWorld). StaysReadable x) (sym up) (up_files o was)
 up_or_not o p (Err e) up same was = subst (λ (x : DiskWorld). StaysReadable x) (sym same) was
-
--- the rule file gives a daemon
-pub gives_rules : (o : DiskWorld) (fault : Fault) → StaysReadable o → o.ran_out ≡ false → rules_from o.disk.text ≡ Err fault → ⊥
-gives_rules o fault was alive e =
-    let f = was alive in
-    f.1 (λ h. let bad : false ≡ true = sym (ap (λ (r : Result (List types.Rule) Fault). is_given r) e) ∙ f.0 o.disk.text h in let none : ⊥ = cc in none)
 
 -- a start leaves the disk as it was
 pub start_still : (faults : DiskWorld → ℕ) (outset : Outset) (o : DiskWorld) (result : Result DaemonState StartFault) (t : DiskWorld) → Starts MemKeeps disk_told faults outset o result t → t.ran_out ≡ false → IsStillOn o t

@@ -1,5 +1,5 @@
 -- The first call in which the machine is to stop, call by call.
-use Rattle.std.proofs.Common.{◌≡◌, ℕ, zero, suc, ◌-◌, ◌<◌, cond, List, None, refl, ap, arith}
+use Rattle.std.proofs.Common.{◌≡◌, ℕ, zero, suc, ◌-◌, ◌<◌, cond, List, None, ap, arith}
 use Rattle.ug_store.specs.Scripted.{plan_at, stops_by}
 use Rattle.ug_store.specs.declared.mishap.Planned.{Planned}
 use Rattle.ug_script.specs.Replay.{first_stop}

@@ -1,7 +1,7 @@
 -- An event in which the machine stops writes to no device; and each event of a script is lawful.
 use Rattle.std.proofs.Common.{◌≡◌, ℕ, nat_le, length, Bool, true, false, cond, ◌||◌, List, Option, Some, None, inl, inr, refl, sym, ◌∙◌, ap, subst}
 use Rattle.std.proofs.lemmas.Bool.{both_ways, cond_both}
-use Rattle.ug_kernel.specs.Calls.{Call, Names, Open, Read, Ask_alive, Put, Close, Answer}
+use Rattle.ug_kernel.specs.Calls.{Call, Names, Open, Read, Ask_alive, Put, Close}
 use Rattle.ug_kernel.specs.Kernel.{Kernel}
 use Rattle.ug_kernel.specs.Tree.{Prog, Return, Ask, Room}
 use Rattle.ug_sysfs.specs.World.{World, answer_from, answer_of, begun, effect, entered, fate, halting, refusing}
@@ -13,7 +13,7 @@ use Rattle.ug_rules.specs.RuleFile.{permanent_text}
 use Rattle.ug_store.specs.DiskCalls.{DiskTold, Write_new, Sync_new, Swap}
 use Rattle.ug_store.specs.PlayDisk.{play_disk}
 use Rattle.ug_store.specs.Scripted.{DiskWorld, answer_of_fate, disk_answer, fate_by, plan_at, stops_by, with_number}
-use Rattle.ug_store.specs.Store.{Ended, after_swap, after_sync_new, after_write_new, saving, then_disk}
+use Rattle.ug_store.specs.Store.{Ended, after_swap, after_sync_new, after_write_new, saving}
 use Rattle.ug_store.specs.declared.disk.DiskAnswer.{DiskAnswer}
 use Rattle.ug_store.specs.declared.disk.DiskAnswer.TheVariants as answer
 use Rattle.ug_store.specs.declared.mishap.Planned.{Planned}

@@ -1,4 +1,4 @@
-use Rattle.std.proofs.Common.{◌≡◌, ℕ, List, Some, refl, subst}
+use Rattle.std.proofs.Common.{ℕ, List, Some, refl, subst}
 use Rattle.ug_console.specs.Runs.{Closes}
 use Rattle.ug_core.specs.Event.{daemon_of}
 use Rattle.ug_sysfs.specs.World.{over}
