@@ -72,10 +72,10 @@ bearing_none name [] h = refl
 bearing_none name (entry.Save saved ∷ es) h = absurd h.0
 bearing_none name (e ∷ es) h = bearing_none name es h.1
 
-parts_none : (hub : Option Write) (names : List (List ℕ)) (before after : List Standing) (calls : List Made) (entries : List Entry) → InParts hub names before after calls entries → saves_in entries ≡ []
-parts_none hub [] before after calls entries h = ap (λ (es : List Entry). saves_in es) h.2
-parts_none hub (name ∷ names) before after calls entries h =
-    ap (λ (es : List Entry). saves_in es) h.6 ∙ none_both h.3 h.4 (bearing_none name h.3 h.7.bears) (parts_none hub names h.0 after h.2 h.4 h.8)
+parts_none : (hub : Option Write) (binds : Bool) (names : List (List ℕ)) (before after : List Standing) (calls : List Made) (entries : List Entry) → InParts hub binds names before after calls entries → saves_in entries ≡ []
+parts_none hub binds [] before after calls entries h = ap (λ (es : List Entry). saves_in es) h.2
+parts_none hub binds (name ∷ names) before after calls entries h =
+    ap (λ (es : List Entry). saves_in es) h.6 ∙ none_both h.3 h.4 (bearing_none name h.3 h.7.bears) (parts_none hub binds names h.0 after h.2 h.4 h.8)
 
 farewells_none : (names : List (List ℕ)) (ss : List Standing) → saves_in (farewells names ss) ≡ []
 farewells_none names [] = refl
@@ -85,17 +85,17 @@ farewells_none names (s ∷ ss) = by_listed (lists names s.name) (farewells_none
     by_listed true h = h
     by_listed false h = h
 
-listed_none : (listed : List (List ℕ)) (ss : List Standing) (entries : List Entry) (left : List Standing) (names : List (List ℕ)) (shut : List Made) → BeginsListed listed ss entries left names shut → saves_in entries ≡ []
-listed_none listed ss entries left names shut h = ap (λ (es : List Entry). saves_in es) h.1 ∙ farewells_none names ss
+listed_none : (listed : List (List ℕ)) (ss : List Standing) (entries : List Entry) (left : List Standing) (names : List (List ℕ)) (shut : List Made) (binds : Bool) → BeginsListed listed ss entries left names shut binds → saves_in entries ≡ []
+listed_none listed ss entries left names shut binds h = ap (λ (es : List Entry). saves_in es) h.2 ∙ farewells_none names ss
 
-unlisted_none : (why : Fault) (ss : List Standing) (entries : List Entry) (left : List Standing) (names : List (List ℕ)) (shut : List Made) → BeginsUnlisted why ss entries left names shut → saves_in entries ≡ []
-unlisted_none why ss entries left names shut h = ap (λ (es : List Entry). saves_in es) h.1
+unlisted_none : (why : Fault) (ss : List Standing) (entries : List Entry) (left : List Standing) (names : List (List ℕ)) (shut : List Made) (binds : Bool) → BeginsUnlisted why ss entries left names shut binds → saves_in entries ≡ []
+unlisted_none why ss entries left names shut binds h = ap (λ (es : List Entry). saves_in es) h.2
 
-head_none : (answer : Listing) (failed : FailedCall) (ss : List Standing) (entries : List Entry) (left : List Standing) (names : List (List ℕ)) (shut : List Made) → AfterListing answer failed ss entries left names shut → saves_in entries ≡ []
-head_none (listing.Names listed) failed ss entries left names shut (inl h) = listed_none listed ss entries left names shut h
-head_none (listing.Names listed) failed ss entries left names shut (inr h) = unlisted_none fault.Memory ss entries left names shut h
-head_none listing.Failed failed ss entries left names shut h = unlisted_none (fault.Call failed) ss entries left names shut h
-head_none listing.Memory failed ss entries left names shut h = unlisted_none fault.Memory ss entries left names shut h
+head_none : (answer : Listing) (failed : FailedCall) (ss : List Standing) (entries : List Entry) (left : List Standing) (names : List (List ℕ)) (shut : List Made) (binds : Bool) → AfterListing answer failed ss entries left names shut binds → saves_in entries ≡ []
+head_none (listing.Names listed) failed ss entries left names shut binds (inl h) = listed_none listed ss entries left names shut binds h
+head_none (listing.Names listed) failed ss entries left names shut binds (inr h) = unlisted_none fault.Memory ss entries left names shut binds h
+head_none listing.Failed failed ss entries left names shut binds h = unlisted_none (fault.Call failed) ss entries left names shut binds h
+head_none listing.Memory failed ss entries left names shut binds h = unlisted_none fault.Memory ss entries left names shut binds h
 
 -- ---- what a part of an event adds
 
@@ -224,7 +224,7 @@ tries_save gives calls faults keeps event o d tried q s became made m p a r t e 
     let b : Behind became (ready event tried d) a = answer_behind gives calls faults keeps event s q (ready event tried d) became made m p a answers goes in
     let both : List Entry = parts.head ++ parts.rest in
     let last : List Entry = both ++ entry.End a.event ∷ [] in
-    let none : saves_in last ≡ [] = none_both both (entry.End a.event ∷ []) (none_both parts.head parts.rest (head_none parts.listed.answer (failure_of parts.listed) a.sweep.standings parts.head parts.left parts.names parts.shut parts.begins) (parts_none a.sweep.hub parts.names parts.left swept.standings parts.made parts.rest parts.parts)) refl in
+    let none : saves_in last ≡ [] = none_both both (entry.End a.event ∷ []) (none_both parts.head parts.rest (head_none parts.listed.answer (failure_of parts.listed) a.sweep.standings parts.head parts.left parts.names parts.shut parts.binds parts.begins) (parts_none a.sweep.hub parts.binds parts.names parts.left swept.standings parts.made parts.rest parts.parts)) refl in
     let adds : Adds (saves_stored became) (ready event tried d).sweep.entries e.sweep.entries =
     adds_behind (saves_stored became) (ready event tried d).sweep.entries a.sweep.entries e.sweep.entries last b.entries
     (ap (λ (v : State Judging). v.entries) ends ∙ ap (λ (es : List Entry). es ++ entry.End a.event ∷ []) parts.entries ∙ append_assoc a.sweep.entries both (entry.End a.event ∷ [])) none in
