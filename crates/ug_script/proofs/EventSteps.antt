@@ -324,6 +324,10 @@ in_script_steps s (Refused fault next) p before after TooLong h = (h.0, ap (plac
 in_script_steps s (Refused fault next) p before after SinkFailed h = h
 in_script_steps s (Refused fault next) p before after Memory h = h
 
+-- a later event
+pub later_steps : (event : daemon.Event) (setup : SetupState) (d : DaemonState) (o : DiskWorld) (plan left : List Planned) (w : World) (p : Played) (before after : Option (List ℕ)) (r : Ran) → left ≡ [] → Steps (event_by setup event plan d w o) p before after r → Steps (event_taken event (record { setup = setup; phase = Started d o; planned = plan }) w) (Some (record { setup = setup; phase = Started p.daemon p.disk; planned = left }), p.world) before after r
+later_steps event setup d o plan left w p before after r none h = subst (λ (ps : List Planned). Steps (event_taken event (record { setup = setup; phase = Started d o; planned = plan }) w) (Some (record { setup = setup; phase = Started p.daemon p.disk; planned = ps }), p.world) before after r) (sym none) (in_script_steps (record { setup = setup; phase = Started d o; planned = plan }) (event_by setup event plan d w o) p before after r h)
+
 -- the first event
 first_by : (event : daemon.Event) (setup : SetupState) (phase : Phase) (plan : List Planned) (w : World) (p : Played) (before after : Option (List ℕ)) (r : Ran) → has_started phase ≡ false → fits_file setup ≡ true → Steps (event_by setup event plan (started setup) w (rules_disk setup)) p before after r → Steps (event_taken event (record { setup = setup; phase = phase; planned = plan }) w) (Some (record { setup = setup; phase = Started p.daemon p.disk; planned = [] }), p.world) before after r
 first_by event setup SettingUp plan w p before after r new fits h = rw fits (in_script_steps (record { setup = setup; phase = SettingUp; planned = plan }) (event_by setup event plan (started setup) w (rules_disk setup)) p before after r h)

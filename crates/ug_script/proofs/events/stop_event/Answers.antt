@@ -1,4 +1,4 @@
-use Rattle.std.proofs.Common.{ℕ, List, Some, refl, subst}
+use Rattle.std.proofs.Common.{ℕ, List, Some, refl, subst, ◌∙◌}
 use Rattle.ug_console.specs.Runs.{Closes}
 use Rattle.ug_core.specs.Event.{daemon_of}
 use Rattle.ug_sysfs.specs.World.{over}
@@ -10,4 +10,4 @@ pub returns-in-Ok-clause-ran : goal.returns-in-Ok-clause-ran
 returns-in-Ok-clause-ran g c = λ w.
     let p : Played = record { daemon = daemon_of c.args.session.now.daemon; world = w; disk = c.args.session.now.disk } in
     stopped_steps c.args.setup.now c.args.call p (daemon_of c.restart_behind.new.session.daemon) (over w) c.restart_behind.new.session.disk (g.K.Sink.held c.args.out.now) (g.K.Sink.held c.put.new.out) c.put.result refl c.in-Ok.ensures.started c.in-Ok.ensures.read
-    (subst (λ (x : List ℕ). Closes (Some x) (g.K.Sink.held c.args.out.now) (g.K.Sink.held c.put.new.out) c.put.result) c.in-Ok.ensures.text c.put.ensures.ran)
+    (subst (λ (x : List ℕ). Closes (Some x) (g.K.Sink.held c.args.out.now) (g.K.Sink.held c.put.new.out) c.put.result) (c.as_slice.ensures.value ∙ c.in-Ok.ensures.text) c.put.ensures.ran)
