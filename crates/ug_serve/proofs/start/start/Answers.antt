@@ -28,9 +28,9 @@ pub returns-in_err-daemon-clause-starts : goal.returns-in_err-daemon-clause-star
 returns-in_err-daemon-clause-starts g c =
     let p = err_from_is_err_and c.from_residual-in_err-daemon.result c.from_residual-in_err-daemon.ensures.1 in
     let noted = subst (λ (ls : List ℕ). AreNoted (unused_entries ls) (members (λ b. goal.Auditor-dyn g (b.vtable, b.value)) c.args.panel.now) (members (λ b. goal.Auditor-dyn g (b.vtable, b.value)) c.note_unused.new.panel)) c.as_slice.ensures c.note_unused.ensures.noted in
-    rw (p.1, p.2) (unused_entries c.in_ok-settings.settings.unused, From_rules c.in_ok-settings.settings c.in_ok-access.access c.read_settings.new.files c.read_access.new.files c.aim.new.self c.start_daemon.new.disk (Err c.in_err-daemon.field-0.0) c.in_ok-settings.ensures.reads c.in_ok-access.ensures.opens (record { disk = record { same = c.aim.ensures.told; counts = c.aim.ensures.faults }; at = subst (λ (p : List ℕ). g.D.RuleDisk.aimed c.aim.new.self p) c.bytes.ensures c.in_ok-aim.ensures.aimed }) c.in_err-daemon.ensures.starts, noted)
+    rw (p.1, p.2) (unused_entries c.in_ok-settings.settings.unused, From_rules c.in_ok-settings.settings c.in_ok-access.access c.read_settings.new.files c.read_access.new.files c.aim.new.self c.start_daemon.new.disk (Err c.in_err-daemon.field-0.0) c.in_ok-settings.ensures.reads c.in_ok-access.ensures.opens (record { same_disk = record { same = c.aim.ensures.told; counts = c.aim.ensures.faults }; at = subst (λ (p : List ℕ). g.D.RuleDisk.aimed c.aim.new.self p) c.bytes.ensures c.in_ok-aim.ensures.aimed }) c.in_err-daemon.ensures.starts, noted)
 
 pub returns-clause-starts : goal.returns-clause-starts
 returns-clause-starts g c =
     let noted = subst (λ (ls : List ℕ). AreNoted (unused_entries ls) (members (λ b. goal.Auditor-dyn g (b.vtable, b.value)) c.args.panel.now) (members (λ b. goal.Auditor-dyn g (b.vtable, b.value)) c.note_unused.new.panel)) c.as_slice.ensures c.note_unused.ensures.noted in
-    (unused_entries c.in_ok-settings.settings.unused, From_rules c.in_ok-settings.settings c.in_ok-access.access c.read_settings.new.files c.read_access.new.files c.aim.new.self c.start_daemon.new.disk (Ok (daemon_of c.in_ok-daemon.daemon)) c.in_ok-settings.ensures.reads c.in_ok-access.ensures.opens (record { disk = record { same = c.aim.ensures.told; counts = c.aim.ensures.faults }; at = subst (λ (p : List ℕ). g.D.RuleDisk.aimed c.aim.new.self p) c.bytes.ensures c.in_ok-aim.ensures.aimed }) c.in_ok-daemon.ensures.starts, noted)
+    (unused_entries c.in_ok-settings.settings.unused, From_rules c.in_ok-settings.settings c.in_ok-access.access c.read_settings.new.files c.read_access.new.files c.aim.new.self c.start_daemon.new.disk (Ok (daemon_of c.in_ok-daemon.daemon)) c.in_ok-settings.ensures.reads c.in_ok-access.ensures.opens (record { same_disk = record { same = c.aim.ensures.told; counts = c.aim.ensures.faults }; at = subst (λ (p : List ℕ). g.D.RuleDisk.aimed c.aim.new.self p) c.bytes.ensures c.in_ok-aim.ensures.aimed }) c.in_ok-daemon.ensures.starts, noted)
