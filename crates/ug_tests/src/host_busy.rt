@@ -35,7 +35,7 @@ impl Read for Busy {
 
 impl Write for Busy {
     fn write(&mut self, _buf: &[u8]) -> io::Result<usize> {
-        refuse()
+        Err(io::Error::from(ErrorKind::Unsupported))
     }
 
     fn flush(&mut self) -> io::Result<()> {
