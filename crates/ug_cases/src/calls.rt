@@ -27,7 +27,7 @@ impl Call<'_> {
 
 fn no_link(alloc: Global) -> MemLink {
     let coming = MemSource::new(Vec::new(alloc), Vec::new(alloc));
-    MemLink::new(false, coming, MemSink::new(alloc, Vec::new(alloc)))
+    MemLink::new(alloc, false, coming, MemSink::new(alloc, Vec::new(alloc)))
 }
 
 /// The status of a script on a new kernel, which is handed out too.
@@ -71,7 +71,12 @@ pub fn ask(alloc: Global, call: Call, reachable: bool) -> Asked {
         mut out,
     } = call;
     let mut input = MemSource::new(Vec::new(alloc), Vec::new(alloc));
-    let mut link = MemLink::new(reachable, coming, MemSink::new(alloc, Vec::new(alloc)));
+    let mut link = MemLink::new(
+        alloc,
+        reachable,
+        coming,
+        MemSink::new(alloc, Vec::new(alloc)),
+    );
     let status = run_tool(alloc, &words, &mut input, &mut out, &mut link);
     Asked { status, out, link }
 }

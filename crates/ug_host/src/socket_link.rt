@@ -101,6 +101,8 @@ impl<R: Net> SocketLink<R> {
 }
 
 impl<R: Net> Link for SocketLink<R> {
+    ghost told = { λ s. None };
+
     ghost sent = { λ s. None };
 
     ghost left = { λ s. None };

@@ -3,6 +3,7 @@ pub mod Clocks
 pub mod Elements
 pub mod Ends
 pub mod Failing
+pub mod LinkCalls
 pub mod Names
 pub mod NodeNames
 pub mod Padded

@@ -2,6 +2,9 @@
 ghost use Rattle.std.specs.Prelude.{◌≡◌, ℕ, ◌<◌, List, Option, length};
 ghost use Rattle.std.specs.Io.KnownBytes.{Keeps};
 ghost use Rattle.ug_types.specs.Ends.{Fits, Takes, Puts, IsCounted, Rose};
+ghost use Rattle.ug_types.specs.LinkCalls.{TellsCall, receipt_of};
+ghost use Rattle.ug_types.specs.declared.link_call.LinkCall.{LinkCall};
+ghost use Rattle.ug_types.specs.declared.link_call.LinkCall.TheVariants as call;
 
 use crate::sink::Put;
 use crate::source::Taken;
@@ -15,6 +18,9 @@ pub enum Dialled {
 }
 
 pub trait Link {
+    /// The calls so far with their answers, where the link tells them.
+    ghost told: { Self → Option (List LinkCall) };
+
     /// The bytes that were sent, where the link tells them.
     ghost sent: { Self → Option (List ℕ) };
 
@@ -26,6 +32,7 @@ pub trait Link {
 
     /// Connects to the socket of that path.
     fn dial(&mut self, alloc: Global, path: &[u8]) -> Dialled
+        ensures told { TellsCall (told self.old) (call.Dial path.now result) (told self.new) }
         ensures sent { Keeps (sent self.old) (sent self.new) }
         ensures left { Keeps (left self.old) (left self.new) }
         ensures counted { IsCounted (faults self.old) (faults self.new) }
@@ -33,6 +40,7 @@ pub trait Link {
 
     /// Sends the bytes.
     fn send(&mut self, bytes: &[u8]) -> Put
+        ensures told { TellsCall (told self.old) (call.Send bytes.now result) (told self.new) }
         ensures sent { Puts (sent self.old) (sent self.new) bytes.now result }
         ensures left { Keeps (left self.old) (left self.new) }
         ensures counted { IsCounted (faults self.old) (faults self.new) }
@@ -41,6 +49,7 @@ pub trait Link {
     /// Takes the next bytes.
     fn receive(&mut self, into: &mut [u8]) -> Taken
         requires { 0 < length into.old }
+        ensures told { TellsCall (told self.old) (call.Receive (receipt_of result into.new)) (told self.new) }
         ensures size { Fits (length into.old) result }
         ensures bytes { Takes (left self.old) (left self.new) into.new result }
         ensures sent { Keeps (sent self.old) (sent self.new) }
