@@ -18,7 +18,7 @@ mod values;
 pub use defaults::default_settings;
 pub use fault::FaultKind;
 pub use files::{ConfFiles, FileRead, FolderRead};
-pub use laws::{lines_law, one_meaning, reading_is_grammar};
+pub use laws::{key_words_law, lines_law, one_meaning, reading_is_grammar, value_words_law};
 pub use mem_files::MemFiles;
 pub use reader::SettingsReader;
 pub use settings::{AuthDefault, Present, Settings};

@@ -1,6 +1,7 @@
 pub mod Decimals
 pub mod Digits
 pub mod Hexadecimal
+pub mod KeywordTables
 pub mod Tests
 pub mod TimeCuts
 pub mod WordCuts

@@ -1,5 +1,5 @@
 -- The words that a rule is made of: usbguard-rules.conf(5).
-use Rattle.std.specs.Prelude.{ℕ, Bool, nat_eq, if◌then◌else◌, List, codes, Option, Some, None}
+use Rattle.std.specs.Prelude.{◌≡◌, ◌↔◌, ℕ, Bool, nat_eq, if◌then◌else◌, List, codes, Option, Some, None}
 use Rattle.std.specs.Cmp.Lexicographic.{pointwise}
 use Rattle.ug_types.specs.declared.rule.Op.{Op}
 use Rattle.ug_types.specs.declared.rule.Op.TheVariants.{AllOf, OneOf, NoneOf, Equals, EqualsOrdered}
@@ -7,6 +7,10 @@ use Rattle.ug_words.specs.declared.keywords.Attr.{Attr}
 use Rattle.ug_words.specs.declared.keywords.Attr.TheVariants as attr
 use Rattle.ug_words.specs.declared.keywords.CondName.{CondName}
 use Rattle.ug_words.specs.declared.keywords.CondName.TheVariants as condition
+
+-- a word is read as that exactly where it is this one
+abbrev pub IsSpelled : {X : Type 0} → (List ℕ → Option X) → X → List ℕ → Type 0
+IsSpelled reads x word = (text : List ℕ) → (reads text ≡ Some x) ↔ (text ≡ word)
 
 unfoldable pub operator_of : List ℕ → Option Op
 operator_of word =

@@ -1,8 +1,14 @@
 // What the words of rules mean.
-ghost use Rattle.std.specs.Prelude.{◌≡◌, ◌↔◌, ℕ, ◌<◌, ◌^◌, List, Some, decimal};
+ghost use Rattle.std.specs.Prelude.{◌≡◌, ◌↔◌, ℕ, ◌<◌, ◌^◌, List, Some, codes, decimal, true};
 ghost use Rattle.ug_words.specs.declared.words.Clock.{Clock};
 ghost use Rattle.ug_words.specs.declared.words.DaySpan.{DaySpan};
 ghost use Rattle.ug_hex.specs.Digits.{hex_four, hex_two};
+ghost use Rattle.ug_types.specs.Targets.{target_of};
+ghost use Rattle.ug_types.specs.declared.rule.Op.TheVariants as operator;
+ghost use Rattle.ug_types.specs.declared.verdict.Target.TheVariants as target;
+ghost use Rattle.ug_words.specs.Keywords.{IsSpelled, attribute_of, condition_of, is_if, operator_of};
+ghost use Rattle.ug_words.specs.declared.keywords.Attr.TheVariants as attr;
+ghost use Rattle.ug_words.specs.declared.keywords.CondName.TheVariants as condition;
 ghost use Rattle.ug_words.specs.WordGrammar.{IsChance, IsId, IsInterface, IsPast, IsSpan, IsTime};
 ghost use Rattle.ug_words.specs.Words.{chance_of, four_of, id_of, interface_of, number_of, past_of, span_of, time_of, two_of};
 
@@ -24,4 +30,45 @@ pub fn digits_law()
     ensures two { (n : ℕ) → n < 2 ^ 8 → two_of (hex_two n) ≡ Some n }
     ensures four { (n : ℕ) → n < 2 ^ 16 → four_of (hex_four n) ≡ Some n }
     ensures number { (n : ℕ) → n < 2 ^ 32 → number_of (decimal n) ≡ Some n }
+{}
+
+/// Each operator has one word.
+pub fn operator_words_law()
+    ensures all_of { IsSpelled operator_of operator.AllOf (codes "all-of") }
+    ensures one_of { IsSpelled operator_of operator.OneOf (codes "one-of") }
+    ensures none_of { IsSpelled operator_of operator.NoneOf (codes "none-of") }
+    ensures equals { IsSpelled operator_of operator.Equals (codes "equals") }
+    ensures equals_ordered { IsSpelled operator_of operator.EqualsOrdered (codes "equals-ordered") }
+{}
+
+/// Each attribute has one word.
+pub fn attribute_words_law()
+    ensures id { IsSpelled attribute_of attr.Id (codes "id") }
+    ensures serial { IsSpelled attribute_of attr.Serial (codes "serial") }
+    ensures name { IsSpelled attribute_of attr.Name (codes "name") }
+    ensures hash { IsSpelled attribute_of attr.Hash (codes "hash") }
+    ensures parent_hash { IsSpelled attribute_of attr.ParentHash (codes "parent-hash") }
+    ensures via_port { IsSpelled attribute_of attr.ViaPort (codes "via-port") }
+    ensures with_interface { IsSpelled attribute_of attr.Interface (codes "with-interface") }
+    ensures with_connect_type { IsSpelled attribute_of attr.Connect (codes "with-connect-type") }
+    ensures label { IsSpelled attribute_of attr.Label (codes "label") }
+{}
+
+/// Conditions stand behind `if`, and each has one word.
+pub fn condition_words_law()
+    ensures localtime { IsSpelled condition_of condition.LocalTime (codes "localtime") }
+    ensures allowed_matches { IsSpelled condition_of condition.AllowedMatches (codes "allowed-matches") }
+    ensures rule_applied { IsSpelled condition_of condition.RuleApplied (codes "rule-applied") }
+    ensures rule_evaluated { IsSpelled condition_of condition.RuleEvaluated (codes "rule-evaluated") }
+    ensures random { IsSpelled condition_of condition.Random (codes "random") }
+    ensures always { IsSpelled condition_of condition.True (codes "true") }
+    ensures never { IsSpelled condition_of condition.False (codes "false") }
+    ensures begins { (word : List ℕ) → (is_if word ≡ true) ↔ (word ≡ codes "if") }
+{}
+
+/// Each target has one word.
+pub fn target_words_law()
+    ensures allow { IsSpelled target_of target.Allow (codes "allow") }
+    ensures block { IsSpelled target_of target.Block (codes "block") }
+    ensures reject { IsSpelled target_of target.Reject (codes "reject") }
 {}

@@ -7,6 +7,9 @@ mod words;
 mod writing;
 
 pub use keywords::{Attr, CondName, attribute, condition, is_if, operator};
-pub use laws::{digits_law, words_law};
+pub use laws::{
+    attribute_words_law, condition_words_law, digits_law, operator_words_law, target_words_law,
+    words_law,
+};
 pub use words::{Clock, DaySpan, chance, id, interface, past, span};
 pub use writing::{put_byte, put_number};
