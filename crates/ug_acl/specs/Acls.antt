@@ -21,4 +21,5 @@ addition_of a = addition a.who (pairs_kept a.kept)
 
 -- whether a privilege is in the union of what was added for the user or group
 abbrev pub is_allowed : List Addition → Named → Section → Privilege → Bool
-is_allowed all who section privilege = list_any (λ a. same_principal a.who who && holds a.grants section privilege) all
+is_allowed all who section privilege =
+    list_any (λ a. same_principal a.who who && holds a.grants section privilege) all

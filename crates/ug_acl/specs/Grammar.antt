@@ -32,7 +32,8 @@ pub record AreParts (text : List ℕ) (parts : List (List ℕ)) : Type 0 where
 abbrev pub ArePrivileges : Section → List (List ℕ) → List (List ℕ) → Type 0
 ArePrivileges section [] words = words ≡ []
 ArePrivileges section (part ∷ parts) words =
-    (word : List ℕ) × (more : List (List ℕ)) × (words ≡ word ∷ more) × IsTextOf part word × IsPrivilegeOf section word × ArePrivileges section parts more
+    (word : List ℕ) × (more : List (List ℕ)) × (words ≡ word ∷ more) × IsTextOf part word
+    × IsPrivilegeOf section word × ArePrivileges section parts more
 
 -- a line `Section=privilege,privilege` and what it gives
 pub record IsGrant (line : List ℕ) (section : Section) (privileges : Privileges) : Type 0 where
@@ -52,7 +53,8 @@ abbrev pub width_of : List (List ℕ) → ℕ
 width_of [] = 0
 width_of (part ∷ parts) = length part + 1 + width_of parts
 
--- the parts before are privileges of the section, and this one is not; the place is where it begins, behind its blanks
+-- the parts before are privileges of the section, and this one is not; the place is where it
+-- begins, behind its blanks
 pub record IsBadList (section : Section) (value : List ℕ) (place : ℕ) : Type 0 where
   pub good : List (List ℕ)
   pub words : List (List ℕ)
@@ -73,21 +75,29 @@ pub record IsBadList (section : Section) (value : List ℕ) (place : ℕ) : Type
 -- what is wrong with a text behind lines that have some sections, and where
 abbrev pub IsBadGrant : List Section → List ℕ → FaultKind → ℕ → Type 0
 IsBadGrant seen text NoEquals place = (place ≡ 0) × (¬ Has text 61)
-IsBadGrant seen text UnknownSection place = (place ≡ 0) × (word : List ℕ) × (value : List ℕ) × IsEquation text word value × ((section : Section) → ¬ (word ≡ section_word section))
-IsBadGrant seen text Repeated place = (place ≡ 0) × (section : Section) × (value : List ℕ) × IsEquation text (section_word section) value × Has seen section
+IsBadGrant seen text UnknownSection place =
+    (place ≡ 0) × (word : List ℕ) × (value : List ℕ) × IsEquation text word value
+    × ((section : Section) → ¬ (word ≡ section_word section))
+IsBadGrant seen text Repeated place =
+    (place ≡ 0) × (section : Section) × (value : List ℕ)
+    × IsEquation text (section_word section) value × Has seen section
 IsBadGrant seen text BadPrivilege place =
-    (section : Section) × (value : List ℕ) × (at : ℕ) × IsEquation text (section_word section) value × (¬ Has seen section) × IsBadList section value at
+    (section : Section) × (value : List ℕ) × (at : ℕ) × IsEquation text (section_word section) value
+    × (¬ Has seen section) × IsBadList section value at
     × (length text + at ≡ place + length value)
 IsBadGrant seen text BadName place = ⊥
 
 abbrev pub IsBadGrantLine : List Section → List ℕ → FaultKind → ℕ → Type 0
-IsBadGrantLine seen line kind place = (text : List ℕ) × IsTextOf line text × (¬ IsSkipped text) × IsBadGrant seen text kind place
+IsBadGrantLine seen line kind place =
+    (text : List ℕ) × IsTextOf line text × (¬ IsSkipped text) × IsBadGrant seen text kind place
 
 -- what a line is behind lines that have some sections: skipped, a grant in another section, or bad
 pub data IsAccessLine (seen : List Section) (line : List ℕ) : Type 0 where
   Skipped : IsSkippedLine line → IsAccessLine seen line
-  Grants : (section : Section) (privileges : Privileges) → IsGrant line section privileges → ¬ Has seen section → IsAccessLine seen line
-  Wrong : (kind : FaultKind) (place : ℕ) → IsBadGrantLine seen line kind place → IsAccessLine seen line
+  Grants : (section : Section) (privileges : Privileges) → IsGrant line section privileges
+      → ¬ Has seen section → IsAccessLine seen line
+  Wrong : (kind : FaultKind) (place : ℕ) → IsBadGrantLine seen line kind place
+      → IsAccessLine seen line
 
 -- what a line gives
 abbrev pub GivesGrant : ℕ → List ℕ → Given → Type 0
@@ -102,4 +112,5 @@ pub record GivesAccess (text : List ℕ) (pairs : List Pair) : Type 0 where
 
 -- the lines before are good and have each another section, and this one is bad
 abbrev pub IsFirstBadGrant : List ℕ → TextFault → Type 0
-IsFirstBadGrant text fault = IsFirstBad GivesGrant (λ given. given.section) IsBadGrantLine number_of_kind text fault
+IsFirstBadGrant text fault =
+    IsFirstBad GivesGrant (λ given. given.section) IsBadGrantLine number_of_kind text fault

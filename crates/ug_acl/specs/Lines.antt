@@ -29,12 +29,18 @@ begins_at place part = place + (length part - length (without_front part))
 
 -- what a part gives that stands at a place
 abbrev pub part_read : Section → ℕ → List ℕ → Result Privileges GrantFault
-part_read section place part = if is_any (given_by_word section (trimmed part)) then Ok (given_by_word section (trimmed part)) else Err (fault_of_kind BadPrivilege (begins_at place part))
+part_read section place part =
+    if is_any (given_by_word section (trimmed part)) then Ok (given_by_word section (trimmed part))
+    else Err (fault_of_kind BadPrivilege (begins_at place part))
 
--- what the parts give, the first of which stands at a place, or the first that is no privilege of the section
+-- what the parts give, the first of which stands at a place, or the first that is no privilege of
+-- the section
 unfoldable pub parts_read : Section → ℕ → List (List ℕ) → Result Privileges GrantFault
 parts_read section place [] = Ok no_privileges
-parts_read section place (part ∷ parts) = then_on (part_read section place part) (λ first. then_on (parts_read section (place + length part + 1) parts) (λ more. Ok (union first more)))
+parts_read section place (part ∷ parts) =
+    then_on (part_read section place part)
+    (λ first.
+    then_on (parts_read section (place + length part + 1) parts) (λ more. Ok (union first more)))
 
 abbrev pub sections_of : List Given → List Section
 sections_of given = map (λ g. g.section) given
@@ -44,7 +50,8 @@ has_section given section = list_any (λ g. same_section g.section section) give
 
 abbrev pub unless_given : List Given → Option Section → Result Section GrantFault
 unless_given given None = Err (fault_of_kind UnknownSection 0)
-unless_given given (Some section) = if has_section given section then Err (fault_of_kind Repeated 0) else Ok section
+unless_given given (Some section) =
+    if has_section given section then Err (fault_of_kind Repeated 0) else Ok section
 
 -- the section that a word is, unless an earlier line has it
 abbrev pub section_read : List Given → List ℕ → Result Section GrantFault
@@ -56,7 +63,10 @@ given_to section privileges = record { section = section; privileges = privilege
 -- a word, and a list at a place
 abbrev pub grant_read : List Given → List ℕ → List ℕ → ℕ → Result (List Given) GrantFault
 grant_read given word text place =
-    then_on (section_read given word) (λ section. then_on (parts_read section place (parts_of text)) (λ privileges. Ok (given ++ given_to section privileges ∷ [])))
+    then_on (section_read given word)
+    (λ section.
+    then_on (parts_read section place (parts_of text))
+    (λ privileges. Ok (given ++ given_to section privileges ∷ [])))
 
 -- what a line's cut gives
 abbrev pub cut_given : List Given → EquationCut → Result (List Given) GrantFault
@@ -69,7 +79,8 @@ abbrev pub line_given : List Given → List ℕ → Result (List Given) GrantFau
 line_given given line = cut_given given (cut_of line)
 
 -- a call's answer, and what it leaves; a refusal changes nothing
-abbrev pub LeavesGrants : Result (Unit {0}) GrantLineFault → List Given → List Given → Result (List Given) GrantFault → Type 0
+abbrev pub LeavesGrants : Result (Unit {0}) GrantLineFault → List Given → List Given
+    → Result (List Given) GrantFault → Type 0
 LeavesGrants (Ok done) before after read = read ≡ Ok after
 LeavesGrants (Err (Bad fault)) before after read = (read ≡ Err fault) × (after ≡ before)
 LeavesGrants (Err Memory) before after read = after ≡ before

@@ -7,7 +7,8 @@ use Rattle.ug_types.specs.declared.access.Privilege.TheVariants.{Modify, Listen}
 use Rattle.ug_types.specs.declared.access.Privilege.TheVariants as privilege
 use Rattle.ug_acl.specs.Pairs.{Pair, holds}
 
--- the words of the privileges that are held, in their order: whether `modify`, `list` and `listen` are
+-- the words of the privileges that are held, in their order: whether `modify`, `list` and `listen`
+-- are
 abbrev pub words_held : Bool → Bool → Bool → List ℕ
 words_held false false false = []
 words_held false false true = codes "listen"
@@ -19,7 +20,9 @@ words_held true true false = codes "modify,list"
 words_held true true true = codes "modify,list,listen"
 
 abbrev pub held_in : List Pair → Section → List ℕ
-held_in pairs section = words_held (holds pairs section Modify) (holds pairs section privilege.List) (holds pairs section Listen)
+held_in pairs section =
+    words_held (holds pairs section Modify) (holds pairs section privilege.List)
+    (holds pairs section Listen)
 
 -- no line where nothing is held
 abbrev pub grant_line : Section → List ℕ → List ℕ
@@ -30,4 +33,5 @@ grant_line section (b ∷ words) = section_word section ++ (61 ∷ (b ∷ words)
 unfoldable pub printed : List Pair → List ℕ
 printed pairs =
     grant_line Devices (held_in pairs Devices) ++ (grant_line Policy (held_in pairs Policy)
-    ++ (grant_line Exceptions (held_in pairs Exceptions) ++ grant_line Parameters (held_in pairs Parameters)))
+    ++ (grant_line Exceptions (held_in pairs Exceptions)
+    ++ grant_line Parameters (held_in pairs Parameters)))

@@ -13,7 +13,8 @@ use Rattle.ug_acl.specs.Words.{has_privilege}
 
 -- whether some line gives a privilege
 abbrev pub is_given : List Given → Section → Privilege → Bool
-is_given given section privilege = list_any (λ g. same_section g.section section && has_privilege g.privileges privilege) given
+is_given given section privilege =
+    list_any (λ g. same_section g.section section && has_privilege g.privileges privilege) given
 
 -- what lines give, in the order of all that there are
 abbrev pub pairs_given : List Given → List Pair

@@ -12,10 +12,17 @@ use Rattle.ug_acl.specs.Pairs.{all_pairs, holds}
 
 -- a word gives the privilege that it names, and `ALL` gives each that the section has
 abbrev pub gives : Section → Privilege → List ℕ → Bool
-gives section privilege word = holds all_pairs section privilege && (pointwise nat_eq word (codes "ALL") || pointwise nat_eq word (privilege_word privilege))
+gives section privilege word =
+    holds all_pairs section privilege
+    && (pointwise nat_eq word (codes "ALL") || pointwise nat_eq word (privilege_word privilege))
 
 abbrev pub given_by_word : Section → List ℕ → Privileges
-given_by_word section word = record { modify = gives section Modify word; list = gives section privilege.List word; listen = gives section Listen word }
+given_by_word section word =
+    record {
+      modify = gives section Modify word;
+      list = gives section privilege.List word;
+      listen = gives section Listen word;
+    }
 
 -- what some of the words give
 abbrev pub given_by_words : Section → List (List ℕ) → Privileges
@@ -29,7 +36,8 @@ abbrev pub no_privileges : Privileges
 no_privileges = record { modify = false; list = false; listen = false }
 
 abbrev pub union : Privileges → Privileges → Privileges
-union a b = record { modify = a.modify || b.modify; list = a.list || b.list; listen = a.listen || b.listen }
+union a b =
+    record { modify = a.modify || b.modify; list = a.list || b.list; listen = a.listen || b.listen }
 
 abbrev pub is_any : Privileges → Bool
 is_any held = held.modify || held.list || held.listen

@@ -37,7 +37,8 @@ impl Model for Acl {
 }
 
 fn is_added(all: &[Added], who: &Principal, section: Section, privilege: Privilege) -> bool
-    ensures { result ≡ list_any (λ a. same_principal a.who who.now && holds (pairs_kept a.kept) section privilege) all.now }
+    ensures { result ≡ list_any
+        (λ a. same_principal a.who who.now && holds (pairs_kept a.kept) section privilege) all.now }
 {
     all.iter()
         .any(|a| a.who == *who && a.kept.has(section, privilege))

@@ -95,7 +95,8 @@ fn add_grant(
     place: u64,
 ) -> Result<(), LineFault<FaultKind>>
     requires { place + length text.now + 1 < 2 ^ 64 }
-    ensures { LeavesGrants result given.old.items given.new.items (grant_read given.old.items word.now text.now place) }
+    ensures { LeavesGrants result given.old.items given.new.items
+        (grant_read given.old.items word.now text.now place) }
 {
     let section = new_section(given.as_slice(), word)?;
     let privileges = read_list(alloc, section, text, place)?;
@@ -114,7 +115,8 @@ pub fn add_line(
     given: &mut Vec<Given>,
     line: &[u8],
 ) -> Result<(), LineFault<FaultKind>>
-    ensures { LeavesGrants result given.old.items given.new.items (line_given given.old.items line.now) }
+    ensures { LeavesGrants result given.old.items given.new.items
+        (line_given given.old.items line.now) }
 {
     match cut_line(line) {
         LineCut::Skipped => Ok(()),

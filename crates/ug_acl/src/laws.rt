@@ -21,32 +21,50 @@ use ug_types::{Privilege, Section};
 /// A line is skipped, grants something in another section, or is bad, and is read so.
 pub fn access_lines_law()
     ensures each { (seen : List Section) (line : List ℕ) → IsAccessLine seen line }
-    ensures skipped { (given : List Given) (line : List ℕ) → IsSkippedLine line → line_given given line ≡ Ok given }
-    ensures grants { (given : List Given) (line : List ℕ) (section : Section) (privileges : Privileges) → IsGrant line section privileges → ¬ Has (sections_of given) section → line_given given line ≡ Ok (given ++ given_to section privileges ∷ []) }
-    ensures bad { (given : List Given) (line : List ℕ) (kind : FaultKind) (place : ℕ) → IsBadGrantLine (sections_of given) line kind place → line_given given line ≡ Err (fault_of_kind kind place) }
+    ensures skipped { (given : List Given) (line : List ℕ) → IsSkippedLine line
+        → line_given given line ≡ Ok given }
+    ensures grants { (given : List Given) (line : List ℕ) (section : Section)
+        (privileges : Privileges) → IsGrant line section privileges
+        → ¬ Has (sections_of given) section
+        → line_given given line ≡ Ok (given ++ given_to section privileges ∷ []) }
+    ensures bad { (given : List Given) (line : List ℕ) (kind : FaultKind) (place : ℕ)
+        → IsBadGrantLine (sections_of given) line kind place
+        → line_given given line ≡ Err (fault_of_kind kind place) }
 {}
 
 /// A text reads as grants exactly where its lines give them, and has a fault exactly where that is its first bad line.
 pub fn reading_is_access_grammar()
-    ensures good { (text : List ℕ) (pairs : List Pair) → (access_read text ≡ Ok pairs) ↔ GivesAccess text pairs }
-    ensures bad { (text : List ℕ) (fault : TextFault) → (access_read text ≡ Err fault) ↔ IsFirstBadGrant text fault }
+    ensures good { (text : List ℕ) (pairs : List Pair)
+        → (access_read text ≡ Ok pairs) ↔ GivesAccess text pairs }
+    ensures bad { (text : List ℕ) (fault : TextFault)
+        → (access_read text ≡ Err fault) ↔ IsFirstBadGrant text fault }
 {}
 
 /// A text gives one list of grants, or has one first bad line, and never both.
 pub fn one_access_meaning()
-    ensures some { (text : List ℕ) → ((pairs : List Pair) × GivesAccess text pairs) ⊎ ((fault : TextFault) × IsFirstBadGrant text fault) }
-    ensures one_list { (text : List ℕ) (a b : List Pair) → GivesAccess text a → GivesAccess text b → a ≡ b }
-    ensures one_fault { (text : List ℕ) (a b : TextFault) → IsFirstBadGrant text a → IsFirstBadGrant text b → a ≡ b }
-    ensures not_both { (text : List ℕ) (pairs : List Pair) (fault : TextFault) → GivesAccess text pairs → IsFirstBadGrant text fault → ⊥ }
+    ensures some { (text : List ℕ)
+        → ((pairs : List Pair) × GivesAccess text pairs)
+        ⊎ ((fault : TextFault) × IsFirstBadGrant text fault) }
+    ensures one_list { (text : List ℕ) (a b : List Pair) → GivesAccess text a → GivesAccess text b
+        → a ≡ b }
+    ensures one_fault { (text : List ℕ) (a b : TextFault) → IsFirstBadGrant text a
+        → IsFirstBadGrant text b → a ≡ b }
+    ensures not_both { (text : List ℕ) (pairs : List Pair) (fault : TextFault)
+        → GivesAccess text pairs → IsFirstBadGrant text fault → ⊥ }
 {}
 
 /// A printed text reads back as the grants. Grants are a part of all pairs, in their order.
 pub fn printing_reads_back()
-    ensures { (kept : Pair → Bool) → access_read (printed (filter kept all_pairs)) ≡ Ok (filter kept all_pairs) }
+    ensures { (kept : Pair → Bool)
+        → access_read (printed (filter kept all_pairs)) ≡ Ok (filter kept all_pairs) }
 {}
 
 /// The tests of membership say what is an element.
 pub fn members_law()
-    ensures granted { (pairs : List Pair) (section : Section) (privilege : Privilege) → IsTrue (holds pairs section privilege) ↔ Has pairs (section, privilege) }
-    ensures allowed { (all : List Addition) (who : Named) (section : Section) (privilege : Privilege) → IsTrue (is_allowed all who section privilege) ↔ ((a : Addition) × Has all a × (a.who ≡ who) × Has a.grants (section, privilege)) }
+    ensures granted { (pairs : List Pair) (section : Section) (privilege : Privilege)
+        → IsTrue (holds pairs section privilege) ↔ Has pairs (section, privilege) }
+    ensures allowed { (all : List Addition) (who : Named) (section : Section)
+        (privilege : Privilege)
+        → IsTrue (is_allowed all who section privilege) ↔
+        ((a : Addition) × Has all a × (a.who ≡ who) × Has a.grants (section, privilege)) }
 {}

@@ -37,7 +37,8 @@ fn words_in(kept: &Kept, section: Section) -> &'static [u8]
 }
 
 fn print_line(out: &mut Vec<u8>, section: Section, words: &[u8]) -> Result<(), NoMemory>
-    ensures { OnOk result (out.new.items ≡ out.old.items ++ (section_word section ++ (61 ∷ words.now ++ 10 ∷ []))) }
+    ensures { OnOk result
+        (out.new.items ≡ out.old.items ++ (section_word section ++ (61 ∷ words.now ++ 10 ∷ []))) }
 {
     out.extend_from_slice(section.word())?;
     out.extend_from_slice(b"=")?;
@@ -48,7 +49,9 @@ fn print_line(out: &mut Vec<u8>, section: Section, words: &[u8]) -> Result<(), N
 
 // Appends the line of a section, where something is held there.
 fn print_section(out: &mut Vec<u8>, kept: &Kept, section: Section) -> Result<(), NoMemory>
-    ensures { OnOk result (out.new.items ≡ out.old.items ++ grant_line section (held_in (pairs_kept kept.now) section)) }
+    ensures { OnOk result
+        (out.new.items
+        ≡ out.old.items ++ grant_line section (held_in (pairs_kept kept.now) section)) }
 {
     let words = words_in(kept, section);
     if words.is_empty() {

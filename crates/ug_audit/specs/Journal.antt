@@ -17,7 +17,8 @@ Told X F = (b : DynBox X Global F) → Ghosts (F b.vtable)
 -- the members of a panel
 abbrev pub members : {X : Type 0} {F : X → Type 0} → Told X F → Panel X F → List Member
 members told panel =
-    members_of (λ b. (told b).text b.value) (λ b. (told b).faults b.value) panel.auditors.items panel.dropped
+    members_of (λ b. (told b).text b.value)
+    (λ b. (told b).faults b.value) panel.auditors.items panel.dropped
 
 -- how many of them aren't dropped
 abbrev pub live_in : {X : Type 0} {F : X → Type 0} → Panel X F → ℕ
@@ -32,14 +33,16 @@ noted_in journal = record {
 }
 
 -- it notes into the same panel and the same entries; some entries more were noted since
-pub record SameEntries {X : Type 0} {F : X → Type 0} (told : Told X F) (before after : Journal X F) : Type 0 where
+pub record SameEntries {X : Type 0} {F : X → Type 0} (told : Told X F)
+    (before after : Journal X F) : Type 0 where
   pub panel : after.panel.ghost_name ≡ before.panel.ghost_name
   pub entries : after.entries.ghost_name ≡ before.entries.ghost_name
   pub added : List Entry
   pub all : after.entries.now.entries ≡ before.entries.now.entries ++ added
   pub noted : NotesEntries added (members told before.panel.now) (members told after.panel.now)
 
--- the same, and the entries have the same room; and of the places that were left it used at most so many
+-- the same, and the entries have the same room; and of the places that were left it used at most so
+-- many
 abbrev pub Notes : {X : Type 0} {F : X → Type 0} → Told X F → ℕ → Journal X F → Journal X F → Type 0
 Notes told most before after =
     SameEntries told before after

@@ -68,20 +68,30 @@ fault_words fault.Memory = codes "memory" ∷ []
 
 -- a star stands for every name
 unfoldable pub entry_line : Entry → List ℕ
-entry_line (entry.Event number moment) = and_words (codes "event") (decimal number ∷ codes "sweep" ∷ decimal moment.0 ∷ [])
-entry_line (entry.Order number moment who) = and_words (codes "event") (decimal number ∷ codes "order" ∷ decimal moment.0 ∷ principal_text who ∷ [])
+entry_line (entry.Event number moment) =
+    and_words (codes "event") (decimal number ∷ codes "sweep" ∷ decimal moment.0 ∷ [])
+entry_line (entry.Order number moment who) =
+    and_words (codes "event")
+    (decimal number ∷ codes "order" ∷ decimal moment.0 ∷ principal_text who ∷ [])
 entry_line (entry.Save became) = and_words (codes "save") (saved_word became ∷ [])
-entry_line (entry.Judged number name held verdict why) = and_words (codes "judged") (decimal number ∷ name ∷ target_word verdict ∷ cause_words why)
-entry_line (entry.Intent number name bytes) = and_words (codes "intent") (decimal number ∷ name ∷ write_word bytes ∷ [])
-entry_line (entry.Wrote number name bytes outcome) = and_words (codes "wrote") (decimal number ∷ name ∷ write_word bytes ∷ wrote_word outcome ∷ [])
+entry_line (entry.Judged number name held verdict why) =
+    and_words (codes "judged") (decimal number ∷ name ∷ target_word verdict ∷ cause_words why)
+entry_line (entry.Intent number name bytes) =
+    and_words (codes "intent") (decimal number ∷ name ∷ write_word bytes ∷ [])
+entry_line (entry.Wrote number name bytes outcome) =
+    and_words (codes "wrote") (decimal number ∷ name ∷ write_word bytes ∷ wrote_word outcome ∷ [])
 entry_line (entry.Gone number name) = and_words (codes "gone") (decimal number ∷ name ∷ [])
 entry_line (entry.Unsettled name why) = and_words (codes "unsettled") (name ∷ fault_words why)
 entry_line (entry.UnsettledAll why) = and_words (codes "unsettled") (codes "*" ∷ fault_words why)
 entry_line (entry.Rules done id) = and_words (codes "rules") (change_word done ∷ decimal id ∷ [])
-entry_line (entry.Parameter set) = and_words (codes "parameter") (parameter_name (parameter_set set) ∷ value_word set ∷ [])
+entry_line (entry.Parameter set) =
+    and_words (codes "parameter") (parameter_name (parameter_set set) ∷ value_word set ∷ [])
 entry_line (entry.Reply (Ok done)) = and_words (codes "reply") (codes "ok" ∷ [])
 entry_line (entry.Reply (Err refusal)) = and_words (codes "reply") (refusal_words refusal ∷ [])
 entry_line (entry.Dropped member) = and_words (codes "dropped") (decimal member ∷ [])
 entry_line (entry.End number) = and_words (codes "end") (decimal number ∷ [])
-entry_line (entry.UnusedKey line) = and_words (codes "note") (codes "unused-key" ∷ decimal line ∷ [])
-entry_line (entry.StartRefused what line kind place) = and_words (codes "start-refused") (part_word what ∷ decimal line ∷ decimal kind ∷ decimal place ∷ [])
+entry_line (entry.UnusedKey line) =
+    and_words (codes "note") (codes "unused-key" ∷ decimal line ∷ [])
+entry_line (entry.StartRefused what line kind place) =
+    and_words (codes "start-refused")
+    (part_word what ∷ decimal line ∷ decimal kind ∷ decimal place ∷ [])

@@ -14,7 +14,8 @@ abbrev pub without_drops : List Entry → List Entry
 without_drops [] = []
 without_drops (e ∷ es) = (if tells_drop e then without_drops es else e ∷ without_drops es)
 
--- the entry that may come next, where the `dropped` entries of these members are still to come, in order
+-- the entry that may come next, where the `dropped` entries of these members are still to come, in
+-- order
 abbrev pub IsNext : List ℕ → Entry → Type 0
 IsNext [] e = tells_drop e ≡ false
 IsNext (i ∷ due) e = e ≡ entry.Dropped i
@@ -24,8 +25,8 @@ abbrev pub due_behind : List ℕ → List ℕ → List ℕ
 due_behind [] failed = failed
 due_behind (i ∷ due) failed = due ++ failed
 
--- each entry's line is noted by the members that aren't dropped, and a `dropped` entry stands for each that fails, behind the
--- entry at whose line it did, with only `dropped` entries between
+-- each entry's line is noted by the members that aren't dropped, and a `dropped` entry stands for
+-- each that fails, behind the entry at whose line it did, with only `dropped` entries between
 abbrev pub NotesEach : List ℕ → List Entry → List Member → List ℕ → List Member → Type 0
 NotesEach due [] before later after = (later ≡ due) × (after ≡ before)
 NotesEach due (e ∷ es) before later after =

@@ -27,9 +27,11 @@ IsUnsettling fault.Memory = Unit {0}
 -- the numbers, names and principals that an entry can have: each value of the type is so
 abbrev pub IsEntry : Entry → Type 0
 IsEntry (entry.Event number moment) = (number < 2 ^ 64) × (moment.0 < 2 ^ 64)
-IsEntry (entry.Order number moment who) = (number < 2 ^ 64) × (moment.0 < 2 ^ 64) × IsTrue (is_name who.name)
+IsEntry (entry.Order number moment who) =
+    (number < 2 ^ 64) × (moment.0 < 2 ^ 64) × IsTrue (is_name who.name)
 IsEntry (entry.Save became) = Unit {0}
-IsEntry (entry.Judged number name held verdict why) = (number < 2 ^ 64) × IsNodeName name × IsCause why
+IsEntry (entry.Judged number name held verdict why) =
+    (number < 2 ^ 64) × IsNodeName name × IsCause why
 IsEntry (entry.Intent number name what) = (number < 2 ^ 64) × IsNodeName name
 IsEntry (entry.Wrote number name what outcome) = (number < 2 ^ 64) × IsNodeName name
 IsEntry (entry.Gone number name) = (number < 2 ^ 64) × IsNodeName name
@@ -42,10 +44,13 @@ IsEntry (entry.Reply (Err refusal)) = IsRefusal refusal
 IsEntry (entry.Dropped member) = member < 256
 IsEntry (entry.End number) = number < 2 ^ 64
 IsEntry (entry.UnusedKey line) = line < 2 ^ 64
-IsEntry (entry.StartRefused part line kind place) = (line < 2 ^ 64) × (kind < 256) × (place < 2 ^ 64)
+IsEntry (entry.StartRefused part line kind place) =
+    (line < 2 ^ 64) × (kind < 256) × (place < 2 ^ 64)
 
--- the held file of a verdict and the count of a failed save aren't printed: the entry with 0 in their place
+-- the held file of a verdict and the count of a failed save aren't printed: the entry with 0 in
+-- their place
 abbrev pub as_printed : Entry → Entry
-as_printed (entry.Judged number name held verdict why) = entry.Judged number name (record { 0 = 0 }) verdict why
+as_printed (entry.Judged number name held verdict why) =
+    entry.Judged number name (record { 0 = 0 }) verdict why
 as_printed (entry.Save (saved.Failed count)) = entry.Save (saved.Failed 0)
 as_printed e = e

@@ -11,8 +11,9 @@ abbrev pub text_of : List Entry → List ℕ
 text_of [] = []
 text_of (e ∷ es) = (entry_line e ++ 10 ∷ []) ++ text_of es
 
--- by whether it was dropped before, and is so after: a member that isn't dropped took the text; one that is dropped now took a
--- front of it, and a call of it failed; to one that was dropped nothing is done
+-- by whether it was dropped before, and is so after: a member that isn't dropped took the text; one
+-- that is dropped now took a front of it, and a call of it failed; to one that was dropped nothing
+-- is done
 abbrev pub TookAs : Bool → Bool → List ℕ → Member → Member → Type 0
 TookAs true true text m n = n ≡ m
 TookAs true false text m n = ⊥

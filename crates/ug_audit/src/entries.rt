@@ -19,7 +19,8 @@ impl Model for Entries {
 
     ghost Value = { Noted };
 
-    ghost view = { λ e. record { entries = e.items.items; spare = e.spare; room = length e.items.items + e.spare } };
+    ghost view = { λ e. record
+        { entries = e.items.items; spare = e.spare; room = length e.items.items + e.spare } };
 
     ghost invariant = { λ e. length e.items.items + e.spare ≤ vec_capacity e.items };
 }

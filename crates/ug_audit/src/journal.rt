@@ -68,12 +68,18 @@ impl<'a> Journal<'a> {
         requires few { array_vec_len due.old + live_in self.old.panel.now ≤ 64 }
         ensures same_panel { self.new.panel.ghost_name ≡ self.old.panel.ghost_name }
         ensures same_entries { self.new.entries.ghost_name ≡ self.old.entries.ghost_name }
-        ensures entries { self.new.entries.now.entries ≡ self.old.entries.now.entries ++ entry ∷ [] }
+        ensures entries { self.new.entries.now.entries
+            ≡ self.old.entries.now.entries ++ entry ∷ [] }
         ensures spare { self.new.entries.now.spare + 1 ≡ self.old.entries.now.spare }
         ensures room { self.new.entries.now.room ≡ self.old.entries.now.room }
-        ensures each { NotesAll (entry_line entry) (members Auditor-box self.old.panel.now) (members Auditor-box self.new.panel.now) }
-        ensures due { due.new.items ≡ due.old.items ++ newly_dropped 0 (members Auditor-box self.old.panel.now) (members Auditor-box self.new.panel.now) }
-        ensures live { live_in self.new.panel.now + array_vec_len due.new ≡ live_in self.old.panel.now + array_vec_len due.old }
+        ensures each { NotesAll (entry_line entry) (members Auditor-box self.old.panel.now)
+            (members Auditor-box self.new.panel.now) }
+        ensures due { due.new.items
+            ≡ due.old.items
+            ++ newly_dropped 0 (members Auditor-box self.old.panel.now)
+            (members Auditor-box self.new.panel.now) }
+        ensures live { live_in self.new.panel.now + array_vec_len due.new
+            ≡ live_in self.old.panel.now + array_vec_len due.old }
     {
         let line = line_of(&entry);
         self.panel.give_line(line.bytes(), due);

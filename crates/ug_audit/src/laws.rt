@@ -20,8 +20,10 @@ pub fn entries_law()
 pub fn noted_law()
     ensures texts { (es : List Entry) (before after : List Member) → NotesEntries es before after
         → TookAll (text_of es) before after }
-    ensures alone { (es : List Entry) (before after : List Member) → live before ≡ 0 → NotesEntries es before after
+    ensures alone { (es : List Entry) (before after : List Member) → live before ≡ 0
+        → NotesEntries es before after
         → without_drops es ≡ es }
-    ensures behind { (es more : List Entry) (before between after : List Member) → NotesEntries es before between
+    ensures behind { (es more : List Entry) (before between after : List Member)
+        → NotesEntries es before between
         → NotesEntries more between after → NotesEntries (es ++ more) before after }
 {}

@@ -148,7 +148,8 @@ fn of_device(word: &[u8], number: u64, name: &NodeName) -> Line
 }
 
 fn line_of_event(number: u64, moment: Moment) -> Line
-    ensures { result ≡ and_words (codes "event") (decimal number ∷ codes "sweep" ∷ decimal moment.0 ∷ []) }
+    ensures { result ≡ and_words (codes "event")
+        (decimal number ∷ codes "sweep" ∷ decimal moment.0 ∷ []) }
 {
     let mut line = Line::of(b"event");
     line.push_number(number);
@@ -158,7 +159,8 @@ fn line_of_event(number: u64, moment: Moment) -> Line
 }
 
 fn line_of_order(number: u64, moment: Moment, who: &Principal) -> Line
-    ensures { result ≡ and_words (codes "event") (decimal number ∷ codes "order" ∷ decimal moment.0 ∷ principal_text who.now ∷ []) }
+    ensures { result ≡ and_words (codes "event")
+        (decimal number ∷ codes "order" ∷ decimal moment.0 ∷ principal_text who.now ∷ []) }
 {
     let mut line = Line::of(b"event");
     line.push_number(number);
@@ -180,7 +182,8 @@ fn of_words(first: &[u8], second: &[u8]) -> Line
 }
 
 fn line_of_verdict(number: u64, name: &NodeName, verdict: Target, cause: Cause) -> Line
-    ensures { result ≡ and_words (codes "judged") (decimal number ∷ name.now ∷ target_word verdict ∷ cause_words cause) }
+    ensures { result ≡ and_words (codes "judged")
+        (decimal number ∷ name.now ∷ target_word verdict ∷ cause_words cause) }
 {
     let mut line = of_device(b"judged", number, name);
     line.push_word(verdict.word());
@@ -189,7 +192,8 @@ fn line_of_verdict(number: u64, name: &NodeName, verdict: Target, cause: Cause) 
 }
 
 fn line_of_intent(number: u64, name: &NodeName, write: Write) -> Line
-    ensures { result ≡ and_words (codes "intent") (decimal number ∷ name.now ∷ lines.write_word write ∷ []) }
+    ensures { result ≡ and_words (codes "intent")
+        (decimal number ∷ name.now ∷ lines.write_word write ∷ []) }
 {
     let mut line = of_device(b"intent", number, name);
     line.push_word(word_of_write(write));
@@ -197,7 +201,8 @@ fn line_of_intent(number: u64, name: &NodeName, write: Write) -> Line
 }
 
 fn line_of_outcome(number: u64, name: &NodeName, write: Write, outcome: Wrote) -> Line
-    ensures { result ≡ and_words (codes "wrote") (decimal number ∷ name.now ∷ lines.write_word write ∷ wrote_word outcome ∷ []) }
+    ensures { result ≡ and_words (codes "wrote")
+        (decimal number ∷ name.now ∷ lines.write_word write ∷ wrote_word outcome ∷ []) }
 {
     let mut line = of_device(b"wrote", number, name);
     line.push_word(word_of_write(write));
@@ -242,7 +247,8 @@ fn line_of_refusal(refusal: &Refusal) -> Line
 }
 
 fn line_of_parameter(parameter: Parameter) -> Line
-    ensures { result ≡ and_words (codes "parameter") (parameter_name (parameter_set parameter) ∷ value_word parameter ∷ []) }
+    ensures { result ≡ and_words (codes "parameter")
+        (parameter_name (parameter_set parameter) ∷ value_word parameter ∷ []) }
 {
     let mut line = Line::of(b"parameter");
     line.push_word(parameter.name().word());
@@ -270,7 +276,8 @@ fn line_of_unused(number: u64) -> Line
 }
 
 fn line_of_start_refused(part: ConfigPart, number: u64, kind: u8, place: u64) -> Line
-    ensures { result ≡ and_words (codes "start-refused") (part_word part ∷ decimal number ∷ decimal kind ∷ decimal place ∷ []) }
+    ensures { result ≡ and_words (codes "start-refused")
+        (part_word part ∷ decimal number ∷ decimal kind ∷ decimal place ∷ []) }
 {
     let mut line = Line::of(b"start-refused");
     line.push_word(word_of_part(part));

@@ -18,7 +18,9 @@ pub struct Panel {
 
 /// Gives the line to an auditor that isn't dropped, and drops it where it fails. Tells whether it did.
 fn give(auditor: &mut Box<dyn Auditor>, dropped: &mut bool, line: &[u8]) -> bool
-    ensures taken { TakesAs dropped.old dropped.new line.now (record { text = text auditor.old; faults = faults auditor.old; dropped = dropped.old }) (record { text = text auditor.new; faults = faults auditor.new; dropped = dropped.new }) }
+    ensures taken { TakesAs dropped.old dropped.new line.now
+        (record { text = text auditor.old; faults = faults auditor.old; dropped = dropped.old })
+        (record { text = text auditor.new; faults = faults auditor.new; dropped = dropped.new }) }
     ensures told { result ≡ is_newly dropped.old dropped.new }
     ensures live { one_live dropped.new + newly dropped.old dropped.new ≡ one_live dropped.old }
 {
@@ -45,10 +47,18 @@ fn give_all(
     requires few { first + length auditors.old ≤ 64 }
     requires marks { length auditors.old ≤ length dropped.old }
     requires room { array_vec_len due.old + live_of auditors.old dropped.old ≤ 64 }
-    ensures each { NotesAll line.now (members_of (λ b. text b) (λ b. faults b) auditors.old dropped.old) (members_of (λ b. text b) (λ b. faults b) auditors.new dropped.new) }
-    ensures set { result ≡ dropped_between (members_of (λ b. text b) (λ b. faults b) auditors.old dropped.old) (members_of (λ b. text b) (λ b. faults b) auditors.new dropped.new) }
-    ensures due { due.new.items ≡ due.old.items ++ newly_dropped first (members_of (λ b. text b) (λ b. faults b) auditors.old dropped.old) (members_of (λ b. text b) (λ b. faults b) auditors.new dropped.new) }
-    ensures live { live_of auditors.new dropped.new + array_vec_len due.new ≡ live_of auditors.old dropped.old + array_vec_len due.old }
+    ensures each { NotesAll line.now
+        (members_of (λ b. text b) (λ b. faults b) auditors.old dropped.old)
+        (members_of (λ b. text b) (λ b. faults b) auditors.new dropped.new) }
+    ensures set { result ≡ dropped_between
+        (members_of (λ b. text b) (λ b. faults b) auditors.old dropped.old)
+        (members_of (λ b. text b) (λ b. faults b) auditors.new dropped.new) }
+    ensures due { due.new.items
+        ≡ due.old.items
+        ++ newly_dropped first (members_of (λ b. text b) (λ b. faults b) auditors.old dropped.old)
+        (members_of (λ b. text b) (λ b. faults b) auditors.new dropped.new) }
+    ensures live { live_of auditors.new dropped.new + array_vec_len due.new
+        ≡ live_of auditors.old dropped.old + array_vec_len due.old }
     ensures small { result < 2 ^ length auditors.old }
     ensures auditors { length auditors.new ≡ length auditors.old }
     ensures dropped { length dropped.new ≡ length dropped.old }
@@ -91,8 +101,10 @@ impl Panel {
     /// Gives a line to each member that isn't dropped, in order, and drops those that fail. The answer is the set of these, bit i
     /// for member i. It takes no memory.
     pub fn note(&mut self, line: &[u8]) -> u64
-        ensures each { NotesAll line.now (members Auditor-box self.old) (members Auditor-box self.new) }
-        ensures set { result ≡ dropped_between (members Auditor-box self.old) (members Auditor-box self.new) }
+        ensures each { NotesAll line.now (members Auditor-box self.old)
+            (members Auditor-box self.new) }
+        ensures set { result ≡ dropped_between (members Auditor-box self.old)
+            (members Auditor-box self.new) }
         ensures len { length self.new.auditors.items ≡ length self.old.auditors.items }
     {
         self.give_line(line, &mut ArrayVec::new())
@@ -101,10 +113,15 @@ impl Panel {
     /// Notes a line; the numbers of those that fail go behind the others that are due.
     pub(crate) fn give_line(&mut self, line: &[u8], due: &mut ArrayVec<u8, 64>) -> u64
         requires { array_vec_len due.old + live_in self.old ≤ 64 }
-        ensures each { NotesAll line.now (members Auditor-box self.old) (members Auditor-box self.new) }
-        ensures set { result ≡ dropped_between (members Auditor-box self.old) (members Auditor-box self.new) }
-        ensures due { due.new.items ≡ due.old.items ++ newly_dropped 0 (members Auditor-box self.old) (members Auditor-box self.new) }
-        ensures live { live_in self.new + array_vec_len due.new ≡ live_in self.old + array_vec_len due.old }
+        ensures each { NotesAll line.now (members Auditor-box self.old)
+            (members Auditor-box self.new) }
+        ensures set { result ≡ dropped_between (members Auditor-box self.old)
+            (members Auditor-box self.new) }
+        ensures due { due.new.items
+            ≡ due.old.items
+            ++ newly_dropped 0 (members Auditor-box self.old) (members Auditor-box self.new) }
+        ensures live { live_in self.new + array_vec_len due.new
+            ≡ live_in self.old + array_vec_len due.old }
         ensures len { length self.new.auditors.items ≡ length self.old.auditors.items }
     {
         give_all(
@@ -127,7 +144,8 @@ impl Panel {
     /// The text that the member of that number tells.
     pub fn text(&self, i: usize) -> Option<&[u8]>
         requires { i < length self.now.auditors.items }
-        ensures { (b : _) → slice_get self.now.auditors.items i ≡ Some b → IsTextTaken (option_copied result) (text b) }
+        ensures { (b : _) → slice_get self.now.auditors.items i ≡ Some b
+            → IsTextTaken (option_copied result) (text b) }
     {
         match self.auditors.get(i) {
             Some(auditor) => text_of(auditor),

@@ -33,7 +33,8 @@ impl TextAuditor {
 
     #[tactic(auto, using(crate::proofs::Fronts::nothing_taken, crate::proofs::Fronts::line_taken))]
     fn append(&mut self, line: &[u8]) -> Noted
-        ensures text { TakesLine (Some self.old.bytes.items) (Some self.new.bytes.items) line.now result }
+        ensures text { TakesLine (Some self.old.bytes.items)
+            (Some self.new.bytes.items) line.now result }
         ensures faults { self.new.faults ≡ self.old.faults }
     {
         if self.bytes.extend_from_slice(line).is_err() {

@@ -8,4 +8,6 @@ rules_line count = codes "rules " ++ decimal count ++ 10 ∷ []
 
 -- the number of the first bad line, what is wrong with it, and where in the line that stands
 unfoldable pub bad_rules_line : TextFault → List ℕ
-bad_rules_line fault = codes "bad rules line " ++ decimal fault.line ++ codes " kind " ++ decimal fault.kind ++ codes " place " ++ decimal fault.place ++ 10 ∷ []
+bad_rules_line fault =
+    codes "bad rules line " ++ decimal fault.line ++ codes " kind " ++ decimal fault.kind
+    ++ codes " place " ++ decimal fault.place ++ 10 ∷ []

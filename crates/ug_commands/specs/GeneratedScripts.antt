@@ -1,7 +1,8 @@
 -- The scripts that `make-script` writes: usbguard(1).
 use Rattle.std.specs.Prelude.{ℕ, zero, suc, ◌+◌, ◌*◌, ◌/◌, ◌%◌, ◌^◌, nat_eq, if◌then◌else◌, List, [], ◌∷◌, ◌++◌, codes, decimal}
 
--- A linear congruential generator of 32 bits gives a number to each event: its first event has the number behind the start.
+-- A linear congruential generator of 32 bits gives a number to each event: its first event has the
+-- number behind the start.
 
 abbrev pub number_behind : ℕ → ℕ
 number_behind number = (1664525 * number + 1013904223) % 2 ^ 32
@@ -33,11 +34,13 @@ unplug_line port = codes "unplug 1-" ++ decimal port ++ 10 ∷ []
 
 -- the device that the rules allow, which starts switched off
 unfoldable pub allowed_line : ℕ → List ℕ
-allowed_line port = codes "plug 1-" ++ decimal port ++ codes " 0 120100020000004050101100000100000001 - - -\n"
+allowed_line port =
+    codes "plug 1-" ++ decimal port ++ codes " 0 120100020000004050101100000100000001 - - -\n"
 
 -- the device that the rules block, which starts switched on
 unfoldable pub blocked_line : ℕ → List ℕ
-blocked_line port = codes "plug 1-" ++ decimal port ++ codes " 1 120100020000004050101200000100000001 - - -\n"
+blocked_line port =
+    codes "plug 1-" ++ decimal port ++ codes " 1 120100020000004050101200000100000001 - - -\n"
 
 unfoldable pub fail_line : ℕ → List ℕ
 fail_line call = codes "fail " ++ decimal call ++ 10 ∷ []
@@ -48,7 +51,8 @@ sweep_line event = codes "sweep " ++ decimal event ++ 10 ∷ []
 -- what happens before an event
 abbrev pub happening_line : ℕ → ℕ → ℕ → List ℕ
 happening_line happening port call =
-    if nat_eq happening 0 then unplug_line port else if nat_eq happening 1 then allowed_line port else if nat_eq happening 2 then blocked_line port else fail_line call
+    if nat_eq happening 0 then unplug_line port else if nat_eq happening 1 then allowed_line port
+    else if nat_eq happening 2 then blocked_line port else fail_line call
 
 abbrev pub line_before : ℕ → List ℕ
 line_before number = happening_line (happening_in number) (port_in number) (call_in number)
@@ -59,7 +63,8 @@ event_text start event = line_before (number_at start event) ++ sweep_line event
 -- so many events behind that one
 abbrev pub events_text : ℕ → ℕ → ℕ → List ℕ
 events_text start event zero = []
-events_text start event (suc more) = event_text start (suc event) ++ events_text start (suc event) more
+events_text start event (suc more) =
+    event_text start (suc event) ++ events_text start (suc event) more
 
 -- the whole script
 abbrev pub generated_script : ℕ → ℕ → List ℕ

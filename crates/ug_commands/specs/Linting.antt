@@ -1,4 +1,5 @@
--- What is written for an input that should hold rules, where those that can never decide are looked for.
+-- What is written for an input that should hold rules, where those that can never decide are looked
+-- for.
 use Rattle.std.specs.Prelude.{ℕ, ◌≡◌, ◌≤◌, ◌<◌, ◌⊎◌, Bool, true, false, List, length, Option, Ok, Err}
 use Rattle.rand_core.specs.Stream.{Stream}
 use Rattle.ug_types.specs.Elements.{Has}
@@ -38,25 +39,32 @@ pub record IsLinted (bytes text : List ℕ) : Type 0 where
   pub rules : List Rule
   pub few : AreFew bytes rules
   pub is : text ≡ findings_text (findings rules)
-  pub never_decides : (finding : Finding) → Has (findings rules) finding → NeverDecides rules (found_place finding)
+  pub never_decides : (finding : Finding) → Has (findings rules) finding
+      → NeverDecides rules (found_place finding)
 
--- the canonical text of the rules that no earlier one covers; it reads as these, and they judge each device as all do
+-- the canonical text of the rules that no earlier one covers; it reads as these, and they judge
+-- each device as all do
 pub record IsPruned (bytes text : List ℕ) : Type 0 where
   pub rules : List Rule
   pub few : AreFew bytes rules
   pub is : text ≡ rules_text_of (remaining rules)
   pub reads : file_read text ≡ Ok (remaining rules)
-  pub judges : (dev : DeviceRecord) (ctx : Context) (records : List DeviceRecord) (entries : List RuleEntry) (stream : Stream)
+  pub judges : (dev : DeviceRecord) (ctx : Context) (records : List DeviceRecord)
+      (entries : List RuleEntry) (stream : Stream)
       → rules_in entries ≡ rules → HasWords stream
-      → (rules_in (remaining_entries entries) ≡ remaining rules) × PrunedAlike dev ctx records entries stream
+      → (rules_in (remaining_entries entries) ≡ remaining rules)
+      × PrunedAlike dev ctx records entries stream
 
 -- a line of the text is bad, and the first such line is told
 abbrev pub IsBad : List ℕ → List ℕ → Type 0
-IsBad bytes text = (fault : TextFault) × (file_read bytes ≡ Err fault) × (text ≡ bad_rules_line fault)
+IsBad bytes text =
+    (fault : TextFault) × (file_read bytes ≡ Err fault) × (text ≡ bad_rules_line fault)
 
 -- each line is good, and there are too many rules
 abbrev pub AreTooMany : List ℕ → List ℕ → Type 0
-AreTooMany bytes text = (rules : List Rule) × (file_read bytes ≡ Ok rules) × (rules_most < length rules) × (text ≡ too_many_rules)
+AreTooMany bytes text =
+    (rules : List Rule) × (file_read bytes ≡ Ok rules) × (rules_most < length rules)
+    × (text ≡ too_many_rules)
 
 abbrev pub IsRefused : List ℕ → List ℕ → Type 0
 IsRefused bytes text = IsBad bytes text ⊎ AreTooMany bytes text
@@ -66,23 +74,29 @@ abbrev pub IsOutput : Bool → List ℕ → List ℕ → Type 0
 IsOutput false bytes text = IsLinted bytes text
 IsOutput true bytes text = IsPruned bytes text
 
-abbrev pub Tells : Bool → List ℕ → Option (List ℕ) → Option (List ℕ) → Option (List ℕ) → Ended → Type 0
-Tells prune bytes left held0 held result = whole.TellsWhole input_limit (IsOutput prune) IsRefused bytes left held0 held result
+abbrev pub Tells : Bool → List ℕ → Option (List ℕ) → Option (List ℕ) → Option (List ℕ) → Ended
+    → Type 0
+Tells prune bytes left held0 held result =
+    whole.TellsWhole input_limit (IsOutput prune) IsRefused bytes left held0 held result
 
 -- the whole call
-abbrev pub Completes : Bool → Option (List ℕ) → Option (List ℕ) → Option (List ℕ) → Option (List ℕ) → Ended → Type 0
-Completes prune left0 left held0 held result = whole.Completes input_limit (IsOutput prune) IsRefused left0 left held0 held result
+abbrev pub Completes : Bool → Option (List ℕ) → Option (List ℕ) → Option (List ℕ) → Option (List ℕ)
+    → Ended → Type 0
+Completes prune left0 left held0 held result =
+    whole.Completes input_limit (IsOutput prune) IsRefused left0 left held0 held result
 
 -- what a status says: all are the bytes of the source and base those of the sink before the call
 abbrev pub Answers : Bool → List ℕ → List ℕ → Option (List ℕ) → Option (List ℕ) → ℕ → Type 0
-Answers prune all base left held status = whole.AnswersWhole status_of input_limit (IsOutput prune) IsRefused all base left held status
+Answers prune all base left held status =
+    whole.AnswersWhole status_of input_limit (IsOutput prune) IsRefused all base left held status
 
 -- ---- why there is no output
 
 -- what a fault says of the text
 abbrev pub IsFault : LintFault → List ℕ → Type 0
 IsFault (Bad fault) bytes = file_read bytes ≡ Err fault
-IsFault TooMany bytes = (rules : List Rule) × (file_read bytes ≡ Ok rules) × (rules_most < length rules)
+IsFault TooMany bytes =
+    (rules : List Rule) × (file_read bytes ≡ Ok rules) × (rules_most < length rules)
 IsFault Memory bytes = Unit {0}
 
 -- the line that is written for the output, or for a fault, and how the call ends then

@@ -3,9 +3,11 @@ use Rattle.std.specs.Prelude.{ℕ, ◌+◌, List, [], ◌∷◌, ◌++◌, lengt
 use Rattle.ug_lint.specs.declared.finding.Finding.{Finding}
 use Rattle.ug_lint.specs.declared.finding.Finding.TheVariants.{Covered, Never}
 
--- a rule that an earlier one covers, and the first of those; or one whose conditions never hold; rules are counted from 1
+-- a rule that an earlier one covers, and the first of those; or one whose conditions never hold;
+-- rules are counted from 1
 unfoldable pub finding_line : Finding → List ℕ
-finding_line (Covered rule by) = codes "covered " ++ decimal (rule + 1) ++ codes " by " ++ decimal (by + 1) ++ 10 ∷ []
+finding_line (Covered rule by) =
+    codes "covered " ++ decimal (rule + 1) ++ codes " by " ++ decimal (by + 1) ++ 10 ∷ []
 finding_line (Never rule) = codes "never " ++ decimal (rule + 1) ++ 10 ∷ []
 
 -- how many findings there are

@@ -24,15 +24,20 @@ triple_text triple =
 
 unfoldable pub device_line : Descr → List ℕ
 device_line descr =
-    line_with (codes "device") (id_text descr.vendor descr.product ∷ codes "class" ∷ triple_text descr.class ∷ codes "configurations" ∷ decimal descr.configurations ∷ [])
+    line_with (codes "device")
+    (id_text descr.vendor descr.product ∷ codes "class" ∷ triple_text descr.class
+    ∷ codes "configurations" ∷ decimal descr.configurations ∷ [])
 
 unfoldable pub configuration_line : Config → List ℕ
 configuration_line config =
-    line_with (codes "configuration") (decimal config.value ∷ codes "interfaces" ∷ decimal config.count ∷ [])
+    line_with (codes "configuration")
+    (decimal config.value ∷ codes "interfaces" ∷ decimal config.count ∷ [])
 
 unfoldable pub interface_line : IfaceDescr → List ℕ
 interface_line interface =
-    line_with (codes "interface") (decimal interface.number ∷ codes "alternate" ∷ decimal interface.alternate ∷ codes "class" ∷ triple_text interface.triple ∷ codes "endpoints" ∷ decimal interface.endpoints ∷ [])
+    line_with (codes "interface")
+    (decimal interface.number ∷ codes "alternate" ∷ decimal interface.alternate ∷ codes "class"
+    ∷ triple_text interface.triple ∷ codes "endpoints" ∷ decimal interface.endpoints ∷ [])
 
 -- a configuration's line, and one for each of its interface descriptors
 abbrev pub configuration_text : Config → List ℕ

@@ -17,7 +17,8 @@ fn number_behind(number: u64) -> u64
 /// Writes what happens before an event, and its sweep.
 fn put_event<K: Sink>(out: &mut K, number: u64, event: u64) -> Put
     requires { number < 2 ^ 32 }
-    ensures put { Puts (K.held out.old) (K.held out.new) (line_before number ++ sweep_line event) result }
+    ensures put { Puts (K.held out.old) (K.held out.new)
+        (line_before number ++ sweep_line event) result }
     ensures counted { K.faults out.old ≤ K.faults out.new }
     ensures cause { result ≡ Put.Failed → Rose (K.faults out.old) (K.faults out.new) }
 {

@@ -50,7 +50,8 @@ fn output_of(alloc: Global, pruned: bool, bytes: &[u8]) -> Result<Text, LintFaul
 /// Writes why there is no output.
 #[tactic(auto, unfolding(crate::specs::LintingLines::too_many_rules, ug_console::specs::Fold::no_memory))]
 fn refuse_rules<K: Sink>(out: &mut K, fault: LintFault) -> Ended
-    ensures told { Says (K.held out.old) (K.held out.new) (fault_words fault) (fault_end fault) result }
+    ensures told { Says (K.held out.old) (K.held out.new) (fault_words fault)
+        (fault_end fault) result }
     ensures cause { result ≡ Ended.WriteFault → Rose (K.faults out.old) (K.faults out.new) }
 {
     match fault {
@@ -63,7 +64,8 @@ fn refuse_rules<K: Sink>(out: &mut K, fault: LintFault) -> Ended
 /// Writes the output of the bytes of an input, whose end was reached.
 fn write_output<K: Sink>(alloc: Global, pruned: bool, bytes: &[u8], out: &mut K) -> Ended
     requires { length bytes.now ≤ input_limit }
-    ensures told { (left : Option (List ℕ)) → IsAtEnd left → Tells pruned bytes.now left (K.held out.old) (K.held out.new) result }
+    ensures told { (left : Option (List ℕ)) → IsAtEnd left
+        → Tells pruned bytes.now left (K.held out.old) (K.held out.new) result }
     ensures not_read { result ≢ Ended.ReadFault }
     ensures cause { result ≡ Ended.WriteFault → Rose (K.faults out.old) (K.faults out.new) }
 {
@@ -74,7 +76,8 @@ fn write_output<K: Sink>(alloc: Global, pruned: bool, bytes: &[u8], out: &mut K)
 }
 
 fn lint_input<S: Source, K: Sink>(alloc: Global, pruned: bool, input: &mut S, out: &mut K) -> Ended
-    ensures told { Completes pruned (S.left input.old) (S.left input.new) (K.held out.old) (K.held out.new) result }
+    ensures told { Completes pruned (S.left input.old) (S.left input.new) (K.held out.old)
+        (K.held out.new) result }
     ensures read { result ≡ Ended.ReadFault → Rose (S.faults input.old) (S.faults input.new) }
     ensures written { result ≡ Ended.WriteFault → Rose (K.faults out.old) (K.faults out.new) }
 {
@@ -92,7 +95,8 @@ fn lint_input<S: Source, K: Sink>(alloc: Global, pruned: bool, input: &mut S, ou
 /// of the first one, or else more rules, with `too many rules`; 4 for a read fault; 5 for a write fault; 6 for want of memory.
 /// With 2, 3, 4 and 6 a fault line is all that is written.
 pub fn lint_rules<S: Source, K: Sink>(alloc: Global, pruned: bool, input: &mut S, out: &mut K) -> u8
-    ensures answers { (all : List ℕ) (base : List ℕ) → S.left input.old ≡ Some all → K.held out.old ≡ Some base
+    ensures answers { (all : List ℕ) (base : List ℕ) → S.left input.old ≡ Some all
+        → K.held out.old ≡ Some base
         → Answers pruned all base (S.left input.new) (K.held out.new) result }
     ensures read { result ≡ 4 → Rose (S.faults input.old) (S.faults input.new) }
     ensures written { result ≡ 5 → Rose (K.faults out.old) (K.faults out.new) }

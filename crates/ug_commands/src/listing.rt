@@ -17,7 +17,8 @@ use ug_types::{Put, Sink, Source};
 /// Writes what the bytes of an input say, whose end was reached.
 fn write_descriptors<K: Sink>(alloc: Global, bytes: &[u8], out: &mut K) -> Ended
     requires { length bytes.now ≤ input_limit }
-    ensures told { (left : Option (List ℕ)) → IsAtEnd left → Tells bytes.now left (K.held out.old) (K.held out.new) result }
+    ensures told { (left : Option (List ℕ)) → IsAtEnd left
+        → Tells bytes.now left (K.held out.old) (K.held out.new) result }
     ensures not_read { result ≢ Ended.ReadFault }
     ensures cause { result ≡ Ended.WriteFault → Rose (K.faults out.old) (K.faults out.new) }
 {
@@ -34,7 +35,8 @@ fn write_descriptors<K: Sink>(alloc: Global, bytes: &[u8], out: &mut K) -> Ended
 }
 
 fn list_input<S: Source, K: Sink>(alloc: Global, input: &mut S, out: &mut K) -> Ended
-    ensures told { Completes (S.left input.old) (S.left input.new) (K.held out.old) (K.held out.new) result }
+    ensures told { Completes (S.left input.old) (S.left input.new) (K.held out.old)
+        (K.held out.new) result }
     ensures read { result ≡ Ended.ReadFault → Rose (S.faults input.old) (S.faults input.new) }
     ensures written { result ≡ Ended.WriteFault → Rose (K.faults out.old) (K.faults out.new) }
 {
@@ -49,7 +51,8 @@ fn list_input<S: Source, K: Sink>(alloc: Global, input: &mut S, out: &mut K) -> 
 /// malformed or too many; 4 for a read fault; 5 for a write fault; 6 for want of memory. With 2, 4 and 6 a fault line is all
 /// that is written.
 pub fn list_descriptors<S: Source, K: Sink>(alloc: Global, input: &mut S, out: &mut K) -> u8
-    ensures answers { (all : List ℕ) (base : List ℕ) → S.left input.old ≡ Some all → K.held out.old ≡ Some base
+    ensures answers { (all : List ℕ) (base : List ℕ) → S.left input.old ≡ Some all
+        → K.held out.old ≡ Some base
         → Answers all base (S.left input.new) (K.held out.new) result }
     ensures read { result ≡ 4 → Rose (S.faults input.old) (S.faults input.new) }
     ensures written { result ≡ 5 → Rose (K.faults out.old) (K.faults out.new) }

@@ -43,7 +43,8 @@ abbrev pub is_so : History → Context → List DeviceRecord → ℕ → CondKin
 is_so history ctx records word (kind.LocalTime begin end) = is_in_time begin end ctx.second
 is_so history ctx records word (kind.AllowedMatches query) = matches_some query records
 is_so history ctx records word (kind.RuleApplied past) = was_recent past ctx.moment history.applied
-is_so history ctx records word (kind.RuleEvaluated past) = was_recent past ctx.moment history.evaluated
+is_so history ctx records word (kind.RuleEvaluated past) =
+    was_recent past ctx.moment history.evaluated
 is_so history ctx records word (kind.Random billionths) = is_drawn billionths word
 is_so history ctx records word kind.True = true
 is_so history ctx records word kind.False = false
@@ -64,4 +65,6 @@ by_operator EqualsOrdered all some = all
 -- by their operator
 abbrev pub conditions_hold : History → Context → List DeviceRecord → Conds → List ℕ → Bool
 conditions_hold history ctx records conds words =
-    by_operator conds.op (list_all (condition_holds history ctx records) (with_words conds.items words)) (list_any (condition_holds history ctx records) (with_words conds.items words))
+    by_operator conds.op
+    (list_all (condition_holds history ctx records) (with_words conds.items words))
+    (list_any (condition_holds history ctx records) (with_words conds.items words))

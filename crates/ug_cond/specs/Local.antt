@@ -6,4 +6,7 @@ use Rattle.jiff.specs.Words.{offset_at, nanos_of_seconds, plain_zone}
 
 -- the second since 1970 and the zone's offset at it, within a day of 86,400 seconds
 abbrev pub local_second_at : TimeZone → ℕ → ℕ
-local_second_at zone second = unsigned_abs (int_rem_euclid (pos second +ℤ offset_at (plain_zone zone) (nanos_of_seconds (pos second))) (pos 86400))
+local_second_at zone second =
+    unsigned_abs
+    (int_rem_euclid (pos second +ℤ offset_at (plain_zone zone) (nanos_of_seconds (pos second)))
+    (pos 86400))

@@ -28,10 +28,14 @@ IsRecent (Some past) now moment = now.0 ≤ moment.0 + past
 -- a condition of the rule without its negation; the word is for a random one
 abbrev pub IsSo : List Judgement → ℕ → Context → List DeviceRecord → ℕ → CondKind → Type 0
 IsSo judgements id ctx records word (kind.LocalTime begin end) = IsInTime begin end ctx.second
-IsSo judgements id ctx records word (kind.AllowedMatches query) = (r : DeviceRecord) × Has records r × IsTrue (query_matches query r)
-IsSo judgements id ctx records word (kind.RuleApplied past) = (m : Moment) × WasApplied judgements id m × IsRecent past ctx.moment m
-IsSo judgements id ctx records word (kind.RuleEvaluated past) = (m : Moment) × WasEvaluated judgements id m × IsRecent past ctx.moment m
-IsSo judgements id ctx records word (kind.Random billionths) = word * 1000000000 < billionths * 2 ^ 64
+IsSo judgements id ctx records word (kind.AllowedMatches query) =
+    (r : DeviceRecord) × Has records r × IsTrue (query_matches query r)
+IsSo judgements id ctx records word (kind.RuleApplied past) =
+    (m : Moment) × WasApplied judgements id m × IsRecent past ctx.moment m
+IsSo judgements id ctx records word (kind.RuleEvaluated past) =
+    (m : Moment) × WasEvaluated judgements id m × IsRecent past ctx.moment m
+IsSo judgements id ctx records word (kind.Random billionths) =
+    word * 1000000000 < billionths * 2 ^ 64
 IsSo judgements id ctx records word kind.True = Unit {0}
 IsSo judgements id ctx records word kind.False = ⊥
 
@@ -40,7 +44,8 @@ unless true P = ¬ P
 unless false P = P
 
 abbrev pub ConditionHolds : List Judgement → ℕ → Context → List DeviceRecord → Cond × ℕ → Type 0
-ConditionHolds judgements id ctx records c = unless c.0.negated (IsSo judgements id ctx records c.1 c.0.kind)
+ConditionHolds judgements id ctx records c =
+    unless c.0.negated (IsSo judgements id ctx records c.1 c.0.kind)
 
 -- all must pass, or one, or none
 abbrev pub PassBy : {X : Type 0} → Op → (X → Type 0) → List X → Type 0
@@ -51,5 +56,7 @@ PassBy {X} Equals Passes xs = (x : X) → Has xs x → Passes x
 PassBy {X} EqualsOrdered Passes xs = (x : X) → Has xs x → Passes x
 
 -- by their operator
-abbrev pub ConditionsHold : List Judgement → ℕ → Context → List DeviceRecord → Conds → List ℕ → Type 0
-ConditionsHold judgements id ctx records conds words = PassBy conds.op (ConditionHolds judgements id ctx records) (with_words conds.items words)
+abbrev pub ConditionsHold : List Judgement → ℕ → Context → List DeviceRecord → Conds → List ℕ
+    → Type 0
+ConditionsHold judgements id ctx records conds words =
+    PassBy conds.op (ConditionHolds judgements id ctx records) (with_words conds.items words)

@@ -32,4 +32,5 @@ random_count (c ∷ conds) = if is_random c.kind then suc (random_count conds) e
 -- each condition with the next word, which a random one takes
 abbrev pub with_words : List Cond → List ℕ → List (Cond × ℕ)
 with_words [] words = []
-with_words (c ∷ conds) words = (c, slice_index words 0) ∷ with_words conds (if is_random c.kind then drop 1 words else words)
+with_words (c ∷ conds) words =
+    (c, slice_index words 0) ∷ with_words conds (if is_random c.kind then drop 1 words else words)

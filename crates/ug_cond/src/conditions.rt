@@ -46,8 +46,10 @@ fn is_so<A: Allowed, R: Rng>(
     allowed: &A,
     rng: &mut R,
 ) -> bool
-    ensures value { result ≡ conditions.is_so history.now ctx.now (A.records allowed.now) (next_u64 (R.stream rng.old)).0 kind.now }
-    ensures words { R.stream rng.new ≡ (if is_random kind.now then (next_u64 (R.stream rng.old)).1 else R.stream rng.old) }
+    ensures value { result ≡ conditions.is_so history.now ctx.now (A.records allowed.now)
+        (next_u64 (R.stream rng.old)).0 kind.now }
+    ensures words { R.stream rng.new
+        ≡ (if is_random kind.now then (next_u64 (R.stream rng.old)).1 else R.stream rng.old) }
 {
     match kind {
         CondKind::LocalTime { begin, end } => is_in_time(*begin, *end, ctx.second),
@@ -67,8 +69,10 @@ fn condition_holds<A: Allowed, R: Rng>(
     allowed: &A,
     rng: &mut R,
 ) -> bool
-    ensures value { result ≡ conditions.condition_holds history.now ctx.now (A.records allowed.now) (cond.now, (next_u64 (R.stream rng.old)).0) }
-    ensures words { R.stream rng.new ≡ (if is_random cond.now.kind then (next_u64 (R.stream rng.old)).1 else R.stream rng.old) }
+    ensures value { result ≡ conditions.condition_holds history.now ctx.now (A.records allowed.now)
+        (cond.now, (next_u64 (R.stream rng.old)).0) }
+    ensures words { R.stream rng.new
+        ≡ (if is_random cond.now.kind then (next_u64 (R.stream rng.old)).1 else R.stream rng.old) }
 {
     let so = is_so(&cond.kind, history, ctx, allowed, rng);
     if cond.negated { !so } else { so }
@@ -93,8 +97,13 @@ pub fn holds<A: Allowed, R: Rng>(
     allowed: &A,
     rng: &mut R,
 ) -> bool
-    ensures value { result ≡ conditions.conditions_hold history.now ctx.now (A.records allowed.now) conds.now (words_of (random_count conds.now.items) (R.stream rng.old)) }
-    ensures judgements { (judgements : List Judgement) (id : ℕ) → IsHistory judgements id history.now → (IsTrue result ↔ ConditionsHold judgements id ctx.now (A.records allowed.now) conds.now (words_of (random_count conds.now.items) (R.stream rng.old))) }
+    ensures value { result ≡ conditions.conditions_hold history.now ctx.now
+        (A.records allowed.now) conds.now
+        (words_of (random_count conds.now.items) (R.stream rng.old)) }
+    ensures judgements { (judgements : List Judgement) (id : ℕ)
+        → IsHistory judgements id history.now
+        → (IsTrue result ↔ ConditionsHold judgements id ctx.now (A.records allowed.now) conds.now
+        (words_of (random_count conds.now.items) (R.stream rng.old))) }
     ensures words { R.stream rng.new ≡ behind (random_count conds.now.items) (R.stream rng.old) }
 {
     let mut all = true;

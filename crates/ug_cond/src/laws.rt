@@ -14,10 +14,17 @@ ghost use Rattle.ug_cond.specs.Truth.{ConditionHolds};
 
 /// What is kept of a rule tells whether a condition of it holds as all judgements do, however many there were.
 pub fn conditions_law()
-    ensures { (judgements : List Judgement) (id : ℕ) (history : past.History) (ctx : when.Context) (records : List DeviceRecord) (cond : Cond) (word : ℕ) → IsHistory judgements id history → (IsTrue (condition_holds history ctx records (cond, word)) ↔ ConditionHolds judgements id ctx records (cond, word)) }
+    ensures { (judgements : List Judgement) (id : ℕ) (history : past.History) (ctx : when.Context)
+        (records : List DeviceRecord) (cond : Cond) (word : ℕ) → IsHistory judgements id history
+        → (IsTrue
+        (condition_holds history ctx records
+        (cond, word)) ↔ ConditionHolds judgements id ctx records (cond, word)) }
 {}
 
 /// Where a zone has one offset, its clock is that far ahead of UTC at every moment.
 pub fn zones_law()
-    ensures { (zone : zones.TimeZone) (offset : _) (second : ℕ) → plain_zone zone ≡ fixed_zone offset → local_second_at zone second ≡ unsigned_abs (int_rem_euclid (pos second +ℤ offset.seconds) (pos 86400)) }
+    ensures { (zone : zones.TimeZone) (offset : _) (second : ℕ)
+        → plain_zone zone ≡ fixed_zone offset
+        → local_second_at zone second
+        ≡ unsigned_abs (int_rem_euclid (pos second +ℤ offset.seconds) (pos 86400)) }
 {}

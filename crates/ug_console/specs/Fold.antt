@@ -27,7 +27,8 @@ stage_after n text (Refused fault next) = Halted fault n text next
 
 -- one more line; behind a refused line nothing is taken
 abbrev pub advance : {M : Type 0} → (M → List ℕ → Outcome M) → Stage M → List ℕ → Stage M
-advance step (Going n text m) line = if is_within n line then stage_after n text (step m line) else Halted BadLine n text m
+advance step (Going n text m) line =
+    if is_within n line then stage_after n text (step m line) else Halted BadLine n text m
 advance step (Halted fault n text m) line = Halted fault n text m
 
 -- the lines one after another

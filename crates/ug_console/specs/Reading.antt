@@ -13,7 +13,8 @@ Took most left taken (Err TooLong) = most < length taken
 Took most left taken (Err Failed) = length taken ≤ most
 Took most left taken (Err Memory) = Unit {0}
 
-pub record ReadsWhole (most : ℕ) (before after : Option (List ℕ)) (result : Result (List ℕ) InputFault) : Type 0 where
+pub record ReadsWhole (most : ℕ) (before after : Option (List ℕ))
+    (result : Result (List ℕ) InputFault) : Type 0 where
   pub taken : List ℕ
   pub source : Consumes before after taken
   pub told : Took most after taken result

@@ -1,4 +1,5 @@
--- What is written for an input that is read whole, where `good` and `bad` say which text belongs to which bytes.
+-- What is written for an input that is read whole, where `good` and `bad` say which text belongs to
+-- which bytes.
 use Rattle.std.specs.Prelude.{ℕ, ◌≡◌, ◌<◌, ◌≤◌, List, ◌++◌, length, Option, Some}
 use Rattle.std.specs.Io.KnownBytes.{Appends, Consumes, IsAtEnd}
 use Rattle.ug_console.specs.Fold.{input_too_long, read_fault, no_memory}
@@ -12,7 +13,8 @@ abbrev pub input_limit : ℕ
 input_limit = 67108864
 
 -- the whole output for these bytes, where it ended so and an input may have so many bytes at most
-abbrev pub Output : ℕ → (List ℕ → List ℕ → Type 0) → (List ℕ → List ℕ → Type 0) → List ℕ → Ended → List ℕ → Type 0
+abbrev pub Output : ℕ → (List ℕ → List ℕ → Type 0) → (List ℕ → List ℕ → Type 0) → List ℕ → Ended
+    → List ℕ → Type 0
 Output most good bad bytes Done text = (length bytes ≤ most) × good bytes text
 Output most good bad bytes Bad text = (length bytes ≤ most) × bad bytes text
 Output most good bad bytes TooLong text = (most < length bytes) × (text ≡ input_too_long)
@@ -29,32 +31,39 @@ IsWhole ReadFault left = Unit {0}
 IsWhole WriteFault left = Unit {0}
 IsWhole Memory left = Unit {0}
 
-abbrev pub Written : ℕ → (List ℕ → List ℕ → Type 0) → (List ℕ → List ℕ → Type 0) → List ℕ → Option (List ℕ) → Ended → List ℕ → Type 0
-Written most good bad bytes left ended text = IsWhole ended left × Output most good bad bytes ended text
+abbrev pub Written : ℕ → (List ℕ → List ℕ → Type 0) → (List ℕ → List ℕ → Type 0) → List ℕ
+    → Option (List ℕ) → Ended → List ℕ → Type 0
+Written most good bad bytes left ended text =
+    IsWhole ended left × Output most good bad bytes ended text
 
 -- what was written: an output, or a front of one where the sink failed
-abbrev pub WroteWhole : ℕ → (List ℕ → List ℕ → Type 0) → (List ℕ → List ℕ → Type 0) → List ℕ → Option (List ℕ) → Ended → List ℕ → Type 0
+abbrev pub WroteWhole : ℕ → (List ℕ → List ℕ → Type 0) → (List ℕ → List ℕ → Type 0) → List ℕ
+    → Option (List ℕ) → Ended → List ℕ → Type 0
 WroteWhole most good bad bytes left Done text = Written most good bad bytes left Done text
 WroteWhole most good bad bytes left Bad text = Written most good bad bytes left Bad text
 WroteWhole most good bad bytes left TooLong text = Written most good bad bytes left TooLong text
 WroteWhole most good bad bytes left ReadFault text = Written most good bad bytes left ReadFault text
-WroteWhole most good bad bytes left WriteFault text = (ended : Ended) × (rest : List ℕ) × Written most good bad bytes left ended (text ++ rest)
+WroteWhole most good bad bytes left WriteFault text =
+    (ended : Ended) × (rest : List ℕ) × Written most good bad bytes left ended (text ++ rest)
 WroteWhole most good bad bytes left Memory text = Written most good bad bytes left Memory text
 
 -- the same, with what the sink holds
-pub record TellsWhole (most : ℕ) (good bad : List ℕ → List ℕ → Type 0) (bytes : List ℕ) (left held0 held : Option (List ℕ)) (result : Ended) : Type 0 where
+pub record TellsWhole (most : ℕ) (good bad : List ℕ → List ℕ → Type 0) (bytes : List ℕ)
+    (left held0 held : Option (List ℕ)) (result : Ended) : Type 0 where
   pub text : List ℕ
   pub sink : Appends held0 held text
   pub told : WroteWhole most good bad bytes left result text
 
 -- the whole call
-pub record Completes (most : ℕ) (good bad : List ℕ → List ℕ → Type 0) (left0 left held0 held : Option (List ℕ)) (result : Ended) : Type 0 where
+pub record Completes (most : ℕ) (good bad : List ℕ → List ℕ → Type 0)
+    (left0 left held0 held : Option (List ℕ)) (result : Ended) : Type 0 where
   pub taken : List ℕ
   pub source : Consumes left0 left taken
   pub tells : TellsWhole most good bad taken left held0 held result
 
 -- what a status says: all are the bytes of the source and base those of the sink before the call
-pub record AnswersWhole (status_of : Ended → ℕ) (most : ℕ) (good bad : List ℕ → List ℕ → Type 0) (all base : List ℕ) (left held : Option (List ℕ)) (status : ℕ) : Type 0 where
+pub record AnswersWhole (status_of : Ended → ℕ) (most : ℕ) (good bad : List ℕ → List ℕ → Type 0)
+    (all base : List ℕ) (left held : Option (List ℕ)) (status : ℕ) : Type 0 where
   pub ended : Ended
   pub is : status ≡ status_of ended
   -- some first bytes were taken

@@ -25,10 +25,12 @@ fn line_of_fault(n: u64) -> Line
 /// Ends as a step behind that many lines did, and writes its fault line.
 fn conclude<K: Sink>(out: &mut K, ran: Ran, lines: u64) -> Ended
     requires { lines ≤ 1048576 }
-    ensures told { Says (K.held out.old) (K.held out.new) (words_of ran lines) (ended_of ran) result }
+    ensures told { Says (K.held out.old) (K.held out.new) (words_of ran lines)
+        (ended_of ran) result }
     ensures not_read { result ≢ Ended.ReadFault }
     ensures counted { K.faults out.old ≤ K.faults out.new }
-    ensures cause { ran ≢ Ran.SinkFailed → result ≡ Ended.WriteFault → Rose (K.faults out.old) (K.faults out.new) }
+    ensures cause { ran ≢ Ran.SinkFailed → result ≡ Ended.WriteFault
+        → Rose (K.faults out.old) (K.faults out.new) }
 {
     match ran {
         Ran::Done => Ended::Done,
@@ -48,7 +50,9 @@ fn finish<K: Sink, W, M: Machine<W>>(
     world: &mut W,
 ) -> Ended
     requires { M.keeps (M.state machine.old) world.old }
-    ensures told { Finishes M.step_of M.closing splitter.old.line.items splitter.old.lines (M.state machine.old, world.old) (K.held out.old) (K.held out.new) (M.state machine.new, world.new) result }
+    ensures told { Finishes M.step_of M.closing splitter.old.line.items splitter.old.lines
+        (M.state machine.old, world.old) (K.held out.old) (K.held out.new)
+        (M.state machine.new, world.new) result }
     ensures not_read { result ≢ Ended.ReadFault }
     ensures counted { K.faults out.old ≤ K.faults out.new }
     ensures cause { result ≡ Ended.WriteFault → Rose (K.faults out.old) (K.faults out.new) }
@@ -73,7 +77,9 @@ pub fn replay<S: Source, K: Sink, W, M: Machine<W>>(
     world: &mut W,
 ) -> Ended
     requires { M.keeps (M.state machine.old) world.old }
-    ensures told { Replays M.step_of M.closing (M.state machine.old, world.old) (S.left input.old) (S.left input.new) (K.held out.old) (K.held out.new) (M.state machine.new, world.new) result }
+    ensures told { Replays M.step_of M.closing (M.state machine.old, world.old) (S.left input.old)
+        (S.left input.new) (K.held out.old) (K.held out.new)
+        (M.state machine.new, world.new) result }
     ensures read { result ≡ Ended.ReadFault → Rose (S.faults input.old) (S.faults input.new) }
     ensures written { result ≡ Ended.WriteFault → Rose (K.faults out.old) (K.faults out.new) }
 {
@@ -101,8 +107,10 @@ pub fn run<S: Source, K: Sink, W, M: Machine<W>>(
     world: &mut W,
 ) -> u8
     requires { M.keeps (M.state machine.old) world.old }
-    ensures answers { (all : List ℕ) (base : List ℕ) → S.left input.old ≡ Some all → K.held out.old ≡ Some base
-        → Answers M.step_of M.closing (M.state machine.old, world.old) all base (S.left input.new) (K.held out.new) (M.state machine.new, world.new) result }
+    ensures answers { (all : List ℕ) (base : List ℕ) → S.left input.old ≡ Some all
+        → K.held out.old ≡ Some base
+        → Answers M.step_of M.closing (M.state machine.old, world.old) all base (S.left input.new)
+        (K.held out.new) (M.state machine.new, world.new) result }
     ensures read { result ≡ 4 → Rose (S.faults input.old) (S.faults input.new) }
     ensures written { result ≡ 5 → Rose (K.faults out.old) (K.faults out.new) }
     ensures others { (ended : Ended) × (result ≡ status_of ended) }

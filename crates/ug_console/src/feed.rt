@@ -61,7 +61,8 @@ impl Splitter {
 
     /// Takes bytes without a newline.
     fn extend(&mut self, run: &[u8]) -> Ran
-        ensures extended { Extends self.old.line.items self.old.lines run.now result self.new.line.items }
+        ensures extended { Extends self.old.line.items self.old.lines run.now result
+            self.new.line.items }
         ensures lines { self.new.lines ≡ self.old.lines }
         ensures no_sink { result ≢ Ran.SinkFailed }
     {
@@ -89,8 +90,10 @@ impl Splitter {
         out: &mut K,
     ) -> Ran
         requires { M.keeps (M.state machine.old) world.old }
-        ensures fed { Feeds M.step_of self.old.line.items self.old.lines (M.state machine.old, world.old) (K.held out.old) (10 ∷ [])
-            result self.new.line.items self.new.lines (M.state machine.new, world.new) (K.held out.new) }
+        ensures fed { Feeds M.step_of self.old.line.items self.old.lines
+            (M.state machine.old, world.old) (K.held out.old) (10 ∷ [])
+            result self.new.line.items self.new.lines (M.state machine.new, world.new)
+            (K.held out.new) }
         ensures kept { result ≡ Ran.Done → M.keeps (M.state machine.new) world.new }
         ensures further { result ≡ Ran.Done → self.new.lines ≡ self.old.lines + 1 }
         ensures counted { K.faults out.old ≤ K.faults out.new }
@@ -121,10 +124,14 @@ impl Splitter {
         requires keeps { M.keeps (M.state machine.old) world.old }
         requires some { 0 < length part.now }
         requires front { IsLine (take (length part.now - 1) part.now) }
-        ensures fed { Feeds M.step_of self.old.line.items self.old.lines (M.state machine.old, world.old) (K.held out.old) part.now
-            result self.new.line.items self.new.lines (M.state machine.new, world.new) (K.held out.new) }
+        ensures fed { Feeds M.step_of self.old.line.items self.old.lines
+            (M.state machine.old, world.old) (K.held out.old) part.now
+            result self.new.line.items self.new.lines (M.state machine.new, world.new)
+            (K.held out.new) }
         ensures kept { result ≡ Ran.Done → M.keeps (M.state machine.new) world.new }
-        ensures further { result ≡ Ran.Done → self.old.lines * 1048578 + vec_len self.old.line + length part.now ≤ self.new.lines * 1048578 + vec_len self.new.line }
+        ensures further { result ≡ Ran.Done
+            → self.old.lines * 1048578 + vec_len self.old.line + length part.now ≤ self.new.lines *
+            1048578 + vec_len self.new.line }
         ensures counted { K.faults out.old ≤ K.faults out.new }
         ensures cause { result ≡ Ran.SinkFailed → Rose (K.faults out.old) (K.faults out.new) }
     {
@@ -148,10 +155,14 @@ impl Splitter {
         piece: &[u8],
     ) -> Ran
         requires { M.keeps (M.state machine.old) world.old }
-        ensures fed { Feeds M.step_of self.old.line.items self.old.lines (M.state machine.old, world.old) (K.held out.old) piece.now
-            result self.new.line.items self.new.lines (M.state machine.new, world.new) (K.held out.new) }
+        ensures fed { Feeds M.step_of self.old.line.items self.old.lines
+            (M.state machine.old, world.old) (K.held out.old) piece.now
+            result self.new.line.items self.new.lines (M.state machine.new, world.new)
+            (K.held out.new) }
         ensures kept { result ≡ Ran.Done → M.keeps (M.state machine.new) world.new }
-        ensures further { result ≡ Ran.Done → self.old.lines * 1048578 + vec_len self.old.line + length piece.now ≤ self.new.lines * 1048578 + vec_len self.new.line }
+        ensures further { result ≡ Ran.Done
+            → self.old.lines * 1048578 + vec_len self.old.line + length piece.now ≤ self.new.lines *
+            1048578 + vec_len self.new.line }
         ensures counted { K.faults out.old ≤ K.faults out.new }
         ensures cause { result ≡ Ran.SinkFailed → Rose (K.faults out.old) (K.faults out.new) }
     {
@@ -177,7 +188,8 @@ impl Splitter {
         out: &mut K,
     ) -> Ran
         requires { M.keeps (M.state machine.old) world.old }
-        ensures told { Lasts M.step_of self.old.line.items self.old.lines (M.state machine.old, world.old) (K.held out.old)
+        ensures told { Lasts M.step_of self.old.line.items self.old.lines
+            (M.state machine.old, world.old) (K.held out.old)
             result self.new.lines (M.state machine.new, world.new) (K.held out.new) }
         ensures counted { K.faults out.old ≤ K.faults out.new }
         ensures cause { result ≡ Ran.SinkFailed → Rose (K.faults out.old) (K.faults out.new) }

@@ -40,14 +40,16 @@ pub trait Machine<W> {
     /// Takes a line, and writes its text.
     fn step<K: Sink>(&mut self, alloc: Global, world: &mut W, line: &[u8], out: &mut K) -> Ran
         requires { keeps (state self.old) world.old }
-        ensures ran { Steps (step_of (state self.old, world.old) line.now) (state self.new, world.new) (K.held out.old) (K.held out.new) result }
+        ensures ran { Steps (step_of (state self.old, world.old) line.now)
+            (state self.new, world.new) (K.held out.old) (K.held out.new) result }
         ensures kept { result ≡ Ran.Done → keeps (state self.new) world.new }
         ensures counted { K.faults out.old ≤ K.faults out.new }
         ensures cause { result ≡ Ran.SinkFailed → Rose (K.faults out.old) (K.faults out.new) };
 
     /// Writes the text behind the last line.
     fn finish<K: Sink>(&self, alloc: Global, world: &W, out: &mut K) -> Ran
-        ensures ran { Closes (closing (state self.now, world.now)) (K.held out.old) (K.held out.new) result }
+        ensures ran { Closes (closing (state self.now, world.now)) (K.held out.old)
+            (K.held out.new) result }
         ensures counted { K.faults out.old ≤ K.faults out.new }
         ensures cause { result ≡ Ran.SinkFailed → Rose (K.faults out.old) (K.faults out.new) };
 }

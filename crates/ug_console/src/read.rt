@@ -22,7 +22,8 @@ pub enum InputFault {
 /// All bytes of an input that has at most that many. Memory grows with the input, and not with the limit.
 pub fn read_input<S: Source>(alloc: Global, input: &mut S, most: usize) -> Result<Text, InputFault>
     ensures read { ReadsWhole most (S.left input.old) (S.left input.new) result }
-    ensures cause { result ≡ Err InputFault.Failed → Rose (S.faults input.old) (S.faults input.new) }
+    ensures cause { result ≡ Err InputFault.Failed
+        → Rose (S.faults input.old) (S.faults input.new) }
 {
     let mut bytes = Vec::new(alloc);
     let mut piece = [0u8; 4096];

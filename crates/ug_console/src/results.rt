@@ -28,7 +28,8 @@ pub enum Ended {
 pub fn write_result<K: Sink>(out: &mut K, words: &[u8], ended: Ended) -> Ended
     ensures told { Says (K.held out.old) (K.held out.new) words.now ended result }
     ensures counted { K.faults out.old ≤ K.faults out.new }
-    ensures cause { ended ≢ Ended.WriteFault → result ≡ Ended.WriteFault → Rose (K.faults out.old) (K.faults out.new) }
+    ensures cause { ended ≢ Ended.WriteFault → result ≡ Ended.WriteFault
+        → Rose (K.faults out.old) (K.faults out.new) }
 {
     match out.put(words) {
         Put::Done => ended,
@@ -38,7 +39,8 @@ pub fn write_result<K: Sink>(out: &mut K, words: &[u8], ended: Ended) -> Ended
 
 /// Writes the fault line of an input that wasn't read whole.
 pub fn refuse_input<K: Sink>(out: &mut K, fault: InputFault) -> Ended
-    ensures told { Says (K.held out.old) (K.held out.new) (fault_words fault) (fault_end fault) result }
+    ensures told { Says (K.held out.old) (K.held out.new) (fault_words fault)
+        (fault_end fault) result }
     ensures cause { result ≡ Ended.WriteFault → Rose (K.faults out.old) (K.faults out.new) }
 {
     match fault {

@@ -12,30 +12,39 @@ use Rattle.ug_descr.specs.Reading.{config_of, descr_of, interface_of}
 abbrev pub IsDevice : List ℕ → Type 0
 IsDevice piece = (length piece ≡ 18) × (slice_index piece 0 ≡ 18) × (slice_index piece 1 ≡ 1)
 
--- another descriptor: its first byte is its length, and a configuration or an interface has at least 9 bytes
+-- another descriptor: its first byte is its length, and a configuration or an interface has at
+-- least 9 bytes
 abbrev pub IsDescriptor : List ℕ → Type 0
-IsDescriptor piece = (2 ≤ length piece) × (slice_index piece 0 ≡ length piece) × (slice_index piece 1 ≡ 2 → 9 ≤ length piece) × (slice_index piece 1 ≡ 4 → 9 ≤ length piece)
+IsDescriptor piece =
+    (2 ≤ length piece) × (slice_index piece 0 ≡ length piece)
+    × (slice_index piece 1 ≡ 2 → 9 ≤ length piece) × (slice_index piece 1 ≡ 4 → 9 ≤ length piece)
 
 -- one of the pieces is a configuration
 abbrev pub HasConfiguration : List (List ℕ) → Type 0
-HasConfiguration pieces = (front : List (List ℕ)) × (piece : List ℕ) × (rest : List (List ℕ)) × (pieces ≡ front ++ piece ∷ rest) × (slice_index piece 1 ≡ 2)
+HasConfiguration pieces =
+    (front : List (List ℕ)) × (piece : List ℕ) × (rest : List (List ℕ))
+    × (pieces ≡ front ++ piece ∷ rest) × (slice_index piece 1 ≡ 2)
 
 -- each interface has a configuration before it
 abbrev pub InOrder : List (List ℕ) → Type 0
-InOrder pieces = (front : List (List ℕ)) (piece : List ℕ) (rest : List (List ℕ)) → pieces ≡ front ++ piece ∷ rest → slice_index piece 1 ≡ 4 → HasConfiguration front
+InOrder pieces =
+    (front : List (List ℕ)) (piece : List ℕ) (rest : List (List ℕ)) → pieces ≡ front ++ piece ∷ rest
+    → slice_index piece 1 ≡ 4 → HasConfiguration front
 
 -- the interfaces up to the next configuration
 abbrev pub interfaces_of : List (List ℕ) → List IfaceDescr
 interfaces_of [] = []
 interfaces_of (piece ∷ pieces) =
     if nat_eq (slice_index piece 1) 2 then [] else
-    if nat_eq (slice_index piece 1) 4 then interface_of piece ∷ interfaces_of pieces else interfaces_of pieces
+    if nat_eq (slice_index piece 1) 4 then interface_of piece ∷ interfaces_of pieces
+    else interfaces_of pieces
 
 -- each configuration has the interfaces between it and the next one
 abbrev pub configs_of : List (List ℕ) → List Config
 configs_of [] = []
 configs_of (piece ∷ pieces) =
-    if nat_eq (slice_index piece 1) 2 then config_of piece (interfaces_of pieces) ∷ configs_of pieces else configs_of pieces
+    if nat_eq (slice_index piece 1) 2
+    then config_of piece (interfaces_of pieces) ∷ configs_of pieces else configs_of pieces
 
 -- the bytes are well formed, and say this
 pub record Good (bytes : List ℕ) (descr : Descr) : Type 0 where
@@ -69,11 +78,13 @@ IsShort bytes kind place = (kind ≡ 1) × (place ≡ length bytes) × (length b
 
 abbrev pub IsOtherFront : List ℕ → ℕ → ℕ → Type 0
 IsOtherFront bytes kind place =
-    (kind ≡ 2) × (place ≡ 0) × (18 ≤ length bytes) × ((slice_index bytes 0 ≡ 18) × (slice_index bytes 1 ≡ 1) → ⊥)
+    (kind ≡ 2) × (place ≡ 0) × (18 ≤ length bytes)
+    × ((slice_index bytes 0 ≡ 18) × (slice_index bytes 1 ≡ 1) → ⊥)
 
 -- the bytes are malformed, by this kind of fault at this place
 abbrev pub Bad : List ℕ → ℕ → ℕ → Type 0
-Bad bytes kind place = IsShort bytes kind place ⊎ (IsOtherFront bytes kind place ⊎ BadDescriptor bytes kind place)
+Bad bytes kind place =
+    IsShort bytes kind place ⊎ (IsOtherFront bytes kind place ⊎ BadDescriptor bytes kind place)
 
 abbrev pub IfMalformed : DescrFault → (ℕ → ℕ → Type 0) → Type 0
 IfMalformed (Malformed kind place) P = P kind place

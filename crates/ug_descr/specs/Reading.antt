@@ -17,12 +17,21 @@ number_at bytes i = from_le_bytes w16 (slice_index bytes i ∷ slice_index bytes
 
 abbrev pub triple_at : List ℕ → ℕ → Triple
 triple_at bytes i =
-    record { class = slice_index bytes i; subclass = slice_index bytes (i + 1); protocol = slice_index bytes (i + 2) }
+    record {
+      class = slice_index bytes i;
+      subclass = slice_index bytes (i + 1);
+      protocol = slice_index bytes (i + 2);
+    }
 
 -- an interface descriptor's fields
 abbrev pub interface_of : List ℕ → IfaceDescr
 interface_of piece =
-    record { number = slice_index piece 2; alternate = slice_index piece 3; endpoints = slice_index piece 4; triple = triple_at piece 5 }
+    record {
+      number = slice_index piece 2;
+      alternate = slice_index piece 3;
+      endpoints = slice_index piece 4;
+      triple = triple_at piece 5;
+    }
 
 -- a configuration descriptor's fields, with its interface descriptors
 abbrev pub config_of : List ℕ → List IfaceDescr → Config
@@ -32,7 +41,13 @@ config_of piece interfaces =
 -- a device descriptor's fields, with the configurations
 abbrev pub descr_of : List ℕ → List Config → Descr
 descr_of bytes configs =
-    record { vendor = number_at bytes 8; product = number_at bytes 10; class = triple_at bytes 4; configurations = slice_index bytes 17; configs = configs }
+    record {
+      vendor = number_at bytes 8;
+      product = number_at bytes 10;
+      class = triple_at bytes 4;
+      configurations = slice_index bytes 17;
+      configs = configs;
+    }
 
 -- the kind of the fault at a descriptor, from its first byte on
 abbrev pub fault_at : Bool → List ℕ → Option ℕ
@@ -58,7 +73,8 @@ abbrev pub unless : Option ℕ → ℕ → Result (List Config) Fault → Result
 unless None place read = read
 unless (Some kind) place read = Err (record { kind = kind; place = place })
 
--- the configurations with those that stand in the bytes behind a place, of which some are passed over first
+-- the configurations with those that stand in the bytes behind a place, of which some are passed
+-- over first
 unfoldable pub read_from : List Config → ℕ → ℕ → List ℕ → Result (List Config) Fault
 read_from configs place passed [] = Ok configs
 read_from configs place (suc passed) (b ∷ bytes) = read_from configs (place + 1) passed bytes
@@ -74,7 +90,8 @@ under bytes (Err fault) = Err fault
 unfoldable pub decoded : List ℕ → Result Descr Fault
 decoded bytes =
     if nat_lt (length bytes) 18 then Err (record { kind = 1; place = length bytes }) else
-    if not (nat_eq (slice_index bytes 0) 18 && nat_eq (slice_index bytes 1) 1) then Err (record { kind = 2; place = 0 }) else
+    if not (nat_eq (slice_index bytes 0) 18 && nat_eq (slice_index bytes 1) 1)
+    then Err (record { kind = 2; place = 0 }) else
     under bytes (read_from [] 18 0 (drop 18 bytes))
 
 -- an answer is what was read, unless memory was refused

@@ -24,7 +24,8 @@ pub fn decode(alloc: Global, bytes: &[u8]) -> Result<Descr, DescrFault>
     ensures good { IfOk result (λ descr. Good bytes.now descr) }
     ensures only_good { (descr : Descr) → Good bytes.now descr → Answers result (Ok descr) }
     ensures bad { IfErr result (λ e. IfMalformed e (Bad bytes.now)) }
-    ensures only_bad { (kind place : ℕ) → Bad bytes.now kind place → Answers result (Err (record { kind = kind; place = place })) }
+    ensures only_bad { (kind place : ℕ) → Bad bytes.now kind place
+        → Answers result (Err (record { kind = kind; place = place })) }
     ensures exact { Answers result (decoded bytes.now) }
 {
     read(alloc, bytes)

@@ -21,7 +21,8 @@ cut_sides text word value = Sides word value (length text - length value)
 
 abbrev pub cut_at : List ℕ → Option ℕ → EquationCut
 cut_at text None = NoSign
-cut_at text (Some at) = cut_sides text (without_end (take at text)) (without_front (drop (at + 1) text))
+cut_at text (Some at) =
+    cut_sides text (without_end (take at text)) (without_front (drop (at + 1) text))
 
 -- a text that is neither empty nor a comment
 abbrev pub cut_shown : List ℕ → EquationCut
@@ -38,8 +39,11 @@ cut_of line = cut_bare (without_end (without_front line))
 -- the cut as a relation
 abbrev pub IsEquationCut : List ℕ → EquationCut → Type 0
 IsEquationCut line Skip = (text : List ℕ) × IsTextOf line text × IsSkipped text
-IsEquationCut line NoSign = (text : List ℕ) × IsTextOf line text × (¬ IsSkipped text) × (¬ Has text 61)
-IsEquationCut line (Sides word value place) = (text : List ℕ) × IsTextOf line text × (¬ IsSkipped text) × IsEquation text word value × (length text ≡ place + length value)
+IsEquationCut line NoSign =
+    (text : List ℕ) × IsTextOf line text × (¬ IsSkipped text) × (¬ Has text 61)
+IsEquationCut line (Sides word value place) =
+    (text : List ℕ) × IsTextOf line text × (¬ IsSkipped text) × IsEquation text word value
+    × (length text ≡ place + length value)
 
 -- what a call answers
 abbrev pub cut_as : LineCut → EquationCut

@@ -10,14 +10,19 @@ abbrev pub IsSkippedLine : List ℕ → Type 0
 IsSkippedLine line = IsEquationCut line Skip
 
 -- what lines that are numbered from a number on give, each of which is skipped or gives an entry
-abbrev pub AreEntries : {E : Type 0} → (ℕ → List ℕ → E → Type 0) → ℕ → List (List ℕ) → List E → Type 0
+abbrev pub AreEntries : {E : Type 0} → (ℕ → List ℕ → E → Type 0) → ℕ → List (List ℕ) → List E
+    → Type 0
 AreEntries Gives number [] entries = entries ≡ []
 AreEntries {E} Gives number (line ∷ lines) entries =
     (IsSkippedLine line × AreEntries Gives (number + 1) lines entries)
-    ⊎ ((entry : E) × (others : List E) × (entries ≡ entry ∷ others) × Gives number line entry × AreEntries Gives (number + 1) lines others)
+    ⊎ ((entry : E) × (others : List E) × (entries ≡ entry ∷ others) × Gives number line entry
+    × AreEntries Gives (number + 1) lines others)
 
--- the lines before are good and give each an entry under another key, and this one is bad behind those keys
-pub record IsFirstBad {E Q K : Type 0} (Gives : ℕ → List ℕ → E → Type 0) (key_of : E → Q) (IsBad : List Q → List ℕ → K → ℕ → Type 0) (number_of : K → ℕ) (text : List ℕ) (fault : TextFault) : Type 0 where
+-- the lines before are good and give each an entry under another key, and this one is bad behind
+-- those keys
+pub record IsFirstBad {E Q K : Type 0} (Gives : ℕ → List ℕ → E → Type 0) (key_of : E → Q)
+    (IsBad : List Q → List ℕ → K → ℕ → Type 0) (number_of : K → ℕ) (text : List ℕ)
+    (fault : TextFault) : Type 0 where
   pub before : List (List ℕ)
   pub line : List ℕ
   pub behind : List (List ℕ)

@@ -11,7 +11,8 @@ use Rattle.ug_words.specs.Keywords.{operator_of, attribute_of, condition_of, is_
 use Rattle.ug_rule.specs.Queries.{has_colon}
 use Rattle.ug_rule.specs.Tokens.{word_of, is_word, is_close, is_paren_close}
 
--- a bracket that is open: a brace round items or conditions, a parenthesis round a query or another argument
+-- a bracket that is open: a brace round items or conditions, a parenthesis round a query or another
+-- argument
 pub data Bracket : Type 0 where
   OfItems : Bracket
   OfConditions : Bracket
@@ -84,16 +85,19 @@ context_with asked brackets = record { asked = asked; brackets = brackets }
 abbrev pub context_behind : List ℕ → TokenKind → Context → Context
 context_behind word Word context = context_with (asked_by word context.asked) context.brackets
 context_behind word (Str text) context = context_with Part context.brackets
-context_behind word Open context = context_with FirstItem (brace_for context.asked ∷ context.brackets)
+context_behind word Open context =
+    context_with FirstItem (brace_for context.asked ∷ context.brackets)
 context_behind word Close context = context_with Part (without_first context.brackets)
-context_behind word ParenOpen context = context_with First (parenthesis_for context.asked ∷ context.brackets)
+context_behind word ParenOpen context =
+    context_with First (parenthesis_for context.asked ∷ context.brackets)
 context_behind word ParenClose context = context_with Part (without_first context.brackets)
 context_behind word Bang context = context_with Condition context.brackets
 
 -- behind all of the tokens
 abbrev pub context_of : List ℕ → Context → List Token → Context
 context_of line context [] = context
-context_of line context (token ∷ tokens) = context_of line (context_behind (word_of line token) token.kind context) tokens
+context_of line context (token ∷ tokens) =
+    context_of line (context_behind (word_of line token) token.kind context) tokens
 
 -- behind a target, or at the front of a query
 abbrev pub at_first : Context
@@ -134,22 +138,28 @@ kind_asked of_if in_query FirstItem word kind = TrailingToken
 -- by the innermost bracket, and what the last token leaves to be said
 abbrev pub kind_within : FaultKind → List Bracket → Asked → List ℕ → TokenKind → FaultKind
 kind_within of_if [] asked word kind = kind_asked of_if false asked word kind
-kind_within of_if (OfItems ∷ brackets) asked word kind = kind_in_set BadValue (asks_first_item asked) kind
-kind_within of_if (OfConditions ∷ brackets) asked word kind = kind_in_set BadCondition (asks_first_item asked) kind
-kind_within of_if (OfQuery ∷ brackets) asked word kind = kind_asked ConditionInQuery true asked word kind
+kind_within of_if (OfItems ∷ brackets) asked word kind =
+    kind_in_set BadValue (asks_first_item asked) kind
+kind_within of_if (OfConditions ∷ brackets) asked word kind =
+    kind_in_set BadCondition (asks_first_item asked) kind
+kind_within of_if (OfQuery ∷ brackets) asked word kind =
+    kind_asked ConditionInQuery true asked word kind
 kind_within of_if (OfArgument ∷ brackets) asked word kind = BadCondition
 
 abbrev pub kind_in : FaultKind → Context → List ℕ → Token → FaultKind
-kind_in of_if context line token = kind_within of_if context.brackets context.asked (word_of line token) token.kind
+kind_in of_if context line token =
+    kind_within of_if context.brackets context.asked (word_of line token) token.kind
 
 -- in a rule: its first token is the target, and `if` behind other conditions is a repetition
 abbrev pub rule_stray_kind : List ℕ → List Token → Token → FaultKind
 rule_stray_kind line [] token = NoTarget
-rule_stray_kind line (target ∷ before) token = kind_in Repeated (context_of line at_first before) line token
+rule_stray_kind line (target ∷ before) token =
+    kind_in Repeated (context_of line at_first before) line token
 
 -- in a query alone
 abbrev pub query_stray_kind : List ℕ → List Token → Token → FaultKind
-query_stray_kind line before token = kind_in ConditionInQuery (context_of line at_first before) line token
+query_stray_kind line before token =
+    kind_in ConditionInQuery (context_of line at_first before) line token
 
 -- ---- a line that ends too early
 
@@ -187,7 +197,8 @@ lacking_in (OfArgument ∷ brackets) asked = BadCondition
 
 -- an open brace is at fault, whatever is open within it
 abbrev pub kind_at_end : Context → FaultKind
-kind_at_end context = if has_brace context.brackets then OpenSet else lacking_in context.brackets context.asked
+kind_at_end context =
+    if has_brace context.brackets then OpenSet else lacking_in context.brackets context.asked
 
 abbrev pub rule_early_kind : List ℕ → List Token → FaultKind
 rule_early_kind line [] = NoTarget

@@ -85,7 +85,8 @@ pub record IsPolicy (ds : List Device) (with_port : Bool) (made : List Rule) : T
 -- the first rule whose attributes the device has; rules that are made of devices have no conditions
 abbrev pub first_match : DeviceRecord → List Rule → Option Rule
 first_match device [] = None
-first_match device (rule ∷ rules) = if query_matches rule.query device then Some rule else first_match device rules
+first_match device (rule ∷ rules) =
+    if query_matches rule.query device then Some rule else first_match device rules
 
 abbrev pub Admits : DeviceRecord → List Rule → Type 0
 Admits device rules = (rule : Rule) × (first_match device rules ≡ Some rule) × (rule.target ≡ Allow)

@@ -12,7 +12,8 @@ abbrev pub answered : (call : Call) → Answer call → Made
 answered call answer = record { call = call; answer = answer }
 
 -- these calls lead from one state to the other
-abbrev pub Along : {S : Type 0} → (S → (call : Call) → Answer call → S → Type 0) → S → List Made → S → Type 0
+abbrev pub Along : {S : Type 0} → (S → (call : Call) → Answer call → S → Type 0) → S → List Made → S
+    → Type 0
 Along gives s [] t = t ≡ s
 Along {S} gives s (m ∷ ms) t = (u : S) × gives s m.call m.answer u × Along gives u ms t
 
@@ -70,7 +71,8 @@ IsNext last (Close held) answer = Unit {0}
 -- each call bears the number behind the one before it
 abbrev pub AreNumbered : ℕ → List Made → Type 0
 AreNumbered last [] = Unit {0}
-AreNumbered last (m ∷ ms) = IsNext last m.call m.answer × AreNumbered (number_after last m.call m.answer) ms
+AreNumbered last (m ∷ ms) =
+    IsNext last m.call m.answer × AreNumbered (number_after last m.call m.answer) ms
 
 -- above it, or where that is the greatest number of 64 bits not below it
 abbrev pub IsAbove : ℕ → ℕ → Type 0

@@ -28,7 +28,9 @@ pub record Lived (ds es : List Device) (i : ℕ) (d : Device) : Type 0 where
 
 -- no device of the name that has that file lived through
 abbrev pub NoneHas : Control → List ℕ → Kernel → Kernel → Type 0
-NoneHas control name k l = (i : ℕ) (d : Device) → Lived k.devices l.devices i d → d.name ≡ name → has_file control d ≡ true → ⊥
+NoneHas control name k l =
+    (i : ℕ) (d : Device) → Lived k.devices l.devices i d → d.name ≡ name → has_file control d ≡ true
+    → ⊥
 
 -- no device of the name lived through
 abbrev pub NoneLived : List ℕ → Kernel → Kernel → Type 0
@@ -66,7 +68,8 @@ default_after write.DefaultOn was = Some true
 
 -- a device after a write
 abbrev pub written_to : Write → Device → Device
-written_to write d = record d { on = value_after write d.on; default = default_after write d.default }
+written_to write d =
+    record d { on = value_after write d.on; default = default_after write d.default }
 
 -- the held file is of the device of that identity
 pub record Holds (k : Kernel) (held i : ℕ) (d : Device) : Type 0 where
@@ -75,7 +78,8 @@ pub record Holds (k : Kernel) (held i : ℕ) (d : Device) : Type 0 where
   pub is : file.device ≡ i
   pub device : slice_get k.devices i ≡ Some d
 
--- a file of that control is opened by name: it is the next held file, of a device of that name that has it and is live at the effect
+-- a file of that control is opened by name: it is the next held file, of a device of that name that
+-- has it and is live at the effect
 pub record IsOpened (name : List ℕ) (control : Control) (held : ℕ) (k l : Kernel) : Type 0 where
   pub i : ℕ
   pub d : Device
@@ -87,7 +91,8 @@ pub record IsOpened (name : List ℕ) (control : Control) (held : ℕ) (k l : Ke
   pub devices : l.devices ≡ k.devices
   pub log : l.log ≡ k.log
 
--- a write has its effect on the held file's device, which is live at the effect: one entry is added, and the value or the default is set
+-- a write has its effect on the held file's device, which is live at the effect: one entry is
+-- added, and the value or the default is set
 pub record IsWritten (held : ℕ) (write : Write) (k l : Kernel) : Type 0 where
   pub i : ℕ
   pub d : Device
@@ -130,7 +135,8 @@ pub record IsAlive (held : ℕ) (on : Bool) (k : Kernel) : Type 0 where
   pub value : d.on ≡ on
 
 abbrev pub says_listing : Listing → Kernel → Kernel → Type 0
-says_listing (listing.Names names) k l = ((i : ℕ) (d : Device) → Lived k.devices l.devices i d → Has names d.name) × AllDistinct names
+says_listing (listing.Names names) k l =
+    ((i : ℕ) (d : Device) → Lived k.devices l.devices i d → Has names d.name) × AllDistinct names
 says_listing listing.Failed k l = Unit {0}
 says_listing listing.Memory k l = Unit {0}
 
@@ -140,7 +146,8 @@ says_open control name answer k l = Unit {0}
 
 -- what was read is the file of each device of the name that lived through the call
 abbrev pub IsFile : List ℕ → Attr → ReadOut → Kernel → Kernel → Type 0
-IsFile name attr answer k l = (i : ℕ) (d : Device) → Lived k.devices l.devices i d → d.name ≡ name → answer ≡ read_of attr d
+IsFile name attr answer k l =
+    (i : ℕ) (d : Device) → Lived k.devices l.devices i d → d.name ≡ name → answer ≡ read_of attr d
 
 abbrev pub says_read : List ℕ → Attr → ReadOut → Kernel → Kernel → Type 0
 says_read name attr out.Failed k l = Unit {0}
@@ -180,8 +187,10 @@ pub record Called (call : Call) (answer : Answer call) (k l : Kernel) : Type 0 w
   pub sound_after : IsKernel after
   pub sound : IsKernel l
 
--- what a call tells: a kernel was told before it, and where that is sound the call is one of the kernel's
-pub record Follows (call : Call) (answer : Answer call) (told : Option Kernel) (l : Kernel) : Type 0 where
+-- what a call tells: a kernel was told before it, and where that is sound the call is one of the
+-- kernel's
+pub record Follows (call : Call) (answer : Answer call) (told : Option Kernel)
+    (l : Kernel) : Type 0 where
   pub kernel : Kernel
   pub was : told ≡ Some kernel
   pub called : IsKernel kernel → Called call answer kernel l

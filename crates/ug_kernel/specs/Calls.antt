@@ -75,8 +75,10 @@ abbrev pub failed_put : Wrote → Bool
 failed_put wrote.Failed = true
 failed_put answer = false
 
--- an answer tells the number of calls and the count of faults after it; each call raises the one, and a failure the other
-pub record Counted {X : Type 0} (failed : X → Bool) (told : Told X) (calls faults calls_after faults_after : ℕ) : Type 0 where
+-- an answer tells the number of calls and the count of faults after it; each call raises the one,
+-- and a failure the other
+pub record Counted {X : Type 0} (failed : X → Bool) (told : Told X)
+    (calls faults calls_after faults_after : ℕ) : Type 0 where
   pub number : told.number ≡ calls_after
   pub count : told.count ≡ faults_after
   pub call : calls_after ≡ raised calls

@@ -8,14 +8,18 @@ use Rattle.ug_kernel.specs.declared.device.Effect.{Effect}
 use Rattle.ug_kernel.specs.Kernel.{Kernel, default_in}
 use Rattle.ug_kernel.specs.Called.{default_after}
 
--- a device that was born while its controller's default was off is on only where the log has an On entry of it
+-- a device that was born while its controller's default was off is on only where the log has an On
+-- entry of it
 abbrev pub HasOnEntries : Kernel → Type 0
-HasOnEntries k = (i : ℕ) (d : Device) → slice_get k.devices i ≡ Some d → d.born_off ≡ true → d.on ≡ true → Has k.log (record { device = i; write = On })
+HasOnEntries k =
+    (i : ℕ) (d : Device) → slice_get k.devices i ≡ Some d → d.born_off ≡ true → d.on ≡ true
+    → Has k.log (record { device = i; write = On })
 
 -- the default of the device at that place after these entries
 abbrev pub default_by : ℕ → List Effect → Option Bool → Option Bool
 default_by i [] was = was
-default_by i (e ∷ es) was = default_by i es (cond (nat_eq e.device i) (default_after e.write was) was)
+default_by i (e ∷ es) was =
+    default_by i es (cond (nat_eq e.device i) (default_after e.write was) was)
 
 -- the default of the device at that place; none is unset
 abbrev pub default_at : ℕ → Kernel → Option Bool

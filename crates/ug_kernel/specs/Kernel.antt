@@ -7,7 +7,8 @@ use Rattle.ug_kernel.specs.declared.device.Device.{Device}
 use Rattle.ug_kernel.specs.declared.device.HeldFile.{HeldFile}
 use Rattle.ug_kernel.specs.declared.device.Effect.{Effect}
 
--- a place in the list of devices is an identity, and one in the list of held files is the file's number
+-- a place in the list of devices is an identity, and one in the list of held files is the file's
+-- number
 pub record Kernel : Type 0 where
   pub devices : List Device
   pub held : List HeldFile
@@ -22,22 +23,27 @@ abbrev pub live_count : List Device → ℕ
 live_count [] = 0
 live_count (d ∷ ds) = (if d.gone then 0 else 1) + live_count ds
 
--- the controller of what is born below that device: itself, where it is a root hub, and else its own
+-- the controller of what is born below that device: itself, where it is a root hub, and else its
+-- own
 abbrev pub hub_of : ℕ → Option ℕ → ℕ
 hub_of p None = p
 hub_of p (Some r) = r
 
--- what holds of the devices: live names are distinct; a parent is born before its child, lives while its child lives,
--- and bears the name of its child's parent; what has no parent is a root hub; each controller is the root hub that the parents lead to;
--- and not too many are live
+-- what holds of the devices: live names are distinct; a parent is born before its child, lives
+-- while its child lives, and bears the name of its child's parent; what has no parent is a root
+-- hub; each controller is the root hub that the parents lead to; and not too many are live
 pub record IsSound (ds : List Device) : Type 0 where
   pub names : (i j : ℕ) (d e : Device) → Live ds i d → Live ds j e → d.name ≡ e.name → i ≡ j
   pub below : (i p : ℕ) (d : Device) → slice_get ds i ≡ Some d → d.parent ≡ Some p → p < i
-  pub parents : (i p : ℕ) (d : Device) → Live ds i d → d.parent ≡ Some p → (e : Device) × Live ds p e
-  pub named : (i p : ℕ) (d e : Device) → slice_get ds i ≡ Some d → d.parent ≡ Some p → slice_get ds p ≡ Some e → parent_of d.name ≡ Some e.name
-  pub roots : (i : ℕ) (d : Device) → slice_get ds i ≡ Some d → d.parent ≡ None → parent_of d.name ≡ None
+  pub parents : (i p : ℕ) (d : Device) → Live ds i d → d.parent ≡ Some p
+      → (e : Device) × Live ds p e
+  pub named : (i p : ℕ) (d e : Device) → slice_get ds i ≡ Some d → d.parent ≡ Some p
+      → slice_get ds p ≡ Some e → parent_of d.name ≡ Some e.name
+  pub roots : (i : ℕ) (d : Device) → slice_get ds i ≡ Some d → d.parent ≡ None
+      → parent_of d.name ≡ None
   pub hubs : (i : ℕ) (d : Device) → slice_get ds i ≡ Some d → d.parent ≡ None → d.controller ≡ None
-  pub controllers : (i p : ℕ) (d e : Device) → slice_get ds i ≡ Some d → d.parent ≡ Some p → slice_get ds p ≡ Some e → d.controller ≡ Some (hub_of p e.controller)
+  pub controllers : (i p : ℕ) (d e : Device) → slice_get ds i ≡ Some d → d.parent ≡ Some p
+      → slice_get ds p ≡ Some e → d.controller ≡ Some (hub_of p e.controller)
   pub few : live_count ds ≤ 65536
 
 -- whether a device has that file: a root hub alone has an `authorized_default`
@@ -50,7 +56,8 @@ has_file Default d = is_none d.parent
 pub record IsKernel (k : Kernel) : Type 0 where
   pub devices : IsSound k.devices
   pub held : (h : ℕ) (f : HeldFile) → slice_get k.held h ≡ Some f → f.device < length k.devices
-  pub files : (h : ℕ) (f : HeldFile) (d : Device) → slice_get k.held h ≡ Some f → slice_get k.devices f.device ≡ Some d → has_file f.control d ≡ true
+  pub files : (h : ℕ) (f : HeldFile) (d : Device) → slice_get k.held h ≡ Some f
+      → slice_get k.devices f.device ≡ Some d → has_file f.control d ≡ true
 
 -- the file can be opened by that name: a default is a root hub's
 abbrev pub IsOpenable : Control → List ℕ → Type 0
@@ -58,7 +65,8 @@ IsOpenable Authorized name = Unit {0}
 IsOpenable Remove name = Unit {0}
 IsOpenable Default name = parent_of name ≡ None
 
--- e is what became of the device d: its facts stay, and how it was born, and gone never becomes not gone
+-- e is what became of the device d: its facts stay, and how it was born, and gone never becomes not
+-- gone
 pub record Stays (d e : Device) : Type 0 where
   pub name : e.name ≡ d.name
   pub parent : e.parent ≡ d.parent
@@ -92,7 +100,8 @@ abbrev pub default_in : Option Device → Option Bool
 default_in None = None
 default_in (Some d) = d.default
 
--- a device is born below a root hub of that default: it is marked where that is off, and where that is set its value is that
+-- a device is born below a root hub of that default: it is marked where that is off, and where that
+-- is set its value is that
 pub record StartsBelow (default : Option Bool) (d : Device) : Type 0 where
   pub born_off : d.born_off ≡ is_off default
   pub on : (v : Bool) → default ≡ Some v → d.on ≡ v
@@ -109,6 +118,7 @@ Starts ds d = (d.default ≡ None) × StartsUnder ds d d.controller
 -- what the kernel does by itself: devices are born and go
 pub record Moves (k l : Kernel) : Type 0 where
   pub devices : Begins k.devices l.devices
-  pub born : (i : ℕ) (d : Device) → slice_get l.devices i ≡ Some d → length k.devices ≤ i → Starts l.devices d
+  pub born : (i : ℕ) (d : Device) → slice_get l.devices i ≡ Some d → length k.devices ≤ i
+      → Starts l.devices d
   pub held : l.held ≡ k.held
   pub log : l.log ≡ k.log

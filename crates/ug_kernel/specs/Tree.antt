@@ -1,4 +1,5 @@
--- Interaction trees over the calls of the kernel's files (Xia et al., POPL 2020), and what it is to run one.
+-- Interaction trees over the calls of the kernel's files (Xia et al., POPL 2020), and what it is to
+-- run one.
 use Rattle.std.specs.Prelude.{◌≡◌, Bool}
 use Rattle.ug_kernel.specs.Calls.{Call, Answer}
 use Rattle.ug_kernel.specs.Kernel.{Kernel}
@@ -10,10 +11,13 @@ pub data Prog (R : Type 0) : Type 0 where
   Ask : (call : Call) → (next : Answer call → Prog R) → Prog R
   Room : (next : Bool → Prog R) → Prog R
 
--- a run of the tree from one state to another, where gives says what a call may be answered and what it leaves
-abbrev pub Runs : {S R : Type 0} → (S → (call : Call) → Answer call → S → Type 0) → S → Prog R → R → S → Type 0
+-- a run of the tree from one state to another, where gives says what a call may be answered and
+-- what it leaves
+abbrev pub Runs : {S R : Type 0} → (S → (call : Call) → Answer call → S → Type 0) → S → Prog R → R
+    → S → Type 0
 Runs gives s (Return value) r t = (r ≡ value) × (t ≡ s)
-Runs {S} gives s (Ask call next) r t = (a : Answer call) × (u : S) × gives s call a u × Runs gives u (next a) r t
+Runs {S} gives s (Ask call next) r t =
+    (a : Answer call) × (u : S) × gives s call a u × Runs gives u (next a) r t
 Runs gives s (Room next) r t = (b : Bool) × Runs gives s (next b) r t
 
 -- one tree, and then another that its result picks

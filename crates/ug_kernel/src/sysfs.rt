@@ -45,26 +45,51 @@ pub trait Sysfs {
 
     /// The names of all devices: distinct, and at most 65,536.
     fn list(&mut self, alloc: Global) -> Listing
-        ensures gives { gives self.old Names (record { answer = result; number = calls self.new; count = faults self.new }) self.new }
+        ensures gives { gives self.old Names
+            (record {
+              answer = result;
+              number = calls self.new;
+              count = faults self.new;
+            }) self.new }
         ensures few { HasFew result }
         ensures distinct { AreDistinct result };
 
     /// Opens a file of the device of that name. A root hub alone has an `authorized_default`.
     fn open_control(&mut self, alloc: Global, name: &NodeName, control: Control) -> Opened
         requires { IsOpenable control name.now }
-        ensures { gives self.old (Open name.now control) (record { answer = result; number = calls self.new; count = faults self.new }) self.new };
+        ensures { gives self.old (Open name.now control)
+            (record {
+              answer = result;
+              number = calls self.new;
+              count = faults self.new;
+            }) self.new };
 
     /// Reads a file of the device of that name.
     fn read(&mut self, alloc: Global, name: &NodeName, attr: Attr) -> ReadOut
-        ensures { gives self.old (Read name.now attr) (record { answer = result; number = calls self.new; count = faults self.new }) self.new };
+        ensures { gives self.old (Read name.now attr)
+            (record {
+              answer = result;
+              number = calls self.new;
+              count = faults self.new;
+            }) self.new };
 
     /// Whether the device of a held file is there, and its value of `authorized`.
     fn probe(&mut self, held: Held) -> Probe
-        ensures { gives self.old (Ask_alive held.0) (record { answer = result; number = calls self.new; count = faults self.new }) self.new };
+        ensures { gives self.old (Ask_alive held.0)
+            (record {
+              answer = result;
+              number = calls self.new;
+              count = faults self.new;
+            }) self.new };
 
     /// Writes through a held file. A write that fails may have had its effect.
     fn write(&mut self, held: Held, what: Write) -> Wrote
-        ensures { gives self.old (Put held.0 what) (record { answer = result; number = calls self.new; count = faults self.new }) self.new };
+        ensures { gives self.old (Put held.0 what)
+            (record {
+              answer = result;
+              number = calls self.new;
+              count = faults self.new;
+            }) self.new };
 
     /// Closes a held file.
     fn close(&mut self, held: Held)
@@ -83,7 +108,8 @@ pub trait Sysfs {
         → gives s call answer t → Counts call answer (calls s) (faults s) (calls t) (faults t) };
 
     /// A new event begins with no call, and changes nothing else that is told.
-    ghost began: { (s t : Self) → begins s t → (told t ≡ told s) × (calls t ≡ 0) × (faults t ≡ faults s) };
+    ghost began: { (s t : Self) → begins s t
+        → (told t ≡ told s) × (calls t ≡ 0) × (faults t ≡ faults s) };
 
     /// No call was made yet.
     ghost cleared: { (s t : Self) → begins s t → made t ≡ [] };

@@ -1,4 +1,5 @@
--- Lines of the form `word=value`, with blanks about each part, as relations. A line is skipped where it is empty or begins with `#`.
+-- Lines of the form `word=value`, with blanks about each part, as relations. A line is skipped
+-- where it is empty or begins with `#`.
 use Rattle.std.specs.Prelude.{◌≡◌, ◌⊎◌, ℕ, List, [], ◌∷◌, ◌++◌}
 use Rattle.ug_types.specs.Elements.{Has}
 

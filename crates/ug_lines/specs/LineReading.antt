@@ -18,12 +18,15 @@ on_line number_of number (Ok x) = Ok x
 on_line number_of number (Err fault) = Err (fault_in_line number_of number fault)
 
 -- what lines that are numbered from a number on lead to, up to the first bad one
-unfoldable pub lines_read : {S : Type 0} → (ℕ → S → List ℕ → Result S TextFault) → ℕ → S → List (List ℕ) → Result S TextFault
+unfoldable pub lines_read : {S : Type 0} → (ℕ → S → List ℕ → Result S TextFault) → ℕ → S
+    → List (List ℕ) → Result S TextFault
 lines_read read number state [] = Ok state
-lines_read read number state (line ∷ lines) = then_on (read number state line) (λ next. lines_read read (number + 1) next lines)
+lines_read read number state (line ∷ lines) =
+    then_on (read number state line) (λ next. lines_read read (number + 1) next lines)
 
 -- what a text leads to, whose lines count from 1
-abbrev pub text_read : {S : Type 0} → (ℕ → S → List ℕ → Result S TextFault) → S → List ℕ → Result S TextFault
+abbrev pub text_read : {S : Type 0} → (ℕ → S → List ℕ → Result S TextFault) → S → List ℕ
+    → Result S TextFault
 text_read read state text = lines_read read 1 state (lines_of text)
 
 -- a call's answer is what was read, and what it leaves is where that leads; memory may be refused
@@ -33,12 +36,16 @@ LeadsTo read (Err (Bad fault)) after = read ≡ Err fault
 LeadsTo read (Err Memory) after = Unit {0}
 
 -- each of these lines is good behind those before, and they lead from one state to another
-pub data AllGood {S : Type 0} (read : ℕ → S → List ℕ → Result S TextFault) : ℕ → S → List (List ℕ) → S → Type 0 where
+pub data AllGood {S : Type 0} (read : ℕ → S → List ℕ → Result S TextFault) : ℕ → S → List (List ℕ)
+    → S → Type 0 where
   NoLines : (number : ℕ) (state : S) → AllGood read number state [] state
-  OneMore : (number : ℕ) (state next last : S) (line : List ℕ) (lines : List (List ℕ)) → read number state line ≡ Ok next → AllGood read (number + 1) next lines last → AllGood read number state (line ∷ lines) last
+  OneMore : (number : ℕ) (state next last : S) (line : List ℕ) (lines : List (List ℕ))
+      → read number state line ≡ Ok next → AllGood read (number + 1) next lines last
+      → AllGood read number state (line ∷ lines) last
 
 -- the lines before are good, and this one is not
-pub record IsFirstBadLine {S : Type 0} (read : ℕ → S → List ℕ → Result S TextFault) (number : ℕ) (start : S) (lines : List (List ℕ)) (fault : TextFault) : Type 0 where
+pub record IsFirstBadLine {S : Type 0} (read : ℕ → S → List ℕ → Result S TextFault) (number : ℕ)
+    (start : S) (lines : List (List ℕ)) (fault : TextFault) : Type 0 where
   pub before : List (List ℕ)
   pub line : List ℕ
   pub behind : List (List ℕ)

@@ -10,17 +10,23 @@ use crate::line_reading::LineReader;
 /// Bytes split into their whole lines and a rest, and in no other way.
 pub fn split_in_one_way()
     ensures splits { (bytes : List ℕ) → Splits bytes (whole_lines bytes) (rest_from [] bytes) }
-    ensures only { (bytes : List ℕ) (lines : List (List ℕ)) (rest : List ℕ) → Splits bytes lines rest → (lines ≡ whole_lines bytes) × (rest ≡ rest_from [] bytes) }
+    ensures only { (bytes : List ℕ) (lines : List (List ℕ)) (rest : List ℕ)
+        → Splits bytes lines rest → (lines ≡ whole_lines bytes) × (rest ≡ rest_from [] bytes) }
 {}
 
 /// A text has these lines, and no others.
 pub fn text_lines_law()
-    ensures { (text : List ℕ) (lines : List (List ℕ)) → (lines_of text ≡ lines) ↔ AreLinesOf text lines }
+    ensures { (text : List ℕ) (lines : List (List ℕ))
+        → (lines_of text ≡ lines) ↔ AreLinesOf text lines }
 {}
 
 /// Lines are read to their end exactly where each is good behind those before, and have a fault exactly where that is
 /// their first bad line's.
 pub fn line_reading_law<R: LineReader>()
-    ensures good { (number : ℕ) (start last : R.State) (lines : List (List ℕ)) → (lines_read R.reads number start lines ≡ Ok last) ↔ AllGood R.reads number start lines last }
-    ensures bad { (number : ℕ) (start : R.State) (lines : List (List ℕ)) (fault : TextFault) → (lines_read R.reads number start lines ≡ Err fault) ↔ IsFirstBadLine R.reads number start lines fault }
+    ensures good { (number : ℕ) (start last : R.State) (lines : List (List ℕ))
+        → (lines_read R.reads number start lines
+        ≡ Ok last) ↔ AllGood R.reads number start lines last }
+    ensures bad { (number : ℕ) (start : R.State) (lines : List (List ℕ)) (fault : TextFault)
+        → (lines_read R.reads number start lines
+        ≡ Err fault) ↔ IsFirstBadLine R.reads number start lines fault }
 {}

@@ -35,7 +35,8 @@ pub fn read_lines<R: LineReader>(
     text: &[u8],
 ) -> Result<(), FileFault>
     requires { R.keeps 1 reader.old }
-    ensures { LeadsTo (text_read R.reads (R.state reader.old) text.now) result (R.state reader.new) }
+    ensures { LeadsTo (text_read R.reads (R.state reader.old) text.now) result
+        (R.state reader.new) }
 {
     let mut number: u64 = 1;
     let mut rest = text;

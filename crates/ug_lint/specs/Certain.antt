@@ -1,4 +1,5 @@
--- Conditions of which it is certain, whatever is judged and when, that they hold or that they don't.
+-- Conditions of which it is certain, whatever is judged and when, that they hold or that they
+-- don't.
 use Rattle.std.specs.Prelude.{List, Bool, true, false, nat_eq, if◌then◌else◌, Option, Some, None}
 use Rattle.std.specs.List.{list_all, list_any}
 use Rattle.ug_types.specs.declared.rule.Cond.{Cond}

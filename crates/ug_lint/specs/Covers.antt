@@ -13,4 +13,6 @@ abbrev pub id_covers : Id → Id → Bool
 id_covers v w = number_covers v.vendor w.vendor && number_covers v.product w.product
 
 abbrev pub interface_covers : Iface → Iface → Bool
-interface_covers v w = nat_eq v.class w.class && number_covers v.subclass w.subclass && number_covers v.protocol w.protocol
+interface_covers v w =
+    nat_eq v.class w.class && number_covers v.subclass w.subclass
+    && number_covers v.protocol w.protocol

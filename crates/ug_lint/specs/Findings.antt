@@ -23,7 +23,8 @@ finding_of before rule =
 
 abbrev pub findings_behind : List Rule → List Rule → List Finding
 findings_behind before [] = []
-findings_behind before (rule ∷ rules) = option_to_list (finding_of before rule) ++ findings_behind (before ++ rule ∷ []) rules
+findings_behind before (rule ∷ rules) =
+    option_to_list (finding_of before rule) ++ findings_behind (before ++ rule ∷ []) rules
 
 -- the findings of each rule, in their order
 abbrev pub findings : List Rule → List Finding
@@ -38,7 +39,8 @@ found_place (Never rule) = rule
 
 -- the rule at that place never holds
 abbrev pub IsNever : List Rule → ℕ → Type 0
-IsNever rules place = (rule : Rule) × (slice_get rules place ≡ Some rule) × IsTrue (never_hold rule.conds)
+IsNever rules place =
+    (rule : Rule) × (slice_get rules place ≡ Some rule) × IsTrue (never_hold rule.conds)
 
 -- the rule at that place is covered by an earlier one, and by none before that
 pub record IsCovered (rules : List Rule) (place by : ℕ) : Type 0 where
@@ -49,7 +51,8 @@ pub record IsCovered (rules : List Rule) (place by : ℕ) : Type 0 where
   pub before : by < place
   pub can_hold : never_hold rule.conds ≡ false
   pub covers : IsTrue (covers_rule rule earlier)
-  pub least : (k : ℕ) (other : Rule) → k < by → slice_get rules k ≡ Some other → covers_rule rule other ≡ false
+  pub least : (k : ℕ) (other : Rule) → k < by → slice_get rules k ≡ Some other
+      → covers_rule rule other ≡ false
 
 abbrev pub IsFinding : List Rule → Finding → Type 0
 IsFinding rules (Covered place by) = IsCovered rules place by

@@ -9,7 +9,8 @@ use Rattle.ug_match.specs.Covers.{covers_text}
 use Rattle.ug_match.specs.Operators.{in_order, is_matched, matches_some}
 use Rattle.ug_lint.specs.Covers.{id_covers, interface_covers}
 
--- ---- sets of values; those of the implied set are first, and `covers` is between one of them and one of the other set
+-- ---- sets of values; those of the implied set are first, and `covers` is between one of them and
+-- one of the other set
 
 -- some value covers one of the others
 abbrev pub some_covers : {X : Type 0} → (X → X → Bool) → List X → List X → Bool
@@ -56,8 +57,10 @@ abbrev pub equals_implied : {X : Type 0} → (X → X → Bool) → List X → O
 equals_implied covers values AllOf others = false
 equals_implied covers values OneOf others = false
 equals_implied covers values NoneOf others = false
-equals_implied covers values Equals others = each_covers covers values others && each_covered covers values others
-equals_implied covers values EqualsOrdered others = each_covers covers values others && each_covered covers values others
+equals_implied covers values Equals others =
+    each_covers covers values others && each_covered covers values others
+equals_implied covers values EqualsOrdered others =
+    each_covers covers values others && each_covered covers values others
 
 abbrev pub ordered_implied : {X : Type 0} → (X → X → Bool) → List X → Op → List X → Bool
 ordered_implied covers values AllOf others = false
@@ -96,10 +99,13 @@ op_of_one EqualsOrdered items = ordered_of_one items
 
 -- values of an attribute of which a device has one
 abbrev pub one_implied : {X : Type 0} → (X → X → Bool) → Values X → Values X → Bool
-one_implied covers values others = set_implied covers (op_of_one values.op values.items) values.items (op_of_one others.op others.items) others.items
+one_implied covers values others =
+    set_implied covers (op_of_one values.op values.items) values.items
+    (op_of_one others.op others.items) others.items
 
 -- an attribute that the implied query gives is given by the other, and is implied
-abbrev pub given_implied : {X : Type 0} → (Values X → Values X → Bool) → Option (Values X) → Option (Values X) → Bool
+abbrev pub given_implied : {X : Type 0} → (Values X → Values X → Bool) → Option (Values X)
+    → Option (Values X) → Bool
 given_implied implied None others = true
 given_implied implied (Some values) None = false
 given_implied implied (Some values) (Some others) = implied values others

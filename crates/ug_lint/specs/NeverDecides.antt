@@ -16,21 +16,30 @@ use Rattle.ug_lint.specs.Remaining.{remaining_entries}
 abbrev pub HasWords : Stream → Type 0
 HasWords stream = (n : ℕ) → (next_u64 (behind n stream)).0 < 2 ^ 64
 
--- for no device, moment, second of the day, allowed devices, histories and words does the rule at that place decide
+-- for no device, moment, second of the day, allowed devices, histories and words does the rule at
+-- that place decide
 abbrev pub NeverDecides : List Rule → ℕ → Type 0
 NeverDecides rules place =
-    (dev : DeviceRecord) (ctx : Context) (records : List DeviceRecord) (entries : List RuleEntry) (stream : Stream) (e : RuleEntry)
-    → rules_in entries ≡ rules → HasWords stream → ¬ IsDecider dev ctx records entries stream place e
+    (dev : DeviceRecord) (ctx : Context) (records : List DeviceRecord) (entries : List RuleEntry)
+    (stream : Stream) (e : RuleEntry)
+    → rules_in entries ≡ rules → HasWords stream
+    → ¬ IsDecider dev ctx records entries stream place e
 
--- two lists of rules judge a device alike: the answer, the rule that decides, the rules that were evaluated, and how
--- many words were taken
+-- two lists of rules judge a device alike: the answer, the rule that decides, the rules that were
+-- evaluated, and how many words were taken
 pub record JudgeAlike (dev : DeviceRecord) (ctx : Context) (one other : Found) : Type 0 where
-  pub answer : (implicit : Target) → answer_by implicit (decider one) ≡ answer_by implicit (decider other)
+  pub answer : (implicit : Target)
+      → answer_by implicit (decider one) ≡ answer_by implicit (decider other)
   pub decider : decider one ≡ decider other
   pub judgement : judgement_found dev ctx.moment one ≡ judgement_found dev ctx.moment other
   pub words : words_taken dev (reached one) ≡ words_taken dev (reached other)
 
 -- the rules that remain judge each device as all of them do, and have the same histories after it
-pub record PrunedAlike (dev : DeviceRecord) (ctx : Context) (records : List DeviceRecord) (entries : List RuleEntry) (stream : Stream) : Type 0 where
-  pub alike : JudgeAlike dev ctx (find_decider dev ctx records (remaining_entries entries) stream) (find_decider dev ctx records entries stream)
-  pub later : rules_judged dev ctx.moment (find_decider dev ctx records (remaining_entries entries) stream) ≡ remaining_entries (rules_judged dev ctx.moment (find_decider dev ctx records entries stream))
+pub record PrunedAlike (dev : DeviceRecord) (ctx : Context) (records : List DeviceRecord)
+    (entries : List RuleEntry) (stream : Stream) : Type 0 where
+  pub alike : JudgeAlike dev ctx (find_decider dev ctx records (remaining_entries entries) stream)
+      (find_decider dev ctx records entries stream)
+  pub later : rules_judged dev ctx.moment
+      (find_decider dev ctx records (remaining_entries entries) stream)
+      ≡ remaining_entries
+      (rules_judged dev ctx.moment (find_decider dev ctx records entries stream))

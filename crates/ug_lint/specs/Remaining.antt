@@ -23,7 +23,9 @@ kept_unless false x = x ∷ []
 -- of things that have a rule each, those whose rule isn't covered
 abbrev pub remaining_behind : {X : Type 0} → (X → Rule) → List Rule → List X → List X
 remaining_behind rule_of before [] = []
-remaining_behind rule_of before (x ∷ xs) = kept_unless (is_covered before (rule_of x)) x ++ remaining_behind rule_of (before ++ rule_of x ∷ []) xs
+remaining_behind rule_of before (x ∷ xs) =
+    kept_unless (is_covered before (rule_of x)) x
+    ++ remaining_behind rule_of (before ++ rule_of x ∷ []) xs
 
 -- the rules that no earlier rule covers
 abbrev pub remaining : List Rule → List Rule

@@ -18,7 +18,8 @@ fn id_implied(values: &Option<Values<Id>>, others: &Option<Values<Id>>) -> bool
 }
 
 fn text_implied(values: &Option<Values<Text>>, others: &Option<Values<Text>>) -> bool
-    ensures { result ≡ queries.given_implied (queries.one_implied covers_text) values.now others.now }
+    ensures { result ≡ queries.given_implied
+        (queries.one_implied covers_text) values.now others.now }
 {
     match (values, others) {
         (None, _) => true,
@@ -28,7 +29,8 @@ fn text_implied(values: &Option<Values<Text>>, others: &Option<Values<Text>>) ->
 }
 
 fn interfaces_implied(values: &Option<Values<Iface>>, others: &Option<Values<Iface>>) -> bool
-    ensures { result ≡ queries.given_implied (queries.many_implied interface_covers) values.now others.now }
+    ensures { result ≡ queries.given_implied
+        (queries.many_implied interface_covers) values.now others.now }
 {
     match (values, others) {
         (None, _) => true,

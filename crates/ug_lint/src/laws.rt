@@ -48,7 +48,8 @@ pub fn sets_law<T>()
         ↔ ((other : T) → Has others other → IsMatched covers values other) }
     ensures each_covers_all { (covers : T → T → Bool) (values others : List T)
         → IsTrue (each_covers_all covers values others)
-        ↔ ((value : T) → Has values value → (other : T) → Has others other → IsTrue (covers value other)) }
+        ↔ ((value : T) → Has values value → (other : T) → Has others other
+        → IsTrue (covers value other)) }
     ensures itself { (covers : T → T → Bool) → ((value : T) → IsTrue (covers value value))
         → (op : Op) (values : List T) → IsTrue (set_implied covers op values op values) }
 {}
@@ -73,10 +74,14 @@ pub fn implied_law()
 /// Conditions that always hold, and those that never do, whatever the history, the moment, the second of the day, the allowed
 /// devices and the words.
 pub fn conditions_law()
-    ensures always { (ctx : when.Context) (records : List DeviceRecord) (e : RuleEntry) (stream : Stream)
-        → HasWords stream → always_hold e.rule.conds ≡ true → rule_holds ctx records e stream ≡ true }
-    ensures never { (ctx : when.Context) (records : List DeviceRecord) (e : RuleEntry) (stream : Stream)
-        → HasWords stream → never_hold e.rule.conds ≡ true → rule_holds ctx records e stream ≡ false }
+    ensures always { (ctx : when.Context) (records : List DeviceRecord) (e : RuleEntry)
+        (stream : Stream)
+        → HasWords stream → always_hold e.rule.conds ≡ true
+        → rule_holds ctx records e stream ≡ true }
+    ensures never { (ctx : when.Context) (records : List DeviceRecord) (e : RuleEntry)
+        (stream : Stream)
+        → HasWords stream → never_hold e.rule.conds ≡ true
+        → rule_holds ctx records e stream ≡ false }
 {}
 
 /// What is found is what can be said of a place, each once, in the order of the rules.
@@ -84,7 +89,8 @@ pub fn findings_law()
     ensures found { (rules : List types.Rule) (finding : tells.Finding)
         → Has (findings rules) finding ↔ IsFinding rules finding }
     ensures rise { (rules : List types.Rule) → RiseFrom 0 (findings rules) }
-    ensures never_decides { (rules : List types.Rule) (finding : tells.Finding) → All WellFormed rules
+    ensures never_decides { (rules : List types.Rule) (finding : tells.Finding)
+        → All WellFormed rules
         → Has (findings rules) finding → NeverDecides rules (found_place finding) }
 {}
 
@@ -92,8 +98,10 @@ pub fn findings_law()
 /// it. None of the others is covered by one of them.
 pub fn remaining_law()
     ensures alike { (dev : DeviceRecord) (ctx : when.Context) (records : List DeviceRecord)
-        (entries : List RuleEntry) (stream : Stream) → All WellFormed (rules_in entries) → HasWords stream
+        (entries : List RuleEntry) (stream : Stream) → All WellFormed (rules_in entries)
+        → HasWords stream
         → PrunedAlike dev ctx records entries stream }
-    ensures rules { (entries : List RuleEntry) → rules_in (remaining_entries entries) ≡ remaining (rules_in entries) }
+    ensures rules { (entries : List RuleEntry)
+        → rules_in (remaining_entries entries) ≡ remaining (rules_in entries) }
     ensures once { (rules : List types.Rule) → remaining (remaining rules) ≡ remaining rules }
 {}

@@ -30,7 +30,8 @@ pub fn lint(alloc: Global, rules: &[Rule]) -> Result<Vec<Finding>, NoMemory>
     requires few { length rules.now ≤ 4096 }
     requires well_formed { All WellFormed rules.now }
     ensures findings { IfOk result (λ found. found.items ≡ findings rules.now) }
-    ensures never_decides { IfOk result (λ found. (finding : tells.Finding) → Has found.items finding
+    ensures never_decides { IfOk result
+        (λ found. (finding : tells.Finding) → Has found.items finding
         → NeverDecides rules.now (found_place finding)) }
 {
     let mut found = Vec::new(alloc);

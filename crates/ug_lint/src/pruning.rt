@@ -48,7 +48,8 @@ pub fn prune(alloc: Global, mut rules: Vec<Rule>) -> Result<Vec<Rule>, NoMemory>
     ensures judges { IfOk result (λ kept. (dev : DeviceRecord) (ctx : when.Context)
         (records : List DeviceRecord) (entries : List RuleEntry) (stream : Stream)
         → rules_in entries ≡ rules.items → HasWords stream
-        → (rules_in (left.remaining_entries entries) ≡ kept.items) × PrunedAlike dev ctx records entries stream) }
+        → (rules_in (left.remaining_entries entries) ≡ kept.items)
+        × PrunedAlike dev ctx records entries stream) }
 {
     let mut kept = Vec::new(alloc);
     while let Some(rule) = rules.pop() {

@@ -12,10 +12,13 @@ covers_number None n = true
 covers_number (Some m) n = nat_eq m n
 
 abbrev pub covers_id : Id → DeviceId → Bool
-covers_id rule device = covers_number rule.vendor device.vendor && covers_number rule.product device.product
+covers_id rule device =
+    covers_number rule.vendor device.vendor && covers_number rule.product device.product
 
 abbrev pub covers_interface : Iface → Triple → Bool
-covers_interface rule device = nat_eq rule.class device.class && covers_number rule.subclass device.subclass && covers_number rule.protocol device.protocol
+covers_interface rule device =
+    nat_eq rule.class device.class && covers_number rule.subclass device.subclass
+    && covers_number rule.protocol device.protocol
 
 abbrev pub covers_text : List ℕ → List ℕ → Bool
 covers_text rule device = pointwise nat_eq rule device

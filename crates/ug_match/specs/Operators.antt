@@ -15,13 +15,16 @@ is_matched covers rules value = list_any (λ rule. covers rule value) rules
 
 -- one length, and each matches the one at its place
 abbrev pub in_order : {X Y : Type 0} → (X → Y → Bool) → List X → List Y → Bool
-in_order covers rules device = nat_eq (length rules) (length device) && list_all (λ pair. covers pair.0 pair.1) (zip rules device)
+in_order covers rules device =
+    nat_eq (length rules) (length device)
+    && list_all (λ pair. covers pair.0 pair.1) (zip rules device)
 
 abbrev pub holds : {X Y : Type 0} → (X → Y → Bool) → Op → List X → List Y → Bool
 holds covers AllOf rules device = list_all (matches_some covers device) rules
 holds covers OneOf rules device = list_any (matches_some covers device) rules
 holds covers NoneOf rules device = not (list_any (matches_some covers device) rules)
-holds covers Equals rules device = list_all (matches_some covers device) rules && list_all (is_matched covers rules) device
+holds covers Equals rules device =
+    list_all (matches_some covers device) rules && list_all (is_matched covers rules) device
 holds covers EqualsOrdered rules device = in_order covers rules device
 
 -- the rule's value matches a value of the device

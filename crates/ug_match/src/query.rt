@@ -8,7 +8,8 @@ use crate::operators::holds;
 use ug_types::{DeviceRecord, Id, Iface, Query, Text, Triple, Values};
 
 fn id_holds(values: &Option<Values<Id>>, vendor: u16, product: u16) -> bool
-    ensures { result ≡ attribute covers_id values.now (record { vendor = vendor; product = product } ∷ []) }
+    ensures { result ≡ attribute covers_id values.now
+        (record { vendor = vendor; product = product } ∷ []) }
 {
     match values {
         Some(values) => holds(values, &[DeviceId { vendor, product }]),

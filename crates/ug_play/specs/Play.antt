@@ -12,7 +12,8 @@ use Rattle.ug_audit.specs.declared.entry.Entry.TheVariants as entry
 use Rattle.ug_audit.specs.declared.entry.Fault.{Fault}
 use Rattle.ug_audit.specs.declared.entry.Fault.TheVariants as fault
 
--- the run of a program whose calls are answered by the script alone, and that finds room wherever it asks for some
+-- the run of a program whose calls are answered by the script alone, and that finds room wherever
+-- it asks for some
 abbrev pub play : {R : Type 0} → Prog R → World → R × World
 play (Return value) w = (value, w)
 play (Ask call next) w = play (next (answer_of w call).0) (answer_of w call).1
@@ -30,7 +31,8 @@ abbrev pub is_short_reply : Result (Unit {0}) Refusal → Bool
 is_short_reply (Err (refusal.Memory stands)) = true
 is_short_reply answered = false
 
--- an entry that tells want of memory: for a name, for the listing, for a save that was pending, or for an order
+-- an entry that tells want of memory: for a name, for the listing, for a save that was pending, or
+-- for an order
 abbrev pub entry_tells_memory : Entry → Bool
 entry_tells_memory (entry.Unsettled name why) = is_memory why
 entry_tells_memory (entry.UnsettledAll why) = is_memory why
@@ -43,9 +45,11 @@ tells_memory entries = list_any entry_tells_memory entries
 
 -- the entries after it are those before, and some more, of which one tells want of memory
 abbrev pub TellsMemory : List Entry → List Entry → Type 0
-TellsMemory before after = (rest : List Entry) × (after ≡ before ++ rest) × (tells_memory rest ≡ true)
+TellsMemory before after =
+    (rest : List Entry) × (after ≡ before ++ rest) × (tells_memory rest ≡ true)
 
--- the result and the world at the end are those that the script fixes, or the result tells want of memory, or the kernel has run out
+-- the result and the world at the end are those that the script fixes, or the result tells want of
+-- memory, or the kernel has run out
 abbrev pub IsPlayed : {R : Type 0} → (R → Type 0) → Prog R → World → R → World → Type 0
 IsPlayed tells p s r t = ((r ≡ (play p s).0) × (t ≡ (play p s).1)) ⊎ (tells r ⊎ (t.ran_out ≡ true))
 

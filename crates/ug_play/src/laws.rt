@@ -20,19 +20,24 @@ pub fn play_law<R>()
 /// A sweep ends as the script fixes it, or one of its entries tells want of memory, or the kernel has run out.
 #[tactic(auto, using(crate::proofs::Sweeps::sweeping_played))]
 pub fn sweep_law<A: Judge>()
-    ensures { (w : State A.Meaning) (s : World) (v : State A.Meaning) (t : World) → Runs Gives s (sweeping A.answer A.later w) v t
-        → ((v ≡ (play (sweeping A.answer A.later w) s).0) × (t ≡ (play (sweeping A.answer A.later w) s).1))
-        ⊎ (((rest : List Entry) × (v.entries ≡ w.entries ++ rest) × (tells_memory rest ≡ true)) ⊎ (t.ran_out ≡ true)) }
+    ensures { (w : State A.Meaning) (s : World) (v : State A.Meaning) (t : World)
+        → Runs Gives s (sweeping A.answer A.later w) v t
+        → ((v ≡ (play (sweeping A.answer A.later w) s).0)
+        × (t ≡ (play (sweeping A.answer A.later w) s).1))
+        ⊎ (((rest : List Entry) × (v.entries ≡ w.entries ++ rest) × (tells_memory rest ≡ true))
+        ⊎ (t.ran_out ≡ true)) }
 {}
 
 /// A sweep that a script fixes tells no want of memory, whatever moves and whichever calls fail.
 #[tactic(auto, using(crate::proofs::Sweeps::sure_sweep))]
 pub fn room_law<A: Judge>()
-    ensures { (w : State A.Meaning) (s : World) → tells_memory w.entries ≡ false → tells_memory (play (sweeping A.answer A.later w) s).0.entries ≡ false }
+    ensures { (w : State A.Meaning) (s : World) → tells_memory w.entries ≡ false
+        → tells_memory (play (sweeping A.answer A.later w) s).0.entries ≡ false }
 {}
 
 /// Where no call is to fail, a sweep that the script fixes names nobody as unsettled.
 #[tactic(auto, using(crate::proofs::Sweeps::quiet_sweep))]
 pub fn quiet_law<A: Judge>()
-    ensures { (w : State A.Meaning) (s : World) → s.ran_out ≡ false → IsUnfailing s → NameNobody w.entries → NameNobody (play (sweeping A.answer A.later w) s).0.entries }
+    ensures { (w : State A.Meaning) (s : World) → s.ran_out ≡ false → IsUnfailing s
+        → NameNobody w.entries → NameNobody (play (sweeping A.answer A.later w) s).0.entries }
 {}

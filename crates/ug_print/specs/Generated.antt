@@ -13,7 +13,12 @@ abbrev pub equals : {X : Type 0} → List X → Option (Values X)
 equals items = Some (record { op = Equals; items = items })
 
 abbrev pub interface_of : Triple → Iface
-interface_of triple = record { class = triple.class; subclass = Some triple.subclass; protocol = Some triple.protocol }
+interface_of triple =
+    record {
+      class = triple.class;
+      subclass = Some triple.subclass;
+      protocol = Some triple.protocol;
+    }
 
 -- in the device's order, and not given where there are none
 abbrev pub interfaces_of : List Triple → Option (Values Iface)
@@ -35,4 +40,5 @@ query_of device with_port = record {
 }
 
 unfoldable pub generated_of : DeviceRecord → Target → Bool → Rule
-generated_of device target with_port = record { target = target; query = query_of device with_port; conds = None }
+generated_of device target with_port =
+    record { target = target; query = query_of device with_port; conds = None }

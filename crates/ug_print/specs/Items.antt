@@ -14,7 +14,8 @@ id_text id = or_star hex_four id.vendor ++ 58 ∷ or_star hex_four id.product
 
 -- cc:ss:pp, where the last two may be stars
 abbrev pub interface_text : Iface → List ℕ
-interface_text i = hex_two i.class ++ 58 ∷ (or_star hex_two i.subclass ++ 58 ∷ or_star hex_two i.protocol)
+interface_text i =
+    hex_two i.class ++ 58 ∷ (or_star hex_two i.subclass ++ 58 ∷ or_star hex_two i.protocol)
 
 -- a quote and a backslash have a backslash before them; what ASCII doesn't print is in hexadecimal
 abbrev pub byte_text : ℕ → List ℕ
@@ -35,7 +36,8 @@ time_text s = two_digits (s / 3600) ++ 58 ∷ (two_digits (s / 60 % 60) ++ 58 �
 -- the decimal digits of n billionths, up to so many and until nothing is left
 abbrev pub billionths : ℕ → ℕ → List ℕ
 billionths zero n = []
-billionths (suc k) n = if nat_eq n 0 then [] else (48 + n * 10 / 1000000000) ∷ billionths k (n * 10 % 1000000000)
+billionths (suc k) n =
+    if nat_eq n 0 then [] else (48 + n * 10 / 1000000000) ∷ billionths k (n * 10 % 1000000000)
 
 -- 0, 1, or 0. and digits without zeros at their end
 unfoldable pub probability_text : ℕ → List ℕ

@@ -38,24 +38,31 @@ is_port true port values = is_one_text port values
 is_port false port values = is_none values
 
 abbrev pub is_just_id : ℕ → ℕ → List Id → Bool
-is_just_id vendor product (item ∷ []) = is_number vendor item.vendor && is_number product item.product
+is_just_id vendor product (item ∷ []) =
+    is_number vendor item.vendor && is_number product item.product
 is_just_id vendor product [] = false
 is_just_id vendor product (first ∷ second ∷ items) = false
 
 abbrev pub is_one_id : ℕ → ℕ → Option (Values Id) → Bool
-is_one_id vendor product (Some values) = is_equals values.op && is_just_id vendor product values.items
+is_one_id vendor product (Some values) =
+    is_equals values.op && is_just_id vendor product values.items
 is_one_id vendor product None = false
 
 abbrev pub is_interface : Iface → Triple → Bool
-is_interface item triple = nat_eq item.class triple.class && is_number triple.subclass item.subclass && is_number triple.protocol item.protocol
+is_interface item triple =
+    nat_eq item.class triple.class && is_number triple.subclass item.subclass
+    && is_number triple.protocol item.protocol
 
 abbrev pub are_interfaces : List Iface → List Triple → Bool
-are_interfaces items triples = nat_eq (length items) (length triples) && list_all (λ (pair : Iface × Triple). is_interface pair.0 pair.1) (zip items triples)
+are_interfaces items triples =
+    nat_eq (length items) (length triples)
+    && list_all (λ (pair : Iface × Triple). is_interface pair.0 pair.1) (zip items triples)
 
 -- not given where the device has none
 abbrev pub is_for_interfaces : List Triple → Option (Values Iface) → Bool
 is_for_interfaces [] values = is_none values
-is_for_interfaces (triple ∷ triples) (Some values) = is_equals values.op && are_interfaces values.items (triple ∷ triples)
+is_for_interfaces (triple ∷ triples) (Some values) =
+    is_equals values.op && are_interfaces values.items (triple ∷ triples)
 is_for_interfaces (triple ∷ triples) None = false
 
 -- all that is known of the device, each as equals, and the port only if it is asked for

@@ -46,7 +46,8 @@ abbrev pub set_words : Op → List (List ℕ) → List (List ℕ)
 set_words op items = opening op (length items) ++ items ++ closing op (length items)
 
 -- an attribute that is given: its name and its values
-abbrev pub attribute_words : {X : Type 0} → List ℕ → (X → List ℕ) → Option (Values X) → List (List ℕ)
+abbrev pub attribute_words : {X : Type 0} → List ℕ → (X → List ℕ) → Option (Values X)
+    → List (List ℕ)
 attribute_words name item None = []
 attribute_words name item (Some values) = name ∷ set_words values.op (map item values.items)
 
@@ -67,8 +68,10 @@ query_words query =
     ++ label_words query.label
 
 unfoldable pub kind_text : CondKind → List ℕ
-kind_text (kind.LocalTime begin end) = codes "localtime(" ++ time_text begin ++ 45 ∷ (time_text end ++ 41 ∷ [])
-kind_text (kind.AllowedMatches query) = codes "allowed-matches(" ++ joined (query_words query) ++ 41 ∷ []
+kind_text (kind.LocalTime begin end) =
+    codes "localtime(" ++ time_text begin ++ 45 ∷ (time_text end ++ 41 ∷ [])
+kind_text (kind.AllowedMatches query) =
+    codes "allowed-matches(" ++ joined (query_words query) ++ 41 ∷ []
 kind_text (kind.RuleApplied past) = codes "rule-applied" ++ past_text past
 kind_text (kind.RuleEvaluated past) = codes "rule-evaluated" ++ past_text past
 kind_text (kind.Random n) = codes "random(" ++ probability_text n ++ 41 ∷ []

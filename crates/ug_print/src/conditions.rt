@@ -46,7 +46,10 @@ fn put_time(out: &mut Vec<u8>, seconds: u32) -> Result<(), NoMemory>
 }
 
 fn put_local_time(out: &mut Vec<u8>, begin: u32, end: u32) -> Result<(), NoMemory>
-    ensures { OnOk result (out.new.items ≡ out.old.items ++ (codes "localtime(" ++ time_text begin ++ 45 ∷ (time_text end ++ 41 ∷ []))) }
+    ensures { OnOk result
+        (out.new.items
+        ≡ out.old.items
+        ++ (codes "localtime(" ++ time_text begin ++ 45 ∷ (time_text end ++ 41 ∷ []))) }
 {
     put(out, b"localtime(")?;
     put_time(out, begin)?;
@@ -65,7 +68,8 @@ fn print_query(alloc: Global, query: &Query) -> Result<Text, NoMemory>
 }
 
 fn put_with_argument(out: &mut Vec<u8>, word: &[u8], argument: &[u8]) -> Result<(), NoMemory>
-    ensures { OnOk result (out.new.items ≡ out.old.items ++ (word.now ++ 40 ∷ (argument.now ++ 41 ∷ []))) }
+    ensures { OnOk result
+        (out.new.items ≡ out.old.items ++ (word.now ++ 40 ∷ (argument.now ++ 41 ∷ []))) }
 {
     put(out, word)?;
     put(out, b"(")?;
@@ -74,7 +78,10 @@ fn put_with_argument(out: &mut Vec<u8>, word: &[u8], argument: &[u8]) -> Result<
 }
 
 fn put_allowed_matches(alloc: Global, out: &mut Vec<u8>, query: &Query) -> Result<(), NoMemory>
-    ensures text { OnOk result (out.new.items ≡ out.old.items ++ (codes "allowed-matches(" ++ joined (query_words query.now) ++ 41 ∷ [])) }
+    ensures text { OnOk result
+        (out.new.items
+        ≡ out.old.items
+        ++ (codes "allowed-matches(" ++ joined (query_words query.now) ++ 41 ∷ [])) }
     ensures bytes { OnOk result (QueryOfBytes query.now) }
 {
     let text = print_query(alloc, query)?;
@@ -126,7 +133,8 @@ fn put_probability(out: &mut Vec<u8>, n: u32) -> Result<(), NoMemory>
 }
 
 fn put_random(out: &mut Vec<u8>, n: u32) -> Result<(), NoMemory>
-    ensures { OnOk result (out.new.items ≡ out.old.items ++ (codes "random(" ++ probability_text n ++ 41 ∷ [])) }
+    ensures { OnOk result
+        (out.new.items ≡ out.old.items ++ (codes "random(" ++ probability_text n ++ 41 ∷ [])) }
 {
     put(out, b"random(")?;
     put_probability(out, n)?;

@@ -18,7 +18,8 @@ use ug_types::{DeviceRecord, List, NoMemory, NodeName, Target, Text};
 /// its port. It reads as that rule.
 pub fn device_line(alloc: Global, device: &DeviceRecord, verdict: Target) -> Result<Text, NoMemory>
     ensures text { IfOk result (λ text. text ≡ rule_text (generated_of device.now verdict true)) }
-    ensures reads { IfOk result (λ text. rule_read text ≡ Ok (generated_of device.now verdict true)) }
+    ensures reads { IfOk result
+        (λ text. rule_read text ≡ Ok (generated_of device.now verdict true)) }
     ensures one_line { IfOk result (λ text. IsLine text) }
 {
     let rule = generated_rule(alloc, device, verdict, true)?;

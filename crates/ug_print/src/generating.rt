@@ -15,7 +15,8 @@ use ug_types::{
 };
 
 fn one_id(alloc: Global, vendor: u16, product: u16) -> Result<Option<Values<Id>>, NoMemory>
-    ensures values { IfOk result (λ values. values ≡ equals (id_with (Some vendor) (Some product) ∷ [])) }
+    ensures values { IfOk result
+        (λ values. values ≡ equals (id_with (Some vendor) (Some product) ∷ [])) }
     ensures vendor { vendor < 2 ^ 16 }
     ensures product { product < 2 ^ 16 }
 {
@@ -43,7 +44,8 @@ fn one_text(alloc: Global, text: &[u8]) -> Result<Option<Values<Text>>, NoMemory
 }
 
 fn port_if(alloc: Global, port: &[u8], with_port: bool) -> Result<Option<Values<Text>>, NoMemory>
-    ensures values { IfOk result (λ values. values ≡ (if with_port then equals (port.now ∷ []) else None)) }
+    ensures values { IfOk result
+        (λ values. values ≡ (if with_port then equals (port.now ∷ []) else None)) }
     ensures bytes { AreBytes port.now }
 {
     if with_port {

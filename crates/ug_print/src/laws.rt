@@ -19,9 +19,11 @@ use ug_types::{DeviceRecord, Rule, Target};
 /// Of rules that some lines read as, with bytes for their texts: the canonical text has no newline and reads as the rule
 /// again, and no two of them have one text.
 pub fn printed_law()
-    ensures one_line { (rule : Rule) → WellFormed rule → RuleOfBytes rule → IsLine (rule_text rule) }
+    ensures one_line { (rule : Rule) → WellFormed rule → RuleOfBytes rule
+        → IsLine (rule_text rule) }
     ensures read { (rule : Rule) → WellFormed rule → RuleOfBytes rule → Says (rule_text rule) rule }
-    ensures apart { (a b : Rule) → WellFormed a → RuleOfBytes a → WellFormed b → RuleOfBytes b → rule_text a ≡ rule_text b → a ≡ b }
+    ensures apart { (a b : Rule) → WellFormed a → RuleOfBytes a → WellFormed b → RuleOfBytes b
+        → rule_text a ≡ rule_text b → a ≡ b }
 {}
 
 /// Of the same rules: the text of a rule file with them has their canonical texts for its lines, and reads as them.
@@ -52,5 +54,6 @@ pub fn generated_law()
 /// A rule is made of a device just where it is the device's generated rule, with its own target.
 pub fn made_law()
     ensures { (device : DeviceRecord) (with_port : Bool) (rule : Rule)
-        → IsTrue (is_made_of device with_port rule) ↔ (rule ≡ generated_of device rule.target with_port) }
+        → IsTrue (is_made_of device with_port rule) ↔
+        (rule ≡ generated_of device rule.target with_port) }
 {}

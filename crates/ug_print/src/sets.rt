@@ -144,7 +144,8 @@ fn put_interfaces(
     name: &[u8],
     values: &Option<Values<Iface>>,
 ) -> Result<(), NoMemory>
-    ensures { OnOk result (words.new ≡ words.old ++ attribute_words name.now interface_text values.now) }
+    ensures { OnOk result
+        (words.new ≡ words.old ++ attribute_words name.now interface_text values.now) }
 {
     match values {
         None => Ok(()),
@@ -164,7 +165,8 @@ fn put_texts(
     name: &[u8],
     values: &Option<Values<Text>>,
 ) -> Result<(), NoMemory>
-    ensures words { OnOk result (words.new ≡ words.old ++ attribute_words name.now string_text values.now) }
+    ensures words { OnOk result
+        (words.new ≡ words.old ++ attribute_words name.now string_text values.now) }
     ensures bytes { OnOk result (TextsOfBytes values.now) }
 {
     match values {

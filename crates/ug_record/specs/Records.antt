@@ -17,7 +17,8 @@ text_of (b ∷ c ∷ bytes) = b ∷ text_of (c ∷ bytes)
 -- the hash of a device, from its files and what its descriptors say
 abbrev pub hash_under : Attrs → Descr → List ℕ
 hash_under attrs descr =
-    hash_of (text_of attrs.product) descr.vendor descr.product (text_of attrs.serial) attrs.descriptors
+    hash_of (text_of attrs.product) descr.vendor descr.product
+    (text_of attrs.serial) attrs.descriptors
 
 abbrev pub hash_or_empty : Attrs → Result Descr Fault → List ℕ
 hash_or_empty attrs (Ok descr) = hash_under attrs descr
@@ -26,7 +27,8 @@ hash_or_empty attrs (Err fault) = []
 -- empty for no parent, and for one with a file that was too long or whose descriptors are malformed
 unfoldable pub parent_hash_of : Option Attrs → List ℕ
 parent_hash_of None = []
-parent_hash_of (Some attrs) = if attrs.too_long then [] else hash_or_empty attrs (decoded attrs.descriptors)
+parent_hash_of (Some attrs) =
+    if attrs.too_long then [] else hash_or_empty attrs (decoded attrs.descriptors)
 
 abbrev pub record_under : List ℕ → Attrs → Option Attrs → Descr → DeviceRecord
 record_under name attrs parent descr = record {
@@ -48,4 +50,5 @@ judged_under name attrs parent (Err fault) = Malformed fault.kind fault.place
 -- of a device's node name, its files, and the files of its parent if it has one
 unfoldable pub judged_of : List ℕ → Attrs → Option Attrs → Judged
 judged_of name attrs parent =
-    if attrs.too_long then Malformed 8 0 else judged_under name attrs parent (decoded attrs.descriptors)
+    if attrs.too_long then Malformed 8 0
+    else judged_under name attrs parent (decoded attrs.descriptors)

@@ -17,7 +17,8 @@ pub fn record_of(
     attrs: &Attrs,
     parent: Option<&Attrs>,
 ) -> Result<Judged, NoMemory>
-    ensures { IfOk result (λ judged. judged ≡ judged_of name.now attrs.now (option_copied parent.entry)) }
+    ensures { IfOk result
+        (λ judged. judged ≡ judged_of name.now attrs.now (option_copied parent.entry)) }
 {
     if attrs.too_long {
         return Ok(Judged::Malformed { kind: 8, place: 0 });
@@ -39,7 +40,8 @@ fn record_from(
     parent: Option<&Attrs>,
     descr: &Descr,
 ) -> Result<DeviceRecord, NoMemory>
-    ensures { IfOk result (λ made. made ≡ record_under name.now attrs.now (option_copied parent.entry) descr.now) }
+    ensures { IfOk result
+        (λ made. made ≡ record_under name.now attrs.now (option_copied parent.entry) descr.now) }
 {
     let name_text = text_of(alloc, attrs.product.bytes())?;
     let serial = text_of(alloc, attrs.serial.bytes())?;

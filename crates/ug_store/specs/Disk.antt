@@ -32,7 +32,8 @@ pub record Disk : Type 0 where
   -- what a crash might have left within each call so far, in their order
   pub past : List Images
 
--- a crash in a swap leaves what it might have left before, or the new text; any bytes, where that wasn't synced
+-- a crash in a swap leaves what it might have left before, or the new text; any bytes, where that
+-- wasn't synced
 abbrev pub while_swapping : Bool → Images → List ℕ → Images
 while_swapping true left fresh = or_text left fresh
 while_swapping false left fresh = Anything
@@ -96,7 +97,8 @@ pub record DiskCalled (call : DiskCall) (told : DiskTold call) (m n : Disk) : Ty
   pub past : n.past ≡ m.past ++ inside call m ∷ []
 
 -- a disk was told before the call too, and the call went from it to this one
-pub record FollowsOnDisk (call : DiskCall) (told : DiskTold call) (was : Option Disk) (n : Disk) : Type 0 where
+pub record FollowsOnDisk (call : DiskCall) (told : DiskTold call) (was : Option Disk)
+    (n : Disk) : Type 0 where
   pub disk : Disk
   pub was_told : was ≡ Some disk
   pub called : DiskCalled call told disk n

@@ -1,4 +1,5 @@
--- What the rule file holds after any list of savings and readings, and what a crash leaves of it then.
+-- What the rule file holds after any list of savings and readings, and what a crash leaves of it
+-- then.
 use Rattle.std.specs.Prelude.{◌≡◌, ℕ, List, [], ◌∷◌, ◌++◌, Result, Ok, ◌⊎◌}
 use Rattle.ug_types.specs.Elements.{Has}
 use Rattle.ug_store.specs.DiskCalls.{DiskCall, DiskTold}
@@ -16,8 +17,10 @@ pub data StoreStep : Type 0 where
 -- these steps lead from one disk to the other
 abbrev pub StoreSteps : Disk → List StoreStep → Disk → Type 0
 StoreSteps m [] n = n ≡ m
-StoreSteps m (Saves_text text answer ∷ steps) n = (u : Disk) × HasSaved text m answer u × StoreSteps u steps n
-StoreSteps m (Reads_text answer ∷ steps) n = (u : Disk) × HasRecovered m answer u × StoreSteps u steps n
+StoreSteps m (Saves_text text answer ∷ steps) n =
+    (u : Disk) × HasSaved text m answer u × StoreSteps u steps n
+StoreSteps m (Reads_text answer ∷ steps) n =
+    (u : Disk) × HasRecovered m answer u × StoreSteps u steps n
 
 abbrev pub IsDoneSaving : StoreStep → Type 0
 IsDoneSaving (Saves_text text saved.Done) = Unit {0}
@@ -54,18 +57,26 @@ HoldsOnly first m = (m.text ≡ first) × (m.left ≡ Texts (first ∷ []))
 
 -- after the steps, the rule file and each text that a crash leaves may stand
 abbrev pub StandsAfter : Type 0
-StandsAfter = (first : List ℕ) (m : Disk) (steps : List StoreStep) (n : Disk) → HoldsOnly first m → StoreSteps m steps n
+StandsAfter =
+    (first : List ℕ) (m : Disk) (steps : List StoreStep) (n : Disk) → HoldsOnly first m
+    → StoreSteps m steps n
     → MayStand first steps n.text × ((c : List ℕ) → IsImage n.left c → MayStand first steps c)
 
--- within each save that follows them, each text that a crash leaves may stand, or is the one that is being saved
+-- within each save that follows them, each text that a crash leaves may stand, or is the one that
+-- is being saved
 abbrev pub StandsWithin : Type 0
-StandsWithin = (first : List ℕ) (m : Disk) (steps : List StoreStep) (u : Disk) → HoldsOnly first m → StoreSteps m steps u
-    → (text : List ℕ) (answer : Saved) (n : Disk) (save : HasSaved text u answer n) (images : Images) → Has save.since images
+StandsWithin =
+    (first : List ℕ) (m : Disk) (steps : List StoreStep) (u : Disk) → HoldsOnly first m
+    → StoreSteps m steps u
+    → (text : List ℕ) (answer : Saved) (n : Disk) (save : HasSaved text u answer n)
+    (images : Images) → Has save.since images
     → (c : List ℕ) → IsImage images c → MayStand first steps c ⊎ (c ≡ text)
 
 -- a reading that follows them gives a text that may stand
 abbrev pub ReadsStanding : Type 0
-ReadsStanding = (first : List ℕ) (m : Disk) (steps : List StoreStep) (u : Disk) → HoldsOnly first m → StoreSteps m steps u
+ReadsStanding =
+    (first : List ℕ) (m : Disk) (steps : List StoreStep) (u : Disk) → HoldsOnly first m
+    → StoreSteps m steps u
     → (text : List ℕ) (n : Disk) → HasRecovered u (Ok text) n → MayStand first steps text
 
 -- what a crash leaves before a call or after it, it may leave within the call too
@@ -78,7 +89,8 @@ abbrev pub StaysPossible : Type 0
 StaysPossible = (call : DiskCall) (told : DiskTold call) (m n : Disk) → DiskCalled call told m n
     → IsImage m.left m.text → IsImage n.left n.text
 
--- the rule file that a call leaves, whether it was done or failed, is one that a stop within the call may leave
+-- the rule file that a call leaves, whether it was done or failed, is one that a stop within the
+-- call may leave
 abbrev pub LeavesInside : Type 0
 LeavesInside = (call : DiskCall) (told : DiskTold call) (m n : Disk) → DiskCalled call told m n
     → IsImage m.left m.text → IsImage (inside call m) n.text

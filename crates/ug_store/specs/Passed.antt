@@ -12,7 +12,8 @@ left_within (passed.Swap fresh synced done) left = while_swapping synced left fr
 -- after the call
 abbrev pub left_after : Passed → Images → Images
 left_after passed.Quiet left = left
-left_after (passed.Swap fresh synced done) left = cond done (Texts (fresh ∷ [])) (while_swapping synced left fresh)
+left_after (passed.Swap fresh synced done) left =
+    cond done (Texts (fresh ∷ [])) (while_swapping synced left fresh)
 
 -- a swap that was done: what a crash leaves after it doesn't depend on what it left before
 abbrev pub settles : Passed → Bool

@@ -12,7 +12,8 @@ use Rattle.ug_store.specs.declared.mishap.Mishap.TheVariants as mishap
 use Rattle.ug_store.specs.declared.mishap.Planned.{Planned}
 use Rattle.ug_store.specs.declared.mem_disk.Passed.{Passed}
 
--- which calls are to fail, how many calls the event has had, and whether an entry of the calls found no memory
+-- which calls are to fail, how many calls the event has had, and whether an entry of the calls
+-- found no memory
 pub record DiskWorld : Type 0 where
   pub disk : Disk
   pub planned : List Planned
@@ -23,10 +24,19 @@ pub record DiskWorld : Type 0 where
 
 -- at first a crash leaves the text
 abbrev pub disk_at_first : List ℕ → Disk
-disk_at_first text = record { text = text; fresh = []; synced = false; left = Texts (text ∷ []); past = [] }
+disk_at_first text =
+    record { text = text; fresh = []; synced = false; left = Texts (text ∷ []); past = [] }
 
 abbrev pub world_at_first : List ℕ → DiskWorld
-world_at_first text = record { disk = disk_at_first text; planned = []; stopped = false; calls = 0; faults = 0; ran_out = false }
+world_at_first text =
+    record {
+      disk = disk_at_first text;
+      planned = [];
+      stopped = false;
+      calls = 0;
+      faults = 0;
+      ran_out = false;
+    }
 
 -- one more, up to the greatest number of 64 bits
 abbrev pub one_up : ℕ → ℕ
@@ -161,7 +171,8 @@ answering_on call reply w = (told_with call reply w, w)
 abbrev pub disk_answer : DiskWorld → (call : DiskCall) → DiskTold call × DiskWorld
 disk_answer w call = cond w.ran_out
     (answering_on call (failed_reply call) (refused_on call w))
-    (answering_on call (reply_by call (fate_at call (with_number call w)) w.disk) (world_after call (with_number call w)))
+    (answering_on call (reply_by call (fate_at call (with_number call w)) w.disk)
+    (world_after call (with_number call w)))
 
 abbrev pub WantsMemory : (call : DiskCall) → DiskReply call → Type 0
 WantsMemory Load a = a ≡ loaded.Memory
@@ -170,21 +181,24 @@ WantsMemory Sync_new a = ⊥
 WantsMemory Swap a = ⊥
 
 -- memory for a text was refused: the call does nothing, but it is numbered
-pub record Unserved (s : DiskWorld) (call : DiskCall) (a : DiskTold call) (t : DiskWorld) : Type 0 where
+pub record Unserved (s : DiskWorld) (call : DiskCall) (a : DiskTold call)
+    (t : DiskWorld) : Type 0 where
   pub ran : s.ran_out ≡ false
   pub after : t ≡ record (with_number call s) { disk = past_within call s.disk }
   pub memory : WantsMemory call a.answer
   pub count : a.count ≡ t.faults
 
 -- memory for an entry was refused: the call fails, and no disk is told from then on
-pub record RunsOutAt (s : DiskWorld) (call : DiskCall) (a : DiskTold call) (t : DiskWorld) : Type 0 where
+pub record RunsOutAt (s : DiskWorld) (call : DiskCall) (a : DiskTold call)
+    (t : DiskWorld) : Type 0 where
   pub after : t ≡ refused_on call s
   pub answer : a ≡ told_with call (failed_reply call) t
 
 -- the script's answer; or want of memory
 abbrev pub MemKeeps : DiskWorld → (call : DiskCall) → DiskTold call → DiskWorld → Type 0
 MemKeeps s call a t =
-    ((a ≡ (disk_answer s call).0) × (t ≡ (disk_answer s call).1)) ⊎ (Unserved s call a t ⊎ RunsOutAt s call a t)
+    ((a ≡ (disk_answer s call).0) × (t ≡ (disk_answer s call).1))
+    ⊎ (Unserved s call a t ⊎ RunsOutAt s call a t)
 
 -- an event begins: its calls are numbered from 1
 abbrev pub begun_on : DiskWorld → DiskWorld
@@ -194,7 +208,8 @@ begun_on w = record w { calls = 0; stopped = false }
 abbrev pub IsUnplanned : DiskWorld → Type 0
 IsUnplanned w = (w.planned ≡ []) × (w.stopped ≡ false)
 
--- The machine comes up again: the rule file is as it was left, a further stop leaves no other, and the new file is gone.
+-- The machine comes up again: the rule file is as it was left, a further stop leaves no other, and
+-- the new file is gone.
 abbrev pub coming_up : DiskWorld → DiskWorld
 coming_up w = record w { disk = disk_at_first w.disk.text; stopped = false }
 
@@ -212,5 +227,9 @@ disk_told w = cond w.ran_out None (Some w.disk)
 -- the entry of a call that has begun, unless it has run out or now does
 abbrev pub IsNoted : DiskWorld → Passed → Bool → DiskWorld → Type 0
 IsNoted w p true u =
-    (w.ran_out ≡ false) × (u ≡ record w { disk = record w.disk { left = left_after p w.disk.left; past = w.disk.past ++ left_within p w.disk.left ∷ [] } })
+    (w.ran_out ≡ false)
+    × (u ≡ record w {
+      disk = record w.disk
+          { left = left_after p w.disk.left; past = w.disk.past ++ left_within p w.disk.left ∷ [] };
+    })
 IsNoted w p false u = u ≡ record w { faults = one_up w.faults; ran_out = true }

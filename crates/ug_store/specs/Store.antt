@@ -1,4 +1,5 @@
--- The saving of a text and its reading at a start, and what a crash may leave at any moment of them.
+-- The saving of a text and its reading at a start, and what a crash may leave at any moment of
+-- them.
 use Rattle.std.specs.Prelude.{◌≡◌, ℕ, ◌<◌, ◌≤◌, Bool, true, false, List, [], ◌∷◌, ◌++◌, length, Option, Some, Result, Ok, Err, ◌⊎◌}
 use Rattle.ug_types.specs.Elements.{Has}
 use Rattle.ug_types.specs.Ends.{Rose}
@@ -19,10 +20,13 @@ pub data DiskProg (R : Type 0) : Type 0 where
   AskDisk : (call : DiskCall) → (next : DiskTold call → DiskProg R) → DiskProg R
   DiskRoom : (next : Bool → DiskProg R) → DiskProg R
 
--- a run of the tree from one state to another, where keeps says what a call may be answered and what it leaves
-abbrev pub RunsDisk : {S R : Type 0} → (S → (call : DiskCall) → DiskTold call → S → Type 0) → S → DiskProg R → R → S → Type 0
+-- a run of the tree from one state to another, where keeps says what a call may be answered and
+-- what it leaves
+abbrev pub RunsDisk : {S R : Type 0} → (S → (call : DiskCall) → DiskTold call → S → Type 0) → S
+    → DiskProg R → R → S → Type 0
 RunsDisk keeps s (Ended value) r t = (r ≡ value) × (t ≡ s)
-RunsDisk {S} keeps s (AskDisk call next) r t = (a : DiskTold call) × (u : S) × keeps s call a u × RunsDisk keeps u (next a) r t
+RunsDisk {S} keeps s (AskDisk call next) r t =
+    (a : DiskTold call) × (u : S) × keeps s call a u × RunsDisk keeps u (next a) r t
 RunsDisk keeps s (DiskRoom next) r t = (b : Bool) × RunsDisk keeps s (next b) r t
 
 -- one tree, and then another that its result picks
@@ -65,14 +69,16 @@ recovering = AskDisk Load (λ t. after_load t.answer t.count)
 abbrev pub IsOldOr : Images → List ℕ → Images → Type 0
 IsOldOr before text after = (c : List ℕ) → IsImage after c → IsImage before c ⊎ (c ≡ text)
 
--- a crash that comes now leaves the saved text alone; what it left before, or that text; or what it left before
+-- a crash that comes now leaves the saved text alone; what it left before, or that text; or what it
+-- left before
 abbrev pub SavedAs : Saved → List ℕ → Disk → Disk → Type 0
 SavedAs saved.Done text m n = (n.text ≡ text) × (n.left ≡ Texts (text ∷ []))
-SavedAs (saved.Failed count) text m n = ((n.text ≡ m.text) ⊎ (n.text ≡ text)) × IsOldOr m.left text n.left
+SavedAs (saved.Failed count) text m n =
+    ((n.text ≡ m.text) ⊎ (n.text ≡ text)) × IsOldOr m.left text n.left
 SavedAs saved.Memory text m n = IsAsItWas m n
 
--- Within each call since, a crash leaves what it might have left before, or the text. Where memory was refused for the new file, it leaves
--- just what it might have left before.
+-- Within each call since, a crash leaves what it might have left before, or the text. Where memory
+-- was refused for the new file, it leaves just what it might have left before.
 pub record HasSaved (text : List ℕ) (m : Disk) (r : Saved) (n : Disk) : Type 0 where
   pub since : List Images
   pub past : n.past ≡ m.past ++ since
@@ -82,7 +88,8 @@ pub record HasSaved (text : List ℕ) (m : Disk) (r : Saved) (n : Disk) : Type 0
 
 -- where a disk is told at the end, one was told at the start
 abbrev pub Saves : {S : Type 0} → (S → Option Disk) → List ℕ → S → Saved → S → Type 0
-Saves told text s r t = (n : Disk) → told t ≡ Some n → (m : Disk) × (told s ≡ Some m) × HasSaved text m r n
+Saves told text s r t =
+    (n : Disk) → told t ≡ Some n → (m : Disk) × (told s ≡ Some m) × HasSaved text m r n
 
 -- the count that a failed save tells is the disk's, and it rose
 abbrev pub TellsSaveFault : Saved → ℕ → ℕ → Type 0
@@ -110,8 +117,10 @@ pub record HasRecovered (m : Disk) (r : Result (List ℕ) RecoverFault) (n : Dis
   pub past : n.past ≡ m.past ++ m.left ∷ []
 
 -- where a disk is told at the end, one was told at the start
-abbrev pub Recovers : {S : Type 0} → (S → Option Disk) → S → Result (List ℕ) RecoverFault → S → Type 0
-Recovers told s r t = (n : Disk) → told t ≡ Some n → (m : Disk) × (told s ≡ Some m) × HasRecovered m r n
+abbrev pub Recovers : {S : Type 0} → (S → Option Disk) → S → Result (List ℕ) RecoverFault → S
+    → Type 0
+Recovers told s r t =
+    (n : Disk) → told t ≡ Some n → (m : Disk) × (told s ≡ Some m) × HasRecovered m r n
 
 -- the count that a failed reading tells is the disk's, and it rose
 abbrev pub TellsRecoverFault : Result (List ℕ) RecoverFault → ℕ → ℕ → Type 0

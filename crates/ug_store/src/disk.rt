@@ -51,21 +51,25 @@ pub trait RuleDisk {
 
     /// The rule file's text.
     fn load(&mut self, alloc: Global) -> Loaded
-        ensures keeps { keeps self.old Load (record { answer = result; count = faults self.new }) self.new }
+        ensures keeps { keeps self.old Load
+            (record { answer = result; count = faults self.new }) self.new }
         ensures fits { FitsFile result };
 
     /// Writes a text into the new file.
     fn write_new(&mut self, alloc: Global, text: &[u8]) -> DiskAnswer
-        ensures { keeps self.old (Write_new text.now) (record { answer = result; count = faults self.new }) self.new };
+        ensures { keeps self.old (Write_new text.now)
+            (record { answer = result; count = faults self.new }) self.new };
 
     /// Makes the new file's text durable.
     fn sync_new(&mut self) -> DiskAnswer
-        ensures keeps { keeps self.old Sync_new (record { answer = result; count = faults self.new }) self.new }
+        ensures keeps { keeps self.old Sync_new
+            (record { answer = result; count = faults self.new }) self.new }
         ensures memory { NeedsNoMemory result };
 
     /// Puts the new file in the rule file's place.
     fn swap(&mut self) -> DiskAnswer
-        ensures keeps { keeps self.old Swap (record { answer = result; count = faults self.new }) self.new }
+        ensures keeps { keeps self.old Swap
+            (record { answer = result; count = faults self.new }) self.new }
         ensures memory { NeedsNoMemory result };
 
     /// How many calls have failed.

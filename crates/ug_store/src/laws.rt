@@ -26,7 +26,8 @@ pub fn moment_law()
 /// A call of a disk in memory fails where it is planned to. The last plan for it counts.
 pub fn mishap_law()
     ensures none { (n : ℕ) → plan_at n None [] ≡ None }
-    ensures last { (n : ℕ) (ps : List Planned) (p : Planned) → p.call ≡ n → plan_at n None (ps ++ p ∷ []) ≡ Some p }
+    ensures last { (n : ℕ) (ps : List Planned) (p : Planned) → p.call ≡ n
+        → plan_at n None (ps ++ p ∷ []) ≡ Some p }
     ensures other { (n : ℕ) (ps : List Planned) (p : Planned) → ¬ (p.call ≡ n)
         → plan_at n None (ps ++ p ∷ []) ≡ plan_at n None ps }
 {}

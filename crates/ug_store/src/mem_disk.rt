@@ -117,7 +117,8 @@ impl MemDisk {
 
     /// A call of the event that is to fail. The last plan for a call counts.
     pub fn plan(&mut self, planned: Planned) -> Result<(), NoMemory>
-        ensures ok { OnOk result (self.new ≡ record self.old { planned = self.old.planned ++ planned ∷ [] }) }
+        ensures ok { OnOk result
+            (self.new ≡ record self.old { planned = self.old.planned ++ planned ∷ [] }) }
         ensures err { OnErr result (self.new ≡ self.old) }
     {
         self.planned.push(planned)?;
@@ -231,14 +232,18 @@ impl MemDisk {
 
     // How the call is to fail, if it is.
     fn fate(&self, swaps: bool) -> Option<Mishap>
-        ensures { result ≡ fate_by self.now.stopped swaps (plan_at self.now.calls None self.now.planned) }
+        ensures { result ≡ fate_by self.now.stopped swaps
+            (plan_at self.now.calls None self.now.planned) }
     {
         fate_by(self.stopped, swaps, plan_at(&self.planned, self.calls))
     }
 
     // The machine may stop in this call.
     fn stop_here(&mut self)
-        ensures { self.new ≡ record self.old { stopped = self.old.stopped || stops_by (plan_at self.old.calls None self.old.planned) } }
+        ensures { self.new ≡ record self.old {
+          stopped = self.old.stopped
+              || stops_by (plan_at self.old.calls None self.old.planned);
+        } }
     {
         self.stopped = self.stopped || stops_by(plan_at(&self.planned, self.calls));
     }
@@ -258,7 +263,8 @@ impl MemDisk {
 
     // The new file gets its text, where the call has its effect.
     fn put(&mut self, fate: Option<Mishap>, text: Text)
-        ensures { self.new ≡ record self.old { disk = written_if (takes_effect fate) text self.old.disk } }
+        ensures { self.new ≡ record self.old
+            { disk = written_if (takes_effect fate) text self.old.disk } }
     {
         if takes_effect(fate) {
             self.fresh = text;
@@ -268,7 +274,8 @@ impl MemDisk {
 
     // The new file takes the rule file's place, where the call has its effect.
     fn trade(&mut self, fate: Option<Mishap>)
-        ensures { self.new ≡ record self.old { disk = traded_if (takes_effect fate) self.old.disk } }
+        ensures { self.new ≡ record self.old
+            { disk = traded_if (takes_effect fate) self.old.disk } }
     {
         if takes_effect(fate) {
             self.text = mem::replace(&mut self.fresh, Text::new(self.alloc));

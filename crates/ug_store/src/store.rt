@@ -39,11 +39,13 @@ impl Store {
         alloc: Global,
         disk: &mut D,
     ) -> Result<(Store, Vec<u8>), RecoverFault>
-        ensures runs { RunsDisk D.keeps disk.old recovering (seen_by (λ r. r.1.items) result) disk.new }
+        ensures runs { RunsDisk D.keeps disk.old recovering
+            (seen_by (λ r. r.1.items) result) disk.new }
         ensures law { Recovers D.told disk.old (seen_by (λ r. r.1.items) result) disk.new }
         ensures fits { IfOk result (λ r. length r.1.items ≤ file_limit) }
         ensures pending { IfOk result (λ r. r.0 ≡ false) }
-        ensures fault { TellsRecoverFault (seen_by (λ r. r.1.items) result) (D.faults disk.old) (D.faults disk.new) }
+        ensures fault { TellsRecoverFault (seen_by (λ r. r.1.items) result) (D.faults disk.old)
+            (D.faults disk.new) }
     {
         match read_soundly(alloc, disk) {
             Ok(text) => Ok((Store { pending: false }, text.into_vec())),

@@ -19,17 +19,20 @@ pub record CanBeBorn (d : NewDevice) (ds : List Device) : Type 0 where
   pub free : (i : ℕ) (e : Device) → Live ds i e → e.name ≡ d.name → ⊥
   pub parent : (o : Option ℕ) × IsParent o d.name ds
 
--- it is the newest device, is live, and has its parent's identity; it starts as its controller's default says
+-- it is the newest device, is live, and has its parent's identity; it starts as its controller's
+-- default says
 pub record IsBorn (d : NewDevice) (ds es : List Device) : Type 0 where
   pub parent : Option ℕ
   pub who : IsParent parent d.name ds
   pub newest : es ≡ ds ++ born_as d parent ds ∷ []
 
-some_parent : (name : List ℕ) (ds : List Device) (p : List ℕ) → parent_of name ≡ Some p → (o : Option ℕ) → IsParent o name ds → (i : ℕ) × (e : Device) × Live ds i e × (e.name ≡ p)
+some_parent : (name : List ℕ) (ds : List Device) (p : List ℕ) → parent_of name ≡ Some p
+    → (o : Option ℕ) → IsParent o name ds → (i : ℕ) × (e : Device) × Live ds i e × (e.name ≡ p)
 some_parent name ds p h None is = absurd (none-some p (sym is ∙ h))
 some_parent name ds p h (Some i) is = (i, is.0, is.1, same_Some is.0.name p (sym is.2 ∙ h))
 
-born_placed : (d : NewDevice) (ds : List Device) (o : Option (List ℕ)) → parent_of d.name ≡ o → CanBeBorn d ds → IsBorn d ds (placed d o ds)
+born_placed : (d : NewDevice) (ds : List Device) (o : Option (List ℕ)) → parent_of d.name ≡ o
+    → CanBeBorn d ds → IsBorn d ds (placed d o ds)
 born_placed d ds None h can = record { parent = None; who = h; newest = refl }
 born_placed d ds (Some p) h can = under (find p 0 ds) refl
   where
@@ -39,7 +42,11 @@ born_placed d ds (Some p) h can = under (find p 0 ds) refl
         absurd (find_none p 0 ds none up.0 up.1 up.2 up.3)
     under (Some i) some =
         let f = find_some p i ds some in
-        record { parent = Some i; who = (f.device, f.live, h ∙ ap Some (sym f.named)); newest = refl }
+        record {
+          parent = Some i;
+          who = (f.device, f.live, h ∙ ap Some (sym f.named));
+          newest = refl;
+        }
 
 pub plugged_born : (d : NewDevice) (ds : List Device) → CanBeBorn d ds → IsBorn d ds (plugged d ds)
 plugged_born d ds can = rw (lt-ltb (live_count ds) 65536 can.few) (at (find d.name 0 ds) refl)
@@ -51,20 +58,30 @@ plugged_born d ds can = rw (lt-ltb (live_count ds) 65536 can.few) (at (find d.na
 pub plugged_not : (d : NewDevice) (ds : List Device) → (CanBeBorn d ds → ⊥) → plugged d ds ≡ ds
 plugged_not d ds cannot = roomy (nat_lt (live_count ds) 65536) refl
   where
-    under : live_count ds < 65536 → find d.name 0 ds ≡ None → (p : List ℕ) → parent_of d.name ≡ Some p → (o : Option ℕ) → find p 0 ds ≡ o → born_under d o ds ≡ ds
+    under : live_count ds < 65536 → find d.name 0 ds ≡ None → (p : List ℕ)
+        → parent_of d.name ≡ Some p → (o : Option ℕ) → find p 0 ds ≡ o → born_under d o ds ≡ ds
     under few free p h None none = refl
     under few free p h (Some i) some =
         let f = find_some p i ds some in
-        absurd (cannot (record { few = few; free = find_none d.name 0 ds free; parent = (Some i, (f.device, f.live, h ∙ ap Some (sym f.named))) }))
+        absurd (cannot
+        (record {
+          few = few;
+          free = find_none d.name 0 ds free;
+          parent = (Some i, (f.device, f.live, h ∙ ap Some (sym f.named)));
+        }))
 
-    place : live_count ds < 65536 → find d.name 0 ds ≡ None → (o : Option (List ℕ)) → parent_of d.name ≡ o → placed d o ds ≡ ds
-    place few free None h = absurd (cannot (record { few = few; free = find_none d.name 0 ds free; parent = (None, h) }))
+    place : live_count ds < 65536 → find d.name 0 ds ≡ None → (o : Option (List ℕ))
+        → parent_of d.name ≡ o → placed d o ds ≡ ds
+    place few free None h =
+        absurd (cannot
+        (record { few = few; free = find_none d.name 0 ds free; parent = (None, h) }))
     place few free (Some p) h = under few free p h (find p 0 ds) refl
 
     at : live_count ds < 65536 → (o : Option ℕ) → find d.name 0 ds ≡ o → plug_at o d ds ≡ ds
     at few None h = place few h (parent_of d.name) refl
     at few (Some i) h = refl
 
-    roomy : (b : Bool) → nat_lt (live_count ds) 65536 ≡ b → cond b (plug_at (find d.name 0 ds) d ds) ds ≡ ds
+    roomy : (b : Bool) → nat_lt (live_count ds) 65536 ≡ b
+        → cond b (plug_at (find d.name 0 ds) d ds) ds ≡ ds
     roomy true h = at (ltb-true (live_count ds) 65536 h) (find d.name 0 ds) refl
     roomy false h = refl

@@ -23,12 +23,32 @@ more_within n =
 more_rises : (n : ℕ) → n < 2 ^ 64 - 1 → n < one_more n
 more_rises n lt = rw (lt-ltb n (2 ^ 64 - 1) lt) (omega arith)
 
-counted_by : {X : Type 0} (failed : X → Bool) (x : X) (c f d g : ℕ) → d ≡ raised c → g ≡ cond (failed x) (one_more f) f → Counted failed (record { answer = x; number = d; count = g }) c f d g
+counted_by : {X : Type 0} (failed : X → Bool) (x : X) (c f d g : ℕ) → d ≡ raised c
+    → g ≡ cond (failed x) (one_more f) f
+    → Counted failed (record { answer = x; number = d; count = g }) c f d g
 counted_by failed x c f d g call fault = pick (failed x) refl fault
   where
-    pick : (b : Bool) → failed x ≡ b → g ≡ cond b (one_more f) f → Counted failed (record { answer = x; number = d; count = g }) c f d g
-    pick true e h = record { number = refl; count = refl; call = call; never_falls = omega (arith, h, (more_within f).0); by_one = omega (arith, h, (more_within f).1); rises = λ _ lt. omega (arith, h, more_rises f lt) }
-    pick false e h = record { number = refl; count = refl; call = call; never_falls = omega arith; by_one = omega arith; rises = λ yes lt. absurd (both_ways (failed x) e yes) }
+    pick : (b : Bool) → failed x ≡ b → g ≡ cond b (one_more f) f
+        → Counted failed (record { answer = x; number = d; count = g }) c f d g
+    pick true e h =
+        record {
+          number = refl;
+          count = refl;
+          call = call;
+          never_falls = omega (arith, h, (more_within f).0);
+          by_one =
+              omega (arith, h, (more_within f).1);
+          rises = λ _ lt. omega (arith, h, more_rises f lt);
+        }
+    pick false e h =
+        record {
+          number = refl;
+          count = refl;
+          call = call;
+          never_falls = omega arith;
+          by_one = omega arith;
+          rises = λ yes lt. absurd (both_ways (failed x) e yes);
+        }
 
 -- what a call tells of the counts
 record Fair (s : World) (c : Call) (a : Answer c) (t : World) : Type 0 where
@@ -39,7 +59,9 @@ record Fair (s : World) (c : Call) (a : Answer c) (t : World) : Type 0 where
 
 within_true : (limit : ℕ) (bytes : List ℕ) → failed_read (within limit bytes) ≡ false
 within_true limit bytes =
-    elim (nat_le (length bytes) limit) as (λ b. failed_read (if b then out.Bytes bytes else out.TooLong) ≡ false) [ true ↦ refl | false ↦ refl ]
+    elim (nat_le (length bytes) limit) as
+    (λ b. failed_read (if b then out.Bytes bytes else out.TooLong) ≡ false)
+    [ true ↦ refl | false ↦ refl ]
 
 text_true : (o : Option (List ℕ)) → failed_read (text_within o) ≡ false
 text_true None = refl
@@ -100,11 +122,13 @@ memory_true (Ask_alive held) r m = absurd m
 memory_true (Put held write) r m = absurd m
 memory_true (Close held) r m = absurd m
 
-effect_faults : (f : Option Bool) (c : Call) (k : Kernel) (n : ℕ) → IsListed c → faults_after f n ≡ cond (is_failure c (effect f c k).0) (one_more n) n
+effect_faults : (f : Option Bool) (c : Call) (k : Kernel) (n : ℕ) → IsListed c
+    → faults_after f n ≡ cond (is_failure c (effect f c k).0) (one_more n) n
 effect_faults None c k n l = rw (act_true c k) refl
 effect_faults (Some b) c k n l = rw (failure_true c l) refl
 
-fair_from : (s : World) (c : Call) → IsListed c → Fair s c (answer_from (entered s) c).0 (answer_from (entered s) c).1
+fair_from : (s : World) (c : Call) → IsListed c
+    → Fair s c (answer_from (entered s) c).0 (answer_from (entered s) c).1
 fair_from s c l = record {
   reply = (effect (fate_of (entered s)) c (entered s).kernel).0;
   answer = refl;
@@ -113,9 +137,11 @@ fair_from s c l = record {
 }
 
 fair_refused : (s : World) (c : Call) → IsListed c → Fair s c (refusing s c).0 (refusing s c).1
-fair_refused s c l = record { reply = failure c; answer = refl; call = refl; fault = rw (failure_true c l) refl }
+fair_refused s c l =
+    record { reply = failure c; answer = refl; call = refl; fault = rw (failure_true c l) refl }
 
-fair_script : (out : Bool) (s : World) (c : Call) → IsListed c → Fair s c (answer_unless out s c).0 (answer_unless out s c).1
+fair_script : (out : Bool) (s : World) (c : Call) → IsListed c
+    → Fair s c (answer_unless out s c).0 (answer_unless out s c).1
 fair_script out s (Close held) l = absurd l
 fair_script true s Names l = fair_refused s Names l
 fair_script true s (Open name control) l = fair_refused s (Open name control) l
@@ -130,7 +156,8 @@ fair_script false s (Put held write) l = fair_from s (Put held write) l
 
 fair : (s : World) (c : Call) (a : Answer c) (t : World) → IsListed c → Gives s c a t → Fair s c a t
 fair s c a t l g = elim g [
-  | inl x ↦ subst (λ (b : Answer c). Fair s c b t) (sym x.0) (subst (λ (u : World). Fair s c (answer_of s c).0 u) (sym x.1) (fair_script s.ran_out s c l))
+  | inl x ↦ subst (λ (b : Answer c). Fair s c b t) (sym x.0)
+      (subst (λ (u : World). Fair s c (answer_of s c).0 u) (sym x.1) (fair_script s.ran_out s c l))
   | inr y ↦ elim y [
     | inl z ↦ record {
       reply = z.reply;
@@ -138,19 +165,31 @@ fair s c a t l g = elim g [
       call = ap (λ (w : World). w.calls) z.after;
       fault = rw (memory_true c z.reply z.memory) (ap (λ (w : World). w.faults) z.after);
     }
-    | inr z ↦ record { reply = failure c; answer = z.answer; call = z.call_counted; fault = rw (failure_true c z.listed) z.fault_counted }
+    | inr z ↦ record {
+      reply = failure c;
+      answer = z.answer;
+      call = z.call_counted;
+      fault = rw (failure_true c z.listed) z.fault_counted;
+    }
   ]
 ]
 
-counts_from : (s : World) (c : Call) (a : Answer c) (t : World) → IsListed c → Fair s c a t → Counts c a s.calls s.faults t.calls t.faults
-counts_from s Names a t l f = rw f.answer (counted_by failed_listing f.reply s.calls s.faults t.calls t.faults f.call f.fault)
-counts_from s (Open name control) a t l f = rw f.answer (counted_by failed_open f.reply s.calls s.faults t.calls t.faults f.call f.fault)
-counts_from s (Read name attr) a t l f = rw f.answer (counted_by failed_read f.reply s.calls s.faults t.calls t.faults f.call f.fault)
-counts_from s (Ask_alive held) a t l f = rw f.answer (counted_by failed_probe f.reply s.calls s.faults t.calls t.faults f.call f.fault)
-counts_from s (Put held write) a t l f = rw f.answer (counted_by failed_put f.reply s.calls s.faults t.calls t.faults f.call f.fault)
+counts_from : (s : World) (c : Call) (a : Answer c) (t : World) → IsListed c → Fair s c a t
+    → Counts c a s.calls s.faults t.calls t.faults
+counts_from s Names a t l f =
+    rw f.answer (counted_by failed_listing f.reply s.calls s.faults t.calls t.faults f.call f.fault)
+counts_from s (Open name control) a t l f =
+    rw f.answer (counted_by failed_open f.reply s.calls s.faults t.calls t.faults f.call f.fault)
+counts_from s (Read name attr) a t l f =
+    rw f.answer (counted_by failed_read f.reply s.calls s.faults t.calls t.faults f.call f.fault)
+counts_from s (Ask_alive held) a t l f =
+    rw f.answer (counted_by failed_probe f.reply s.calls s.faults t.calls t.faults f.call f.fault)
+counts_from s (Put held write) a t l f =
+    rw f.answer (counted_by failed_put f.reply s.calls s.faults t.calls t.faults f.call f.fault)
 counts_from s (Close held) a t l f = absurd l
 
-closed : (s : World) (held : ℕ) (a : Closing) (t : World) → Gives s (Close held) a t → (t.calls ≡ s.calls) × (t.faults ≡ s.faults)
+closed : (s : World) (held : ℕ) (a : Closing) (t : World) → Gives s (Close held) a t
+    → (t.calls ≡ s.calls) × (t.faults ≡ s.faults)
 closed s held a t g = elim g [
   | inl x ↦ (ap (λ (w : World). w.calls) x.1, ap (λ (w : World). w.faults) x.1)
   | inr y ↦ elim y [
@@ -159,10 +198,15 @@ closed s held a t g = elim g [
   ]
 ]
 
-pub counts_each : (s : World) (c : Call) (a : Answer c) (t : World) → Gives s c a t → Counts c a s.calls s.faults t.calls t.faults
+pub counts_each : (s : World) (c : Call) (a : Answer c) (t : World) → Gives s c a t
+    → Counts c a s.calls s.faults t.calls t.faults
 counts_each s Names a t g = counts_from s Names a t tt (fair s Names a t tt g)
-counts_each s (Open name control) a t g = counts_from s (Open name control) a t tt (fair s (Open name control) a t tt g)
-counts_each s (Read name attr) a t g = counts_from s (Read name attr) a t tt (fair s (Read name attr) a t tt g)
-counts_each s (Ask_alive held) a t g = counts_from s (Ask_alive held) a t tt (fair s (Ask_alive held) a t tt g)
-counts_each s (Put held write) a t g = counts_from s (Put held write) a t tt (fair s (Put held write) a t tt g)
+counts_each s (Open name control) a t g =
+    counts_from s (Open name control) a t tt (fair s (Open name control) a t tt g)
+counts_each s (Read name attr) a t g =
+    counts_from s (Read name attr) a t tt (fair s (Read name attr) a t tt g)
+counts_each s (Ask_alive held) a t g =
+    counts_from s (Ask_alive held) a t tt (fair s (Ask_alive held) a t tt g)
+counts_each s (Put held write) a t g =
+    counts_from s (Put held write) a t tt (fair s (Put held write) a t tt g)
 counts_each s (Close held) a t g = closed s held a t g

@@ -37,7 +37,8 @@ falls (Some p) ds = gone_of (slice_get ds p)
 
 -- the target goes, and each device after it whose parent is gone before it
 abbrev pub felled : ℕ → List Device → Device → Device
-felled target before d = record d { gone = d.gone || (eqb (length before) target || falls d.parent before) }
+felled target before d =
+    record d { gone = d.gone || (eqb (length before) target || falls d.parent before) }
 
 abbrev pub fall : ℕ → List Device → List Device → List Device
 fall target before [] = before
@@ -106,7 +107,9 @@ born_with d parent controller default = record {
 }
 
 abbrev pub born_as : NewDevice → Option ℕ → List Device → Device
-born_as d parent ds = born_with d parent (controller_under parent ds) (controller_default (controller_under parent ds) ds)
+born_as d parent ds =
+    born_with d parent (controller_under parent ds)
+    (controller_default (controller_under parent ds) ds)
 
 abbrev pub born : NewDevice → Option ℕ → List Device → List Device
 born d parent ds = ds ++ born_as d parent ds ∷ []

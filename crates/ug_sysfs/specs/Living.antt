@@ -32,7 +32,8 @@ abbrev pub names_at : List ℕ → List Device → List (List ℕ)
 names_at [] ds = []
 names_at (i ∷ is) ds = with_name (name_at ds i) (names_at is ds)
 
--- the device at place i goes where it is the target or falls with its parent, unless it was born before the target
+-- the device at place i goes where it is the target or falls with its parent, unless it was born
+-- before the target
 abbrev pub stepped_from : ℕ → ℕ → List Device → List Device
 stepped_from target i ds = cond (nat_le target i) (stepped target i ds) ds
 

@@ -19,28 +19,40 @@ entry_told (Put held write) r w = refl
 entry_told (Close held) r w = refl
 
 -- a call that has entered and ends
-noted_by : (s : World) (c : Call) (r : Reply c) (a : Answer c) (t : World) → a ≡ told_as c r t → t.made ≡ s.made ++ listed c r → t.made ≡ s.made ++ entry_of c a
-noted_by s c r a t ea m = m ∙ ap (λ (ms : List CallRecord). s.made ++ ms) (sym (entry_told c r t) ∙ ap (entry_of c) (sym ea))
+noted_by : (s : World) (c : Call) (r : Reply c) (a : Answer c) (t : World) → a ≡ told_as c r t
+    → t.made ≡ s.made ++ listed c r → t.made ≡ s.made ++ entry_of c a
+noted_by s c r a t ea m =
+    m ∙ ap (λ (ms : List CallRecord). s.made ++ ms)
+    (sym (entry_told c r t) ∙ ap (entry_of c) (sym ea))
 
-from_script : (s : World) (c : Call) (a : Answer c) (t : World) → a ≡ (answer_from (entered s) c).0 → t ≡ (answer_from (entered s) c).1 → t.made ≡ s.made ++ entry_of c a
+from_script : (s : World) (c : Call) (a : Answer c) (t : World) → a ≡ (answer_from (entered s) c).0
+    → t ≡ (answer_from (entered s) c).1 → t.made ≡ s.made ++ entry_of c a
 from_script s c a t ea et =
     let r = (effect (fate_of (entered s)) c (entered s).kernel).0 in
     noted_by s c r a t (ea ∙ ap (told_as c r) (sym et)) (ap (λ (x : World). x.made) et)
 
-by_script : (out : Bool) (s : World) (c : Call) (a : Answer c) (t : World) → s.ran_out ≡ out → a ≡ (answer_unless out s c).0 → t ≡ (answer_unless out s c).1 → t.ran_out ≡ false → t.made ≡ s.made ++ entry_of c a
+by_script : (out : Bool) (s : World) (c : Call) (a : Answer c) (t : World) → s.ran_out ≡ out
+    → a ≡ (answer_unless out s c).0 → t ≡ (answer_unless out s c).1 → t.ran_out ≡ false
+    → t.made ≡ s.made ++ entry_of c a
 by_script out s (Close h) a t e ea et run = ap (λ (x : World). x.made) et ∙ sym (append-nil s.made)
-by_script true s Names a t e ea et run = absurd (both_ways t.ran_out run (ap (λ (x : World). x.ran_out) et ∙ e))
-by_script true s (Open name control) a t e ea et run = absurd (both_ways t.ran_out run (ap (λ (x : World). x.ran_out) et ∙ e))
-by_script true s (Read name at) a t e ea et run = absurd (both_ways t.ran_out run (ap (λ (x : World). x.ran_out) et ∙ e))
-by_script true s (Ask_alive h) a t e ea et run = absurd (both_ways t.ran_out run (ap (λ (x : World). x.ran_out) et ∙ e))
-by_script true s (Put h write) a t e ea et run = absurd (both_ways t.ran_out run (ap (λ (x : World). x.ran_out) et ∙ e))
+by_script true s Names a t e ea et run =
+    absurd (both_ways t.ran_out run (ap (λ (x : World). x.ran_out) et ∙ e))
+by_script true s (Open name control) a t e ea et run =
+    absurd (both_ways t.ran_out run (ap (λ (x : World). x.ran_out) et ∙ e))
+by_script true s (Read name at) a t e ea et run =
+    absurd (both_ways t.ran_out run (ap (λ (x : World). x.ran_out) et ∙ e))
+by_script true s (Ask_alive h) a t e ea et run =
+    absurd (both_ways t.ran_out run (ap (λ (x : World). x.ran_out) et ∙ e))
+by_script true s (Put h write) a t e ea et run =
+    absurd (both_ways t.ran_out run (ap (λ (x : World). x.ran_out) et ∙ e))
 by_script false s Names a t e ea et run = from_script s Names a t ea et
 by_script false s (Open name control) a t e ea et run = from_script s (Open name control) a t ea et
 by_script false s (Read name at) a t e ea et run = from_script s (Read name at) a t ea et
 by_script false s (Ask_alive h) a t e ea et run = from_script s (Ask_alive h) a t ea et
 by_script false s (Put h write) a t e ea et run = from_script s (Put h write) a t ea et
 
-pub notes_itself : (s : World) (c : Call) (a : Answer c) (t : World) (l : Kernel) → Gives s c a t → told t ≡ Some l → t.made ≡ s.made ++ entry_of c a
+pub notes_itself : (s : World) (c : Call) (a : Answer c) (t : World) (l : Kernel) → Gives s c a t
+    → told t ≡ Some l → t.made ≡ s.made ++ entry_of c a
 notes_itself s c a t l g h = elim g [
   | inl x ↦ by_script s.ran_out s c a t refl x.0 x.1 (tells t l h).0
   | inr y ↦ elim y [

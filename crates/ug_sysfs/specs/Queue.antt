@@ -3,7 +3,8 @@ use Rattle.std.specs.Prelude.{ℕ, ◌-◌, Bool, true, not, ◌&&◌, ◌||◌,
 use Rattle.std.specs.List.{position, slice_get}
 use Rattle.ug_sysfs.specs.declared.script.Scheduled.{Scheduled}
 
--- x comes later than m: at a greater call, or behind the effect of the same call that m comes before
+-- x comes later than m: at a greater call, or behind the effect of the same call that m comes
+-- before
 abbrev pub comes_later : Scheduled → Scheduled → Bool
 comes_later x m = nat_lt m.call x.call || (nat_eq m.call x.call && (x.after && not m.after))
 
@@ -21,7 +22,8 @@ or_end (Some place) ms = place
 
 -- the end, unless the last comes later; then the place of the first that does
 abbrev pub place_for : Scheduled → List Scheduled → ℕ
-place_for m ms = if goes_last m ms then length ms else or_end (position (λ x. comes_later x m) ms) ms
+place_for m ms =
+    if goes_last m ms then length ms else or_end (position (λ x. comes_later x m) ms) ms
 
 -- behind each that comes no later, in a list that is in order
 abbrev pub with_move : Scheduled → List Scheduled → List Scheduled

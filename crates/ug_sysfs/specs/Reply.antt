@@ -59,8 +59,11 @@ is_failed other = false
 -- a call as it is listed. Closing isn't
 abbrev pub listed : (call : Call) → Reply call → List CallRecord
 listed Names reply = record { asked = asked.List; kind = listing_kind reply } ∷ []
-listed (Open name control) reply = record { asked = asked.Open name control; kind = opened_kind reply } ∷ []
+listed (Open name control) reply =
+    record { asked = asked.Open name control; kind = opened_kind reply } ∷ []
 listed (Read name attr) reply = record { asked = asked.Read name attr; kind = read_kind reply } ∷ []
-listed (Ask_alive held) reply = record { asked = asked.Probe (record { 0 = held }); kind = probe_kind reply } ∷ []
-listed (Put held write) reply = record { asked = asked.Write (record { 0 = held }) write; kind = wrote_kind reply } ∷ []
+listed (Ask_alive held) reply =
+    record { asked = asked.Probe (record { 0 = held }); kind = probe_kind reply } ∷ []
+listed (Put held write) reply =
+    record { asked = asked.Write (record { 0 = held }) write; kind = wrote_kind reply } ∷ []
 listed (Close held) reply = []

@@ -19,15 +19,18 @@ use Rattle.ug_sysfs.specs.World.{moved, due, happen, happen_all}
 use Rattle.ug_sysfs.specs.Begins.{length_fall, begins_unplug, plugged_moves, unplugged_moves, moved_moves, happened_moves}
 use Rattle.ug_sysfs.specs.Find.{find_some, find_none}
 
-kept_push : (target : ℕ) (bs : List Device) (d : Device) → Kept bs → Kept (bs ++ felled target bs d ∷ [])
+kept_push : (target : ℕ) (bs : List Device) (d : Device) → Kept bs
+    → Kept (bs ++ felled target bs d ∷ [])
 kept_push target bs d k = record { none = none }
   where
-    none : (i p : ℕ) (e f : Device) → Live (bs ++ felled target bs d ∷ []) i e → e.parent ≡ Some p → p < i → slice_get (bs ++ felled target bs d ∷ []) p ≡ Some f → f.gone ≡ false
+    none : (i p : ℕ) (e f : Device) → Live (bs ++ felled target bs d ∷ []) i e → e.parent ≡ Some p
+        → p < i → slice_get (bs ++ felled target bs d ∷ []) p ≡ Some f → f.gone ≡ false
     none i p e f l h lt g = elim (at_push bs (felled target bs d) p f g) [
       | inl q ↦ elim (at_push bs (felled target bs d) i e l.at) [
         | inl r ↦ k.none i p e f (record { at = r.1; here = l.here }) h lt q.1
         | inr r ↦
-            let here : d.gone || (eqb (length bs) target || falls d.parent bs) ≡ false = ap (λ (y : Device). y.gone) r.1 ∙ l.here in
+            let here : d.gone || (eqb (length bs) target || falls d.parent bs) ≡ false =
+            ap (λ (y : Device). y.gone) r.1 ∙ l.here in
             let a = or_parts d.gone (eqb (length bs) target || falls d.parent bs) here in
             let b = or_parts (eqb (length bs) target) (falls d.parent bs) a.1 in
             let up : d.parent ≡ Some p = ap (λ (y : Device). y.parent) r.1 ∙ h in
@@ -42,27 +45,53 @@ kept_push target bs d k = record { none = none }
 
 pub kept_fall : (target : ℕ) (bs ds : List Device) → Kept bs → Kept (fall target bs ds)
 kept_fall target bs [] k = k
-kept_fall target bs (d ∷ ds) k = kept_fall target (bs ++ felled target bs d ∷ []) ds (kept_push target bs d k)
+kept_fall target bs (d ∷ ds) k =
+    kept_fall target (bs ++ felled target bs d ∷ []) ds (kept_push target bs d k)
 
-pub length_felled : (target : ℕ) (ds : List Device) → length (fall target (take target ds) (drop target ds)) ≡ length ds
-length_felled target ds = omega (arith, length_fall target (take target ds) (drop target ds), ap length (take-append-drop target ds), length-append (take target ds) (drop target ds))
+pub length_felled : (target : ℕ) (ds : List Device)
+    → length (fall target (take target ds) (drop target ds)) ≡ length ds
+length_felled target ds =
+    omega (
+      arith,
+      length_fall target (take target ds) (drop target ds),
+      ap length
+          (take-append-drop target ds),
+      length-append (take target ds) (drop target ds),
+    )
 
-pub count_felled : (target : ℕ) (ds : List Device) → live_count (fall target (take target ds) (drop target ds)) ≤ live_count ds
-count_felled target ds = live_count_begins ds (fall target (take target ds) (drop target ds)) (begins_unplug (Some target) ds) (length_felled target ds)
+pub count_felled : (target : ℕ) (ds : List Device)
+    → live_count (fall target (take target ds) (drop target ds)) ≤ live_count ds
+count_felled target ds =
+    live_count_begins ds (fall target (take target ds) (drop target ds))
+    (begins_unplug (Some target) ds) (length_felled target ds)
 
 pub kept_front : (ds : List Device) (n : ℕ) → IsSound ds → Kept (take n ds)
 kept_front ds n s = record {
   none = λ i p e f l h lt g.
       let up = s.parents i p e (record { at = in_front ds n i e l.at; here = l.here }) h in
-      ap (λ (x : Device). x.gone) (same_Some f up.0 (sym (in_front ds n p f g) ∙ up.1.at)) ∙ up.1.here;
+      ap (λ (x : Device). x.gone)
+      (same_Some f up.0 (sym (in_front ds n p f g) ∙ up.1.at)) ∙ up.1.here;
 }
 
 sound_unplug : (o : Option ℕ) (ds : List Device) → IsSound ds → IsSound (unplug_at o ds)
 sound_unplug None ds s = s
-sound_unplug (Some i) ds s = sound_fewer ds (fall i (take i ds) (drop i ds)) s (begins_unplug (Some i) ds) (length_felled i ds) (kept_fall i (take i ds) (drop i ds) (kept_front ds i s))
+sound_unplug (Some i) ds s =
+    sound_fewer ds (fall i (take i ds) (drop i ds)) s (begins_unplug (Some i) ds)
+    (length_felled i ds) (kept_fall i (take i ds) (drop i ds) (kept_front ds i s))
 
-sound_placed : (d : NewDevice) (o : Option (List ℕ)) (ds : List Device) → parent_of d.name ≡ o → live_count ds < 65536 → IsSound ds → ((i : ℕ) (e : Device) → Live ds i e → e.name ≡ d.name → ⊥) → IsSound (placed d o ds)
-sound_placed d None ds up few s free = sound_push ds (born_as d None ds) s (record { free = free; under = λ p h. absurd (none-some p h); root = λ h. up; hub = λ h. refl; controller = λ p e h. absurd (none-some p h); few = few })
+sound_placed : (d : NewDevice) (o : Option (List ℕ)) (ds : List Device) → parent_of d.name ≡ o
+    → live_count ds < 65536 → IsSound ds
+    → ((i : ℕ) (e : Device) → Live ds i e → e.name ≡ d.name → ⊥) → IsSound (placed d o ds)
+sound_placed d None ds up few s free =
+    sound_push ds (born_as d None ds) s
+    (record {
+      free = free;
+      under = λ p h. absurd (none-some p h);
+      root = λ h. up;
+      hub = λ h. refl;
+      controller = λ p e h. absurd (none-some p h);
+      few = few;
+    })
 sound_placed d (Some name) ds up few s free = below (find name 0 ds) refl
   where
     below : (o : Option ℕ) → find name 0 ds ≡ o → IsSound (born_under d o ds)
@@ -71,12 +100,18 @@ sound_placed d (Some name) ds up few s free = below (find name 0 ds) refl
         let f = find_some name i ds h in
         sound_push ds (born_as d (Some i) ds) s (record {
           free = free;
-          under = λ p e. (f.device, subst (λ (j : ℕ). Live ds j f.device) (let q : i ≡ p = cc in q) f.live, up ∙ ap Some (sym f.named));
+          under = λ p e. (
+            f.device,
+            subst (λ (j : ℕ). Live ds j f.device)
+                (let q : i ≡ p = cc in q) f.live,
+            up ∙ ap Some (sym f.named),
+          );
           root = λ h. absurd (none-some i (sym h));
           hub = λ h. absurd (none-some i (sym h));
           controller = λ p e h at.
               let same : i ≡ p = cc in
-              ap (λ (j : ℕ). Some (hub_under j (slice_get ds j))) same ∙ ap (λ (o : Option Device). Some (hub_under p o)) at;
+              ap (λ (j : ℕ). Some (hub_under j (slice_get ds j))) same ∙ ap
+              (λ (o : Option Device). Some (hub_under p o)) at;
           few = few;
         })
 
@@ -87,7 +122,8 @@ sound_plug d ds s = roomy (nat_lt (live_count ds) 65536) refl
     free few None h = sound_placed d (parent_of d.name) ds refl few s (find_none d.name 0 ds h)
     free few (Some i) h = s
 
-    roomy : (b : Bool) → nat_lt (live_count ds) 65536 ≡ b → IsSound (cond b (plug_at (find d.name 0 ds) d ds) ds)
+    roomy : (b : Bool) → nat_lt (live_count ds) 65536 ≡ b
+        → IsSound (cond b (plug_at (find d.name 0 ds) d ds) ds)
     roomy true h = free (ltb-true (live_count ds) 65536 h) (find d.name 0 ds) refl
     roomy false h = s
 
@@ -95,10 +131,12 @@ sound_moved : (m : Move) (ds : List Device) → IsSound ds → IsSound (moved m 
 sound_moved (Plug d) ds s = sound_plug d ds s
 sound_moved (Unplug name) ds s = sound_unplug (find name 0 ds) ds s
 
-pub sound_happen : (n : ℕ) (after : Bool) (ms : List Scheduled) (ds : List Device) → IsSound ds → IsSound (happen n after ms ds).1
+pub sound_happen : (n : ℕ) (after : Bool) (ms : List Scheduled) (ds : List Device) → IsSound ds
+    → IsSound (happen n after ms ds).1
 sound_happen n after [] ds s = s
 sound_happen n after (m ∷ ms) ds s =
-    elim (due n after m) as (λ b. IsSound (cond b (happen n after ms (moved m.action ds)) (m ∷ ms, ds)).1) [
+    elim (due n after m) as
+    (λ b. IsSound (cond b (happen n after ms (moved m.action ds)) (m ∷ ms, ds)).1) [
       | true ↦ sound_happen n after ms (moved m.action ds) (sound_moved m.action ds s)
       | false ↦ s
     ]
@@ -107,17 +145,29 @@ sound_all : (ms : List Scheduled) (ds : List Device) → IsSound ds → IsSound 
 sound_all [] ds s = s
 sound_all (m ∷ ms) ds s = sound_all ms (moved m.action ds) (sound_moved m.action ds s)
 
-pub plugged_sound : (d : NewDevice) (k : Kernel) → IsKernel k → IsKernel (record k { devices = plugged d k.devices })
-plugged_sound d k s = kernel_moves k (record k { devices = plugged d k.devices }) s (plugged_moves d k) (sound_plug d k.devices s.devices)
+pub plugged_sound : (d : NewDevice) (k : Kernel) → IsKernel k
+    → IsKernel (record k { devices = plugged d k.devices })
+plugged_sound d k s =
+    kernel_moves k (record k { devices = plugged d k.devices }) s (plugged_moves d k)
+    (sound_plug d k.devices s.devices)
 
-pub unplugged_sound : (name : List ℕ) (k : Kernel) → IsKernel k → IsKernel (record k { devices = unplugged name k.devices })
-unplugged_sound name k s = kernel_moves k (record k { devices = unplugged name k.devices }) s (unplugged_moves name k) (sound_unplug (find name 0 k.devices) k.devices s.devices)
+pub unplugged_sound : (name : List ℕ) (k : Kernel) → IsKernel k
+    → IsKernel (record k { devices = unplugged name k.devices })
+unplugged_sound name k s =
+    kernel_moves k (record k { devices = unplugged name k.devices }) s (unplugged_moves name k)
+    (sound_unplug (find name 0 k.devices) k.devices s.devices)
 
-pub moved_sound : (m : Move) (k : Kernel) → IsKernel k → IsKernel (record k { devices = moved m k.devices })
-moved_sound m k s = kernel_moves k (record k { devices = moved m k.devices }) s (moved_moves m k) (sound_moved m k.devices s.devices)
+pub moved_sound : (m : Move) (k : Kernel) → IsKernel k
+    → IsKernel (record k { devices = moved m k.devices })
+moved_sound m k s =
+    kernel_moves k (record k { devices = moved m k.devices }) s (moved_moves m k)
+    (sound_moved m k.devices s.devices)
 
-pub happened_sound : (ms : List Scheduled) (k : Kernel) → IsKernel k → IsKernel (record k { devices = happen_all ms k.devices })
-happened_sound ms k s = kernel_moves k (record k { devices = happen_all ms k.devices }) s (happened_moves ms k) (sound_all ms k.devices s.devices)
+pub happened_sound : (ms : List Scheduled) (k : Kernel) → IsKernel k
+    → IsKernel (record k { devices = happen_all ms k.devices })
+happened_sound ms k s =
+    kernel_moves k (record k { devices = happen_all ms k.devices }) s (happened_moves ms k)
+    (sound_all ms k.devices s.devices)
 
 -- a kernel without devices
 pub new_sound : IsKernel (record { devices = []; held = []; log = [] })

@@ -26,7 +26,8 @@ use Rattle.ug_kernel.specs.declared.record.CallRecord.{CallRecord}
 use Rattle.ug_sysfs.specs.Devices.{find, plugged, unplugged}
 use Rattle.ug_sysfs.specs.Reply.{Reply, failure, is_failure, is_failed, IsMemory, listed}
 
--- what is still to come, which calls fail, the event's calls, and whether an entry of the log or of these calls found no memory
+-- what is still to come, which calls fail, the event's calls, and whether an entry of the log or of
+-- these calls found no memory
 pub record World : Type 0 where
   pub kernel : Kernel
   pub moves : List Scheduled
@@ -56,7 +57,8 @@ first_is_due n after (m ∷ ms) = due n after m
 -- the moves from the front on that have their turn
 abbrev pub happen : ℕ → Bool → List Scheduled → List Device → List Scheduled × List Device
 happen n after [] ds = ([], ds)
-happen n after (m ∷ ms) ds = cond (due n after m) (happen n after ms (moved m.action ds)) (m ∷ ms, ds)
+happen n after (m ∷ ms) ds =
+    cond (due n after m) (happen n after ms (moved m.action ds)) (m ∷ ms, ds)
 
 -- all of them
 abbrev pub happen_all : List Scheduled → List Device → List Device
@@ -93,7 +95,11 @@ with_file control (Some i) ds = if_has control i (slice_get ds i)
 
 abbrev pub opened_at : Control → Option ℕ → Kernel → Opened × Kernel
 opened_at control None k = (opened.Absent, k)
-opened_at control (Some i) k = (opened.Token (record { 0 = length k.held }), record k { held = k.held ++ record { device = i; control = control } ∷ [] })
+opened_at control (Some i) k = (
+  opened.Token (record { 0 = length k.held }),
+  record k
+      { held = k.held ++ record { device = i; control = control } ∷ [] },
+)
 
 abbrev pub read_from : Attr → Option Device → ReadOut
 read_from attr None = out.Absent
@@ -132,12 +138,19 @@ switched write i ds = switched_to write i (slice_get ds i) ds
 
 abbrev pub put_at : Write → Option ℕ → Kernel → Wrote × Kernel
 put_at write None k = (wrote.Gone, k)
-put_at write (Some i) k = (wrote.Done, record k { devices = switched write i k.devices; log = k.log ++ record { device = i; write = write } ∷ [] })
+put_at write (Some i) k = (
+  wrote.Done,
+  record k {
+    devices = switched write i k.devices;
+    log = k.log ++ record { device = i; write = write } ∷ [];
+  },
+)
 
 -- what a call answers, and what it does
 abbrev pub act : (call : Call) → Kernel → Reply call × Kernel
 act Names k = (listing.Names (live_names k.devices), k)
-act (Open name control) k = opened_at control (with_file control (find name 0 k.devices) k.devices) k
+act (Open name control) k =
+    opened_at control (with_file control (find name 0 k.devices) k.devices) k
 act (Read name attr) k = (read_at attr (find name 0 k.devices) k.devices, k)
 act (Ask_alive held) k = (probed_at (live_held held k.held k.devices) k.devices, k)
 act (Put held write) k = put_at write (live_held held k.held k.devices) k
@@ -207,7 +220,10 @@ answering call reply w = (told_as call reply w, w)
 
 -- the call's effect in a world that it has entered, and its end
 abbrev pub answer_from : World → (call : Call) → Answer call × World
-answer_from w call = answering call (effect (fate_of w) call w.kernel).0 (ended call (effect (fate_of w) call w.kernel).0 (with_kernel (counted w) (effect (fate_of w) call w.kernel).1))
+answer_from w call =
+    answering call (effect (fate_of w) call w.kernel).0
+    (ended call (effect (fate_of w) call w.kernel).0
+    (with_kernel (counted w) (effect (fate_of w) call w.kernel).1))
 
 -- a kernel that has run out fails
 abbrev pub refused : World → World
@@ -219,10 +235,14 @@ refusing w call = answering call (failure call) (refused w)
 abbrev pub answer_unless : Bool → World → (call : Call) → Answer call × World
 answer_unless out w (Close held) = (Closed, w)
 answer_unless out w Names = cond out (refusing w Names) (answer_from (entered w) Names)
-answer_unless out w (Open name control) = cond out (refusing w (Open name control)) (answer_from (entered w) (Open name control))
-answer_unless out w (Read name attr) = cond out (refusing w (Read name attr)) (answer_from (entered w) (Read name attr))
-answer_unless out w (Ask_alive held) = cond out (refusing w (Ask_alive held)) (answer_from (entered w) (Ask_alive held))
-answer_unless out w (Put held write) = cond out (refusing w (Put held write)) (answer_from (entered w) (Put held write))
+answer_unless out w (Open name control) =
+    cond out (refusing w (Open name control)) (answer_from (entered w) (Open name control))
+answer_unless out w (Read name attr) =
+    cond out (refusing w (Read name attr)) (answer_from (entered w) (Read name attr))
+answer_unless out w (Ask_alive held) =
+    cond out (refusing w (Ask_alive held)) (answer_from (entered w) (Ask_alive held))
+answer_unless out w (Put held write) =
+    cond out (refusing w (Put held write)) (answer_from (entered w) (Put held write))
 
 -- what the script fixes. Closing changes nothing
 abbrev pub answer_of : World → (call : Call) → Answer call × World
@@ -236,7 +256,8 @@ Enters w false u = (w.ran_out ≡ true) × (u ≡ refused w)
 -- the effect of a call that has begun, and its reply
 abbrev pub Effects : World → (call : Call) → Reply call → World → Type 0
 Effects w call reply u =
-    (((reply ≡ (effect (fate_of w) call w.kernel).0) × (u ≡ with_kernel (counted w) (effect (fate_of w) call w.kernel).1))
+    (((reply ≡ (effect (fate_of w) call w.kernel).0)
+    × (u ≡ with_kernel (counted w) (effect (fate_of w) call w.kernel).1))
     ⊎ ((IsMemory call reply × (u ≡ w) × (fate_of w ≡ None))
     ⊎ ((reply ≡ failure call) × (u.ran_out ≡ true) × (u.calls ≡ w.calls))))
     × (u.faults ≡ cond (is_failure call reply) (one_more w.faults) w.faults)
@@ -244,11 +265,15 @@ Effects w call reply u =
 -- the call is listed, or there is no memory for that. A call that then fails is counted
 abbrev pub Ends : World → CallRecord → Bool → World → Type 0
 Ends w made true u = u ≡ noted (made ∷ []) w
-Ends w made false u = (u.ran_out ≡ true) × (u.calls ≡ w.calls) × (u.faults ≡ cond (is_failed made.kind) w.faults (one_more w.faults))
+Ends w made false u =
+    (u.ran_out ≡ true) × (u.calls ≡ w.calls)
+    × (u.faults ≡ cond (is_failed made.kind) w.faults (one_more w.faults))
 
 -- a write that has its effect
 abbrev pub Puts : World → ℕ → Write → Wrote → World → Type 0
-Puts w held write reply u = (reply ≡ (act (Put held write) w.kernel).0) × (u ≡ with_kernel w (act (Put held write) w.kernel).1)
+Puts w held write reply u =
+    (reply ≡ (act (Put held write) w.kernel).0)
+    × (u ≡ with_kernel w (act (Put held write) w.kernel).1)
 
 abbrev pub RunsOut : World → World → Type 0
 RunsOut w u = (u.ran_out ≡ true) × (u.calls ≡ w.calls) × (u.faults ≡ w.faults)
@@ -280,7 +305,9 @@ pub record Loses (s : World) (call : Call) (a : Answer call) (t : World) : Type 
 
 -- the script's answer; or want of memory
 abbrev pub Gives : World → (call : Call) → Answer call → World → Type 0
-Gives s call a t = ((a ≡ (answer_of s call).0) × (t ≡ (answer_of s call).1)) ⊎ (Wants s call a t ⊎ Loses s call a t)
+Gives s call a t =
+    ((a ≡ (answer_of s call).0) × (t ≡ (answer_of s call).1))
+    ⊎ (Wants s call a t ⊎ Loses s call a t)
 
 -- an event begins
 abbrev pub begun : World → World

@@ -94,7 +94,8 @@ impl Census {
 
     /// The device goes, and what is below it.
     pub fn unplug(&mut self, target: usize)
-        ensures devices { self.new.devices ≡ fall target (take target self.old.devices) (drop target self.old.devices) }
+        ensures devices { self.new.devices
+            ≡ fall target (take target self.old.devices) (drop target self.old.devices) }
         ensures room { self.new.room ≡ self.old.room }
         ensures few { live_count self.new.devices ≤ live_count self.old.devices }
     {

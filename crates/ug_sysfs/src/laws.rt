@@ -12,19 +12,26 @@ ghost use Rattle.ug_sysfs.specs.World.{World, Gives, fate, over};
 
 /// A device is born wherever it can be, as the newest, and else nothing changes. It is a move, and keeps a kernel sound.
 pub fn plug_law()
-    ensures born { (d : NewDevice) (ds : List Device) → CanBeBorn d ds → IsBorn d ds (plugged d ds) }
+    ensures born { (d : NewDevice) (ds : List Device) → CanBeBorn d ds
+        → IsBorn d ds (plugged d ds) }
     ensures refused { (d : NewDevice) (ds : List Device) → ¬ (CanBeBorn d ds) → plugged d ds ≡ ds }
-    ensures moves { (d : NewDevice) (k : Kernel) → Moves k (record k { devices = plugged d k.devices }) }
-    ensures sound { (d : NewDevice) (k : Kernel) → IsKernel k → IsKernel (record k { devices = plugged d k.devices }) }
+    ensures moves { (d : NewDevice) (k : Kernel)
+        → Moves k (record k { devices = plugged d k.devices }) }
+    ensures sound { (d : NewDevice) (k : Kernel) → IsKernel k
+        → IsKernel (record k { devices = plugged d k.devices }) }
 {}
 
 /// Unplugging takes the live device of the name and what is below it, and nothing else. It is a move, and keeps a
 /// kernel sound.
 pub fn unplug_law()
-    ensures felled { (name : List ℕ) (ds : List Device) (i : ℕ) (d : Device) → IsSound ds → Live ds i d → d.name ≡ name → IsFelled i ds (unplugged name ds) }
-    ensures nobody { (name : List ℕ) (ds : List Device) → ((i : ℕ) (d : Device) → Live ds i d → d.name ≡ name → ⊥) → unplugged name ds ≡ ds }
-    ensures moves { (name : List ℕ) (k : Kernel) → Moves k (record k { devices = unplugged name k.devices }) }
-    ensures sound { (name : List ℕ) (k : Kernel) → IsKernel k → IsKernel (record k { devices = unplugged name k.devices }) }
+    ensures felled { (name : List ℕ) (ds : List Device) (i : ℕ) (d : Device) → IsSound ds
+        → Live ds i d → d.name ≡ name → IsFelled i ds (unplugged name ds) }
+    ensures nobody { (name : List ℕ) (ds : List Device)
+        → ((i : ℕ) (d : Device) → Live ds i d → d.name ≡ name → ⊥) → unplugged name ds ≡ ds }
+    ensures moves { (name : List ℕ) (k : Kernel)
+        → Moves k (record k { devices = unplugged name k.devices }) }
+    ensures sound { (name : List ℕ) (k : Kernel) → IsKernel k
+        → IsKernel (record k { devices = unplugged name k.devices }) }
 {}
 
 /// A kernel without devices is sound, and stays so at an event's end, where it moves.
@@ -37,11 +44,14 @@ pub fn event_law()
 /// A call fails where it is scheduled to. The last word on it counts.
 pub fn fate_law()
     ensures none { (n : ℕ) → fate n None [] ≡ None }
-    ensures last { (n : ℕ) (fs : List Failing) (f : Failing) → f.call ≡ n → fate n None (fs ++ f ∷ []) ≡ Some f.effect }
-    ensures other { (n : ℕ) (fs : List Failing) (f : Failing) → ¬ (f.call ≡ n) → fate n None (fs ++ f ∷ []) ≡ fate n None fs }
+    ensures last { (n : ℕ) (fs : List Failing) (f : Failing) → f.call ≡ n
+        → fate n None (fs ++ f ∷ []) ≡ Some f.effect }
+    ensures other { (n : ℕ) (fs : List Failing) (f : Failing) → ¬ (f.call ≡ n)
+        → fate n None (fs ++ f ∷ []) ≡ fate n None fs }
 {}
 
 /// A kernel that has run out stays so.
 pub fn ran_out_law()
-    ensures { (s : World) (call : Call) (a : Answer call) (t : World) → Gives s call a t → s.ran_out ≡ true → t.ran_out ≡ true }
+    ensures { (s : World) (call : Call) (a : Answer call) (t : World) → Gives s call a t
+        → s.ran_out ≡ true → t.ran_out ≡ true }
 {}

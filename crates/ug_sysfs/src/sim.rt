@@ -61,7 +61,8 @@ impl Model for SimKernel {
     } };
 
     // each plug that is scheduled has its room
-    ghost invariant = { λ s. (plugs s.moves.items ≤ s.census.room) × (live_count s.census.devices ≤ 65536) };
+    ghost invariant = { λ s. (plugs s.moves.items ≤ s.census.room)
+        × (live_count s.census.devices ≤ 65536) };
 }
 
 impl SimKernel {
@@ -95,7 +96,12 @@ impl SimKernel {
     /// A device is born. Nothing happens if its name is live, if its parent isn't, or if 65,536 devices are.
     #[tactic(auto, using(crate::proofs::Plugs::plugs_le))]
     pub fn plug(&mut self, device: NewDevice) -> Result<(), NoMemory>
-        ensures ok { OnOk result (self.new ≡ record self.old { kernel = record self.old.kernel { devices = plugged device self.old.kernel.devices } }) }
+        ensures ok { OnOk result
+            (self.new
+            ≡ record self.old {
+              kernel = record self.old.kernel
+                  { devices = plugged device self.old.kernel.devices };
+            }) }
         ensures err { OnErr result (self.new ≡ self.old) }
     {
         self.census.reserve(self.moves.len().saturating_add(1))?;
@@ -105,7 +111,12 @@ impl SimKernel {
 
     /// What the kernel does by itself: a device is born, as by `plug`, or goes.
     pub fn carry_out(&mut self, action: Move) -> Result<(), NoMemory>
-        ensures ok { OnOk result (self.new ≡ record self.old { kernel = record self.old.kernel { devices = moved action self.old.kernel.devices } }) }
+        ensures ok { OnOk result
+            (self.new
+            ≡ record self.old {
+              kernel = record self.old.kernel
+                  { devices = moved action self.old.kernel.devices };
+            }) }
         ensures err { OnErr result (self.new ≡ self.old) }
     {
         match action {
@@ -119,7 +130,10 @@ impl SimKernel {
 
     /// The live device of that name goes, and what is below it.
     pub fn unplug(&mut self, name: &NodeName)
-        ensures { self.new ≡ record self.old { kernel = record self.old.kernel { devices = unplugged name.now self.old.kernel.devices } } }
+        ensures { self.new ≡ record self.old {
+          kernel = record self.old.kernel
+              { devices = unplugged name.now self.old.kernel.devices };
+        } }
     {
         if let Some(i) = self.census.find(name) {
             self.census.unplug(i);
@@ -148,7 +162,10 @@ impl SimKernel {
 
     /// A call that is to fail. A write then has its effect, or not. The last word on a call counts.
     pub fn fail(&mut self, call: u64, effect: bool) -> Result<(), NoMemory>
-        ensures ok { OnOk result (self.new ≡ record self.old { fails = self.old.fails ++ record { call = call; effect = effect } ∷ [] }) }
+        ensures ok { OnOk result
+            (self.new
+            ≡ record self.old
+            { fails = self.old.fails ++ record { call = call; effect = effect } ∷ [] }) }
         ensures err { OnErr result (self.new ≡ self.old) }
     {
         self.fails.push(Failing { call, effect })?;
@@ -317,7 +334,8 @@ impl SimKernel {
 
     // What a write does where it has its effect. There may be no memory for its entry.
     fn put(&mut self, held: Held, write: Write) -> Option<Wrote>
-        ensures { MatchOption result (RunsOut self.old self.new) (λ reply. Puts self.old held.0 write reply self.new) }
+        ensures { MatchOption result (RunsOut self.old self.new)
+            (λ reply. Puts self.old held.0 write reply self.new) }
     {
         match live_held(self.census.devices(), &self.held, held.0 as usize) {
             Some(device) => match self.log.push(Effect { device, write }) {

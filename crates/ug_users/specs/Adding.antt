@@ -13,23 +13,33 @@ use Rattle.ug_users.specs.declared.asked.Asked.{Asked}
 
 -- the number of the first bad line, what is wrong with it, and where in the line that stands
 unfoldable pub bad_access_line : TextFault → List ℕ
-bad_access_line fault = codes "bad access line " ++ decimal fault.line ++ codes " kind " ++ decimal fault.kind ++ codes " place " ++ decimal fault.place ++ 10 ∷ []
+bad_access_line fault =
+    codes "bad access line " ++ decimal fault.line ++ codes " kind " ++ decimal fault.kind
+    ++ codes " place " ++ decimal fault.place ++ 10 ∷ []
 
 -- each line of the text is good, and this is the text of what it grants with what is asked for
 abbrev pub IsUnited : Asked → List ℕ → List ℕ → Type 0
-IsUnited asked bytes text = (granted : List Pair) × (access_read bytes ≡ Ok granted) × (text ≡ printed (united granted (pairs_asked asked)))
+IsUnited asked bytes text =
+    (granted : List Pair) × (access_read bytes ≡ Ok granted)
+    × (text ≡ printed (united granted (pairs_asked asked)))
 
 -- a line of the text is bad, and the first such line is told
 abbrev pub IsRefused : List ℕ → List ℕ → Type 0
-IsRefused bytes text = (fault : TextFault) × (access_read bytes ≡ Err fault) × (text ≡ bad_access_line fault)
+IsRefused bytes text =
+    (fault : TextFault) × (access_read bytes ≡ Err fault) × (text ≡ bad_access_line fault)
 
-abbrev pub Tells : Asked → List ℕ → Option (List ℕ) → Option (List ℕ) → Option (List ℕ) → Ended → Type 0
-Tells asked bytes left held0 held result = whole.TellsWhole input_limit (IsUnited asked) IsRefused bytes left held0 held result
+abbrev pub Tells : Asked → List ℕ → Option (List ℕ) → Option (List ℕ) → Option (List ℕ) → Ended
+    → Type 0
+Tells asked bytes left held0 held result =
+    whole.TellsWhole input_limit (IsUnited asked) IsRefused bytes left held0 held result
 
 -- the whole call
-abbrev pub Completes : Asked → Option (List ℕ) → Option (List ℕ) → Option (List ℕ) → Option (List ℕ) → Ended → Type 0
-Completes asked left0 left held0 held result = whole.Completes input_limit (IsUnited asked) IsRefused left0 left held0 held result
+abbrev pub Completes : Asked → Option (List ℕ) → Option (List ℕ) → Option (List ℕ) → Option (List ℕ)
+    → Ended → Type 0
+Completes asked left0 left held0 held result =
+    whole.Completes input_limit (IsUnited asked) IsRefused left0 left held0 held result
 
 -- what a status says: all are the bytes of the source and base those of the sink before the call
 abbrev pub Answers : Asked → List ℕ → List ℕ → Option (List ℕ) → Option (List ℕ) → ℕ → Type 0
-Answers asked all base left held status = whole.AnswersWhole status_of input_limit (IsUnited asked) IsRefused all base left held status
+Answers asked all base left held status =
+    whole.AnswersWhole status_of input_limit (IsUnited asked) IsRefused all base left held status

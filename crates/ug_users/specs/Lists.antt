@@ -26,7 +26,8 @@ given_by section words = record {
   listen = list_any (gives section Listen) words;
 }
 
--- the text is privileges of the section, or `ALL`, with commas between and blanks about each, and these are given
+-- the text is privileges of the section, or `ALL`, with commas between and blanks about each, and
+-- these are given
 pub record IsList (section : Section) (text : List ℕ) (listed : Listed) : Type 0 where
   pub parts : List (List ℕ)
   pub words : List (List ℕ)
@@ -39,7 +40,9 @@ abbrev pub part_gives : Section → Privilege → List ℕ → Bool
 part_gives section privilege part = gives section privilege (trimmed part)
 
 abbrev pub part_gives_some : Section → List ℕ → Bool
-part_gives_some section part = part_gives section Modify part || part_gives section privilege.List part || part_gives section Listen part
+part_gives_some section part =
+    part_gives section Modify part || part_gives section privilege.List part
+    || part_gives section Listen part
 
 abbrev pub given_by_parts : Section → List (List ℕ) → Listed
 given_by_parts section parts = record {
@@ -50,4 +53,6 @@ given_by_parts section parts = record {
 
 -- what a list gives, where each of its parts gives something
 abbrev pub list_read : Section → List ℕ → Option Listed
-list_read section text = if list_all (part_gives_some section) (parts_of text) then Some (given_by_parts section (parts_of text)) else None
+list_read section text =
+    if list_all (part_gives_some section) (parts_of text)
+    then Some (given_by_parts section (parts_of text)) else None

@@ -17,7 +17,8 @@ use ug_types::{FileFault, Sink, Source};
 /// Writes the bytes of an input, whose end was reached, with what is asked for.
 fn write_united<K: Sink>(alloc: Global, asked: &Asked, bytes: &[u8], out: &mut K) -> Ended
     requires { length bytes.now ≤ input_limit }
-    ensures told { (left : Option (List ℕ)) → IsAtEnd left → Tells asked.now bytes.now left (K.held out.old) (K.held out.new) result }
+    ensures told { (left : Option (List ℕ)) → IsAtEnd left
+        → Tells asked.now bytes.now left (K.held out.old) (K.held out.new) result }
     ensures not_read { result ≢ Ended.ReadFault }
     ensures cause { result ≡ Ended.WriteFault → Rose (K.faults out.old) (K.faults out.new) }
 {
@@ -38,7 +39,8 @@ fn add_to_input<S: Source, K: Sink>(
     input: &mut S,
     out: &mut K,
 ) -> Ended
-    ensures told { Completes asked.now (S.left input.old) (S.left input.new) (K.held out.old) (K.held out.new) result }
+    ensures told { Completes asked.now (S.left input.old) (S.left input.new) (K.held out.old)
+        (K.held out.new) result }
     ensures read { result ≡ Ended.ReadFault → Rose (S.faults input.old) (S.faults input.new) }
     ensures written { result ≡ Ended.WriteFault → Rose (K.faults out.old) (K.faults out.new) }
 {
@@ -54,7 +56,8 @@ fn add_to_input<S: Source, K: Sink>(
 /// one, or more bytes; 4 for a read fault; 5 for a write fault; 6 for want of memory. With 2, 4 and 6 a fault line is all
 /// that is written.
 pub fn add_user<S: Source, K: Sink>(alloc: Global, asked: &Asked, input: &mut S, out: &mut K) -> u8
-    ensures answers { (all : List ℕ) (base : List ℕ) → S.left input.old ≡ Some all → K.held out.old ≡ Some base
+    ensures answers { (all : List ℕ) (base : List ℕ) → S.left input.old ≡ Some all
+        → K.held out.old ≡ Some base
         → Answers asked.now all base (S.left input.new) (K.held out.new) result }
     ensures read { result ≡ 4 → Rose (S.faults input.old) (S.faults input.new) }
     ensures written { result ≡ 5 → Rose (K.faults out.old) (K.faults out.new) }

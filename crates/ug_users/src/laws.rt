@@ -16,21 +16,25 @@ pub fn lists_law()
     ensures is { (section : Section) (text : List ℕ) (listed : Listed)
         → (list_read section text ≡ Some listed) ↔ IsList section text listed }
     ensures own { (section : Section) (text : List ℕ) (listed : Listed) (privilege : Privilege)
-        → IsList section text listed → IsTrue (has_listed listed privilege) → Has all_pairs (section, privilege) }
+        → IsList section text listed → IsTrue (has_listed listed privilege)
+        → Has all_pairs (section, privilege) }
 {}
 
 /// What is asked for is what the section's list has, of what the section can have.
 pub fn asked_law()
     ensures { (asked : Asked) (section : Section) (privilege : Privilege)
         → Has (pairs_asked asked) (section, privilege)
-        ↔ (IsTrue (has_listed (listed_in asked section) privilege) × Has all_pairs (section, privilege)) }
+        ↔ (IsTrue (has_listed (listed_in asked section) privilege)
+        × Has all_pairs (section, privilege)) }
 {}
 
 /// The text that is written reads as just what was granted and what is asked for.
 pub fn united_law()
     ensures reads { (asked : Asked) (bytes text : List ℕ) → IsUnited asked bytes text
-        → (granted : List Pair) × (access_read bytes ≡ Ok granted) × (access_read text ≡ Ok (united granted (pairs_asked asked))) }
-    ensures just { (bytes : List ℕ) (granted : List Pair) (asked : Asked) (section : Section) (privilege : Privilege)
+        → (granted : List Pair) × (access_read bytes ≡ Ok granted)
+        × (access_read text ≡ Ok (united granted (pairs_asked asked))) }
+    ensures just { (bytes : List ℕ) (granted : List Pair) (asked : Asked) (section : Section)
+        (privilege : Privilege)
         → access_read bytes ≡ Ok granted
         → Has (united granted (pairs_asked asked)) (section, privilege)
         ↔ (Has granted (section, privilege) ⊎ Has (pairs_asked asked) (section, privilege)) }
