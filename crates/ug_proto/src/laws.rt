@@ -1,6 +1,9 @@
 // What requests and replies mean.
-ghost use Rattle.std.specs.Prelude.{◌≡◌, ◌++◌, ◌↔◌, ◌≢◌, [], ℕ, List, Option, Result, Ok, Err};
+ghost use Rattle.std.specs.Prelude.{◌≡◌, ◌++◌, ◌↔◌, ◌≢◌, [], ℕ, List, Option, Result, Ok, Err, codes, false, true};
 ghost use Rattle.ug_audit.specs.Lines.{entry_line};
+ghost use Rattle.ug_types.specs.declared.rule.After.TheVariants as after;
+ghost use Rattle.ug_types.specs.declared.verdict.Target.TheVariants as target;
+ghost use Rattle.ug_proto.specs.declared.request.Request.TheVariants as request;
 ghost use Rattle.ug_proto.specs.BadRequests.{IsBadRequest};
 ghost use Rattle.ug_proto.specs.Replies.{reply_text, IsReply};
 ghost use Rattle.ug_proto.specs.Lines.{Begun, Partial, Overlong, lines_ended_in, begun_after, stream_lines, IsCutInto, IsOverlong};
@@ -20,6 +23,35 @@ pub fn requests_law()
         ↔ ((line ≡ request_text r) × IsRequest r) }
     ensures bad { (line : List ℕ) (place : ℕ) → (request_read line ≡ Err place)
         ↔ IsBadRequest line place }
+{}
+
+/// What the words of each request ask for.
+pub fn request_words_law()
+    ensures get_parameter { request_read (codes "get-parameter a")
+        ≡ Ok (request.GetParameter (codes "a")) }
+    ensures set_parameter { request_read (codes "set-parameter a b")
+        ≡ Ok (request.SetParameter (codes "a") (codes "b")) }
+    ensures list_devices { request_read (codes "list-devices") ≡ Ok request.ListDevices }
+    ensures allow_device { request_read (codes "allow-device 7")
+        ≡ Ok (request.Device 7 target.Allow false) }
+    ensures block_device { request_read (codes "block-device 7")
+        ≡ Ok (request.Device 7 target.Block false) }
+    ensures reject_device { request_read (codes "reject-device 7")
+        ≡ Ok (request.Device 7 target.Reject false) }
+    ensures permanent { request_read (codes "allow-device 7 permanent")
+        ≡ Ok (request.Device 7 target.Allow true) }
+    ensures list_rules { request_read (codes "list-rules") ≡ Ok request.ListRules }
+    ensures append_rule { request_read (codes "append-rule end permanent a b")
+        ≡ Ok (request.AppendRule after.End true (codes "a b")) }
+    ensures temporary { request_read (codes "append-rule end temporary a b")
+        ≡ Ok (request.AppendRule after.End false (codes "a b")) }
+    ensures front { request_read (codes "append-rule 0 permanent a b")
+        ≡ Ok (request.AppendRule after.Front true (codes "a b")) }
+    ensures behind { request_read (codes "append-rule 7 permanent a b")
+        ≡ Ok (request.AppendRule (after.Rule 7) true (codes "a b")) }
+    ensures remove_rule { request_read (codes "remove-rule 7")
+        ≡ Ok (request.RemoveRule 7) }
+    ensures watch { request_read (codes "watch") ≡ Ok request.Watch }
 {}
 
 /// No reply's text begins with that of another, so no two have one text, and a reader knows where each ends.

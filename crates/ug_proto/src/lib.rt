@@ -15,7 +15,7 @@ mod split;
 pub use framer::{FrameFault, Framer};
 pub use laws::{
     entries_and_replies_law, in_any_pieces, lines_in_one_way, one_reading_law, replies_law,
-    requests_law,
+    request_words_law, requests_law,
 };
 pub use parse::parse_reply;
 pub use print::{print_reply, print_request};

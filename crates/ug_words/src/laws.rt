@@ -8,7 +8,7 @@ ghost use Rattle.ug_types.specs.declared.rule.Op.TheVariants as operator;
 ghost use Rattle.ug_types.specs.declared.verdict.Target.TheVariants as target;
 ghost use Rattle.ug_words.specs.Keywords.{IsSpelled, attribute_of, condition_of, is_if, operator_of};
 ghost use Rattle.ug_words.specs.declared.keywords.Attr.TheVariants as attr;
-ghost use Rattle.ug_words.specs.declared.keywords.CondName.TheVariants as condition;
+ghost use Rattle.ug_words.specs.declared.keywords.CondName.TheVariants as name;
 ghost use Rattle.ug_words.specs.WordGrammar.{IsChance, IsId, IsInterface, IsPast, IsSpan, IsTime};
 ghost use Rattle.ug_words.specs.Words.{chance_of, four_of, id_of, interface_of, number_of, past_of, span_of, time_of, two_of};
 
@@ -56,13 +56,13 @@ pub fn attribute_words_law()
 
 /// Conditions stand behind `if`, and each has one word.
 pub fn condition_words_law()
-    ensures localtime { IsSpelled condition_of condition.LocalTime (codes "localtime") }
-    ensures allowed_matches { IsSpelled condition_of condition.AllowedMatches (codes "allowed-matches") }
-    ensures rule_applied { IsSpelled condition_of condition.RuleApplied (codes "rule-applied") }
-    ensures rule_evaluated { IsSpelled condition_of condition.RuleEvaluated (codes "rule-evaluated") }
-    ensures random { IsSpelled condition_of condition.Random (codes "random") }
-    ensures always { IsSpelled condition_of condition.True (codes "true") }
-    ensures never { IsSpelled condition_of condition.False (codes "false") }
+    ensures localtime { IsSpelled condition_of name.LocalTime (codes "localtime") }
+    ensures allowed_matches { IsSpelled condition_of name.AllowedMatches (codes "allowed-matches") }
+    ensures rule_applied { IsSpelled condition_of name.RuleApplied (codes "rule-applied") }
+    ensures rule_evaluated { IsSpelled condition_of name.RuleEvaluated (codes "rule-evaluated") }
+    ensures random { IsSpelled condition_of name.Random (codes "random") }
+    ensures always { IsSpelled condition_of name.True (codes "true") }
+    ensures never { IsSpelled condition_of name.False (codes "false") }
     ensures begins { (word : List ℕ) → (is_if word ≡ true) ↔ (word ≡ codes "if") }
 {}
 
