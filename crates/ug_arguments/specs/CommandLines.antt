@@ -1,0 +1,28 @@
+-- What command lines ask for, by example.
+use Rattle.std.specs.Prelude.{ℕ, List, Option, Some, codes, false, true}
+use Rattle.ug_types.specs.Principals.{Named}
+use Rattle.ug_proto.specs.declared.request.Request.{Request}
+use Rattle.ug_users.specs.declared.lists.Listed.{Listed}
+use Rattle.ug_arguments.specs.declared.command.Command.{Command}
+use Rattle.ug_arguments.specs.declared.command.Command.TheVariants.{AddUser, Ask}
+
+-- the daemon's usual path
+abbrev pub root_socket : List ℕ
+root_socket = codes "/run/usbguard/root.socket"
+
+abbrev pub asks : Request → Option Command
+asks request = Some (Ask root_socket request)
+
+abbrev pub joe : Named
+joe = record { group = false; name = codes "joe" }
+
+abbrev pub listing : Listed
+listing = record { modify = false; list = true; listen = false }
+
+abbrev pub listening : Listed
+listening = record { modify = false; list = false; listen = true }
+
+-- what is listed of devices, of the policy, of exceptions and of parameters
+abbrev pub adds : Named → Listed → Listed → Listed → Listed → Option Command
+adds who devices policy exceptions parameters =
+    Some (AddUser who (record { devices = devices; policy = policy; exceptions = exceptions; parameters = parameters }))
