@@ -7,3 +7,4 @@ pub mod Rules
 pub mod Texts
 pub mod Tokens
 pub mod Values
+pub mod TextLines

@@ -7,7 +7,7 @@ ghost use Rattle.ug_words.specs.Words.{past_of, chance_of};
 use crate::fault::{Ending, FaultKind, Stop, required};
 use crate::queries::{is_blank, query, stray};
 use crate::tokens_left::{Tokens, closes, opens, word};
-use crate::values::{brace, filled};
+use crate::values::{brace, filled, list_of};
 use std::alloc::Global;
 use ug_lex::{Token, TokenKind};
 use ug_types::{Cond, CondKind, Conds, List, Op, Query};
@@ -287,8 +287,7 @@ fn single(
     ensures is { Reads result tokens.new (conditions.single_of line.now ending token tokens.old) }
     ensures shorter { length tokens.new ≤ length tokens.old }
 {
-    let mut items = List::new(alloc);
-    items.push(condition_from(alloc, line, tokens, ending, token)?)?;
+    let items = list_of(alloc, condition_from(alloc, line, tokens, ending, token)?)?;
     Ok(Conds {
         op: Op::Equals,
         items,

@@ -4,6 +4,7 @@ ghost use Rattle.ug_types.specs.TextFaults.{IsTextFault};
 ghost use Rattle.ug_lines.specs.LineReading.{LeadsTo};
 ghost use Rattle.ug_rule.specs.Faults.{Answers};
 ghost use Rattle.ug_rule.specs.Files as files;
+ghost use Rattle.ug_rule.specs.TextLines.{rule_on_line};
 
 use crate::fault::{Fault, Stop};
 use crate::rules::rule;
@@ -31,6 +32,18 @@ fn fault_on(number: u64, fault: Fault) -> FileFault
         kind: fault.kind.number(),
         place: fault.place,
     })
+}
+
+/// The rule of a text's line of that number, without its newline. One that is blank or a comment has none.
+pub fn parse_line(alloc: Global, number: u64, line: &[u8]) -> Result<Option<Rule>, FileFault>
+    ensures good { IfOk result (λ found. rule_on_line number line.now ≡ Ok found) }
+    ensures bad { IfErr result (λ fault. IsTextFault fault (rule_on_line number line.now)) }
+{
+    match read_line(alloc, line) {
+        Ok(found) => Ok(found),
+        Err(Stop::Bad(fault)) => Err(fault_on(number, fault)),
+        Err(Stop::Memory) => Err(FileFault::Memory),
+    }
 }
 
 // Adds the rule of a line, if it has one.

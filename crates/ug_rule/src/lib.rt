@@ -11,7 +11,7 @@ mod tokens_left;
 mod values;
 
 pub use fault::RuleFault;
-pub use files::{count_rules, parse_file};
+pub use files::{count_rules, parse_file, parse_line};
 pub use laws::{
     attributes_law, conditions_law, lines_law, one_meaning, rules_law, text_law, text_lines_law,
     values_law,

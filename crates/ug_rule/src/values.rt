@@ -1,5 +1,5 @@
 // The value of an attribute: usbguard-rules.conf(5).
-ghost use Rattle.std.specs.Prelude.{◌≡◌, ◌≤◌, [], length};
+ghost use Rattle.std.specs.Prelude.{◌≡◌, ◌≤◌, [], ◌∷◌, length, IfOk};
 ghost use Rattle.ug_rule.specs.Faults.{Answers};
 ghost use Rattle.ug_rule.specs.Tokens.{Reads};
 ghost use Rattle.ug_rule.specs.Values as values;
@@ -8,7 +8,7 @@ use crate::fault::{Ending, FaultKind, Stop, required};
 use crate::tokens_left::{Tokens, closes, opens, word};
 use std::alloc::Global;
 use ug_lex::{Token, TokenKind};
-use ug_types::{Id, Iface, List, Op, Text, Values};
+use ug_types::{Id, Iface, List, NoMemory, Op, Text, Values};
 use ug_words::{id, interface, operator};
 
 /// What one token says.
@@ -62,13 +62,31 @@ fn item<T: FromToken>(line: &[u8], token: Token) -> Result<T, Stop>
     required(T::from_token(line, token), FaultKind::BadValue, place)
 }
 
+/// A list of that item, with room for it alone.
+pub fn list_of<T: Drop>(alloc: Global, item: T) -> Result<List<T>, NoMemory>
+    ensures { IfOk result (λ list. list ≡ item ∷ []) }
+{
+    let mut items = Vec::with_capacity(alloc, 1)?;
+    items.push(item)?;
+    Ok(List::from_vec(items))
+}
+
+/// The same items, without the room behind them.
+fn without_room<T: Drop>(list: List<T>) -> List<T>
+    ensures { result ≡ list }
+{
+    let mut items = list.into_vec();
+    items.shrink_to_fit();
+    List::from_vec(items)
+}
+
 pub fn filled<T: Drop>(items: List<T>, place: u64) -> Result<List<T>, Stop>
     ensures { (rest : _) → Reads result rest (values.filled items place rest) }
 {
     if items.as_slice().is_empty() {
         return Err(Stop::at(FaultKind::EmptySet, place));
     }
-    Ok(items)
+    Ok(without_room(items))
 }
 
 // The items up to the closing brace.
@@ -127,8 +145,7 @@ pub fn brace(tokens: &mut Tokens, ending: Ending, kind: FaultKind) -> Result<u64
 pub fn single<T: FromToken>(alloc: Global, line: &[u8], token: Token) -> Result<Values<T>, Stop>
     ensures { (rest : _) → Reads result rest (values.single_of (T.in_token line.now) token rest) }
 {
-    let mut items = List::new(alloc);
-    items.push(item(line, token)?)?;
+    let items = list_of(alloc, item(line, token)?)?;
     Ok(Values {
         op: Op::Equals,
         items,
