@@ -6,7 +6,8 @@ namespace of its own, beside a file of the test's own in the place of /sys/kerne
 
 It tells the processor time of sweeps over 12 devices while nothing happens; and with 1, 4,096 and 65,536 rules, of which only the last
 matches, the time to start, the processor time of a plug and an unplug, the time from a plug's announcement to its verdict in the
-journal, the peak of memory, and how many files are open before and behind all plugs. Needs root, unshare(1), mount(8) and Python 3.9.
+journal, the peak of memory, and how many files are open before and behind all plugs; and the memory with 65,536 rules with an id,
+serial, name and two interfaces. Needs root, unshare(1), mount(8) and Python 3.9.
 """
 
 import argparse
@@ -18,6 +19,8 @@ import sys
 import tempfile
 import time
 from pathlib import Path
+
+from many_rules import rules_with_four
 
 DEVICES, COUNTER = Path("/sys/bus/usb/devices"), Path("/sys/kernel/uevent_seqnum")
 KEY = bytes.fromhex("120100020000004050101100000100000001")
@@ -58,8 +61,7 @@ class Machine:
 class Daemon:
     """The program and its journal."""
 
-    def __init__(self, program, folder, rules):
-        text = "".join("block id 0001:%04x\n" % (k % 65536) for k in range(rules - 1)) + "allow id 1050:0011\n"
+    def __init__(self, program, folder, text):
         (folder / "rules.conf").write_text(text)
         (folder / "settings.conf").write_text("RuleFile=%s\n" % (folder / "rules.conf"))
         began = time.monotonic()
@@ -82,19 +84,24 @@ class Daemon:
     def files(self):
         return len(os.listdir("/proc/%d/fd" % self.run.pid))
 
-    def peak(self):
+    def memory(self, word):
+        """VmHWM, the peak, or VmRSS, what there is now; in MB."""
         lines = Path("/proc/%d/status" % self.run.pid).read_text().splitlines()
-        return next(int(x.split()[1]) / 1024 for x in lines if x.startswith("VmHWM"))
+        return next(int(x.split()[1]) / 1024 for x in lines if x.startswith(word))
 
     def end(self):
         self.run.kill()
         self.run.wait()
 
 
+def rules_with_last(rules):
+    return "".join("block id 0001:%04x\n" % (k % 65536) for k in range(rules - 1)) + "allow id 1050:0011\n"
+
+
 def idle(o, machine, folder):
     for k in range(1, 12):
         machine.plug("1-%d" % k, k + 1)
-    daemon = Daemon(o.program, folder, 1)
+    daemon = Daemon(o.program, folder, rules_with_last(1))
     daemon.line("end ")
     before, began, sweeps = daemon.processor(), time.monotonic(), 0
     while time.monotonic() < began + o.seconds:
@@ -109,7 +116,7 @@ def idle(o, machine, folder):
 
 
 def plugs(o, machine, folder, rules):
-    daemon = Daemon(o.program, folder, rules)
+    daemon = Daemon(o.program, folder, rules_with_last(rules))
     waits, before, opened = [], daemon.processor(), daemon.files()
     for k in range(o.plugs):
         machine.plug("1-1", 2 + k % 120)
@@ -121,8 +128,16 @@ def plugs(o, machine, folder, rules):
     spent = daemon.processor() - before
     print("%d rules: start to the first sweep's end %.2f s; %d plugs and unplugs, %.2f ms of a processor each; plug to verdict, ms: "
           "median %.1f, most %.1f; peak %.1f MB; open files %d before, %d behind" % (
-              rules, daemon.start, o.plugs, 1000 * spent / o.plugs, statistics.median(waits), max(waits), daemon.peak(), opened,
+              rules, daemon.start, o.plugs, 1000 * spent / o.plugs, statistics.median(waits), max(waits), daemon.memory("VmHWM"), opened,
               daemon.files()), flush=True)
+    daemon.end()
+
+
+def memory(o, folder):
+    daemon = Daemon(o.program, folder, rules_with_four(65536))
+    daemon.line("end ")
+    print("65536 rules with four attributes: start to the first sweep's end %.2f s; peak %.1f MB, and %.1f MB behind the start" % (
+        daemon.start, daemon.memory("VmHWM"), daemon.memory("VmRSS")), flush=True)
     daemon.end()
 
 
@@ -141,6 +156,7 @@ def main():
         idle(o, machine, folder)
         for rules in (1, 4096, 65536):
             plugs(o, machine, folder, rules)
+        memory(o, folder)
     finally:
         shutil.rmtree(folder, ignore_errors=True)
 

@@ -4,7 +4,7 @@
     bench/many_rules.py [--program PATH] [--before PATH] [--original PATH] [--runs N] [--events N] [--only PART]
 
 --program is a usbguard, else the built one of this clone (bin/build-usbguard builds it); --before is another one, as one of a version
-before; --original is usbguard-rule-parser of Debian's package usbguard. It tells, each by the shortest of N runs (5), in which the
+before; --original is usbguard-rule-parser of Debian's package usbguard, which is taken from the PATH where it isn't given. It tells, each by the shortest of N runs (5), in which the
 programs take turns, and with the peak of memory:
 
   check   check-rules on 65,536 rules with an id alone, with four attributes, and with sets and conditions; the original's parser prints
@@ -21,6 +21,7 @@ Times are the processor's, user and system. Needs GNU time as /usr/bin/time, and
 
 import argparse
 import os
+import shutil
 import subprocess
 import sys
 import tempfile
@@ -166,12 +167,14 @@ def main():
     parser = argparse.ArgumentParser(usage=__doc__.split("\n\n")[1].strip())
     parser.add_argument("--program", type=Path, default=PROGRAM)
     parser.add_argument("--before", type=Path)
-    parser.add_argument("--original", type=Path)
+    parser.add_argument("--original", type=Path, default=shutil.which("usbguard-rule-parser"))
     parser.add_argument("--runs", type=int, default=5)
     parser.add_argument("--events", type=int, default=500000)
     parser.add_argument("--only", choices=["check", "judge", "start", "events"])
     words = parser.parse_args()
     programs = [("this", words.program)] + ([("the version before", words.before)] if words.before else [])
+    for name, program in programs + ([("the original", words.original)] if words.original else []):
+        print(f"{name}: {program}", flush=True)
     with tempfile.TemporaryDirectory(prefix="many-rules-") as room:
         folder = Path(room)
         parts = {
