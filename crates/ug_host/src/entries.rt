@@ -4,10 +4,9 @@ ghost use Rattle.std.specs.List.{list_any};
 ghost use Rattle.ug_conf.specs.Files.{FitsFolder, pointwise};
 ghost use Rattle.ug_host.specs.Names.{AreNames, AreNamesIfThere};
 
-use crate::file::FileFault;
+use crate::file::{FileFault, plain};
 use std::alloc::Global;
 use std::fs;
-use std::io::ErrorKind;
 use std::rt::Files;
 use ug_conf::FolderRead;
 use ug_types::{List, Text};
@@ -41,19 +40,16 @@ fn read_names<R: Files + AllocGlobal + Clone + Drop>(
 ) -> Result<Option<List<Text>>, FileFault>
     ensures { IfOk result AreNamesIfThere }
 {
-    let entries = match fs::read_dir(rt, folder) {
+    let entries = match plain(fs::read_dir(rt, folder)) {
         Ok(entries) => entries,
-        Err(e) => {
-            return match e.kind() {
-                ErrorKind::NotFound => Ok(None),
-                _ => Err(FileFault::from(e)),
-            };
-        }
+        Err(FileFault::Missing) => return Ok(None),
+        Err(fault) => return Err(fault),
     };
     let mut names = List::new(alloc);
     for entry in entries {
-        let entry = entry?;
-        add_name(&mut names, Text::of(alloc, entry.file_name().as_bytes())?)?;
+        let entry = plain(entry)?;
+        let name = Text::of(alloc, entry.file_name().as_bytes())?;
+        add_name(&mut names, name)?;
     }
     Ok(Some(names))
 }

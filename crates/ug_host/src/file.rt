@@ -34,6 +34,18 @@ impl From<io::Error> for FileFault {
     }
 }
 
+/// What a call on an ordinary file answers, where `ENODEV` is a failure as others are.
+pub fn plain<T>(answer: io::Result<T>) -> Result<T, FileFault> {
+    match answer {
+        Ok(value) => Ok(value),
+        Err(e) => Err(match e.kind() {
+            ErrorKind::NotFound => FileFault::Missing,
+            ErrorKind::OutOfMemory => FileFault::Memory,
+            _ => FileFault::Failed,
+        }),
+    }
+}
+
 impl From<AllocError> for FileFault {
     fn from(_error: AllocError) -> FileFault {
         FileFault::Memory
@@ -53,12 +65,16 @@ pub enum Content {
     TooLong,
 }
 
+fn add_word(path: &mut String, word: &str) -> Result<(), AllocError> {
+    path.push('/')?;
+    path.push_str(word)
+}
+
 /// A path: a folder, and the words behind it, each with a slash before it.
 pub fn join(alloc: Global, folder: &str, words: &[&str]) -> Result<String, FileFault> {
     let mut path = String::from_str(alloc, folder)?;
     for word in words {
-        path.push('/')?;
-        path.push_str(word)?;
+        add_word(&mut path, word)?;
     }
     Ok(path)
 }
@@ -74,15 +90,22 @@ pub fn word_of(name: &NodeName) -> Result<&str, FileFault> {
 /// How often a reading is made again that a signal interrupted.
 const TRIES: u32 = 1000;
 
+fn was_interrupted(read: &io::Result<usize>) -> bool {
+    match read {
+        Ok(_) => false,
+        Err(e) => e.kind() == ErrorKind::Interrupted,
+    }
+}
+
 /// Reads a piece. A file of sysfs whose device is busy answers EINTR where the program is stopped meanwhile and goes on.
 pub fn read_piece<F: Read>(file: &mut F, piece: &mut [u8]) -> io::Result<usize>
     ensures bound { IfOk result (λ count. count ≤ length piece.old) }
     ensures length { length piece.new ≡ length piece.old }
 {
     for _ in 0..TRIES {
-        match file.read(piece) {
-            Err(e) if e.kind() == ErrorKind::Interrupted => {}
-            read => return read,
+        let read = file.read(piece);
+        if !was_interrupted(&read) {
+            return read;
         }
     }
     file.read(piece)
@@ -134,14 +157,7 @@ pub fn read_number<R: Files>(rt: &R, path: &str) -> Result<u32, FileFault> {
 }
 
 fn number_of(text: &[u8]) -> Option<u32> {
-    let word = match str::from_utf8(text) {
-        Ok(word) => word,
-        Err(_) => return None,
-    };
-    match word.trim().parse::<u32>() {
-        Ok(number) => Some(number),
-        Err(_) => None,
-    }
+    str::from_utf8(text).ok()?.trim().parse::<u32>().ok()
 }
 
 /// Opens a file to write to it, and to read it where that is asked for.

@@ -49,30 +49,44 @@ impl<R: Files + AllocGlobal + Clone + Drop> Folder<R> {
         join(alloc, self.root.as_str(), &[word_of(name)?, file])
     }
 
-    // Opens a control, and behind it takes the number of the device that bears the name. That is the number of the control's device, or
-    // this one has gone by then; where none bears the name any more, none lived through.
+    // Opens the file of a control.
     fn open_file(
+        &self,
+        alloc: Global,
+        name: &NodeName,
+        control: Control,
+    ) -> Result<R::File, FileFault> {
+        let (word, read) = match control {
+            Control::Authorized => ("authorized", true),
+            Control::Remove => ("remove", false),
+            Control::Default => ("authorized_default", true),
+        };
+        let path = self.path_of(alloc, name, word)?;
+        open_to_write(&self.rt, path.as_str(), read)
+    }
+
+    // Opens a control, and behind it takes the number of the device that bears the name, of which that is the path. That is the number
+    // of the control's device, or this one has gone by then; where none bears the name any more, none lived through.
+    fn open_numbered(
+        &self,
+        alloc: Global,
+        name: &NodeName,
+        control: Control,
+        devnum_path: &str,
+    ) -> Result<(R::File, u32), FileFault> {
+        let file = self.open_file(alloc, name, control)?;
+        let devnum = read_number(&self.rt, devnum_path)?;
+        Ok((file, devnum))
+    }
+
+    fn open(
         &self,
         alloc: Global,
         name: &NodeName,
         control: Control,
     ) -> Result<OpenControl<R::File>, FileFault> {
         let devnum_path = self.path_of(alloc, name, "devnum")?;
-        let file = match control {
-            Control::Authorized => {
-                let path = self.path_of(alloc, name, "authorized")?;
-                open_to_write(&self.rt, path.as_str(), true)?
-            }
-            Control::Remove => {
-                let path = self.path_of(alloc, name, "remove")?;
-                open_to_write(&self.rt, path.as_str(), false)?
-            }
-            Control::Default => {
-                let path = self.path_of(alloc, name, "authorized_default")?;
-                open_to_write(&self.rt, path.as_str(), true)?
-            }
-        };
-        let devnum = read_number(&self.rt, devnum_path.as_str())?;
+        let (file, devnum) = self.open_numbered(alloc, name, control, devnum_path.as_str())?;
         Ok(OpenControl {
             file,
             name: *name,
@@ -92,17 +106,24 @@ impl<R: Files + AllocGlobal + Clone + Drop> Folder<R> {
         }
     }
 
-    fn read_attr(&self, alloc: Global, name: &NodeName, attr: Attr) -> Result<Content, FileFault> {
-        let (file, limit) = match attr {
-            Attr::Descriptors => ("descriptors", 131072),
-            Attr::Product => ("product", 4096),
-            Attr::Serial => ("serial", 4096),
-            Attr::Connect => {
-                return read_connect_type(&self.rt, alloc, self.root.as_str(), name);
-            }
-        };
+    fn read_text(
+        &self,
+        alloc: Global,
+        name: &NodeName,
+        file: &str,
+        limit: usize,
+    ) -> Result<Content, FileFault> {
         let path = self.path_of(alloc, name, file)?;
         read_file(&self.rt, alloc, path.as_str(), limit)
+    }
+
+    fn read_attr(&self, alloc: Global, name: &NodeName, attr: Attr) -> Result<Content, FileFault> {
+        match attr {
+            Attr::Descriptors => self.read_text(alloc, name, "descriptors", 131072),
+            Attr::Product => self.read_text(alloc, name, "product", 4096),
+            Attr::Serial => self.read_text(alloc, name, "serial", 4096),
+            Attr::Connect => read_connect_type(&self.rt, alloc, self.root.as_str(), name),
+        }
     }
 
     pub fn list(&self) -> Listing
@@ -113,7 +134,7 @@ impl<R: Files + AllocGlobal + Clone + Drop> Folder<R> {
     }
 
     pub fn open_control(&mut self, alloc: Global, name: &NodeName, control: Control) -> Opened {
-        match self.open_file(alloc, name, control) {
+        match self.open(alloc, name, control) {
             Ok(file) => {
                 let opened = self.hold(file);
                 if let (Opened::Token(held), Control::Authorized) = (opened, control) {

@@ -1,8 +1,7 @@
 // Links in a file's place: symlink(7).
-use crate::file::FileFault;
-use std::alloc::Global;
+use crate::file::{FileFault, plain};
+use std::alloc::{AllocError, Global};
 use std::fs;
-use std::io::ErrorKind;
 use std::path::AsPath;
 use std::rt::Files;
 
@@ -17,28 +16,31 @@ pub fn folder_of(path: &str) -> &str {
     }
 }
 
+fn is_link<R: Files>(rt: &R, path: &str) -> Result<bool, FileFault> {
+    match plain(fs::symlink_metadata(rt, path)) {
+        Ok(metadata) => Ok(metadata.is_symlink()),
+        Err(FileFault::Missing) => Ok(false),
+        Err(fault) => Err(fault),
+    }
+}
+
+/// The path that a link in that folder has, where it leads to the target.
+fn whole_path(alloc: Global, folder: &str, target: &str) -> Result<String, AllocError> {
+    if target.starts_with('/') {
+        return String::from_str(alloc, target);
+    }
+    let mut whole = String::from_str(alloc, folder)?;
+    whole.push_str(target)?;
+    Ok(whole)
+}
+
 /// Where the link at a path leads, or None where no link is there.
 fn follow<R: Files>(rt: &R, alloc: Global, path: &str) -> Result<Option<String>, FileFault> {
-    match fs::symlink_metadata(rt, path) {
-        Ok(metadata) => {
-            if !metadata.is_symlink() {
-                return Ok(None);
-            }
-        }
-        Err(e) => {
-            return match e.kind() {
-                ErrorKind::NotFound => Ok(None),
-                _ => Err(FileFault::from(e)),
-            };
-        }
+    if !is_link(rt, path)? {
+        return Ok(None);
     }
-    let target = rt.read_link(alloc, path)?;
-    let target = target.path_text();
-    let mut whole = String::new(alloc);
-    if !target.starts_with('/') {
-        whole.push_str(folder_of(path))?;
-    }
-    whole.push_str(target)?;
+    let target = plain(rt.read_link(alloc, path))?;
+    let whole = whole_path(alloc, folder_of(path), target.path_text())?;
     Ok(Some(whole))
 }
 

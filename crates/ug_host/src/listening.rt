@@ -3,7 +3,7 @@ use mio::net::{UnixListener, UnixStream};
 use std::fs::{self, DirBuilder};
 use std::io::{self, ErrorKind};
 use std::net::Net;
-use std::os::fd::{AsFd, AsRawFd};
+use std::os::fd::{AsFd, AsRawFd, OwnedFd};
 use std::os::unix::fs::{DirBuilderExt, FileTypeExt};
 use std::os::unix::net::{self, SocketAddr};
 use std::rt::Files;
@@ -18,6 +18,7 @@ const FOLDER_MODE: u32 = 0o700;
 const WAITING: i32 = 128;
 
 /// What stands at a path.
+#[derive(Clone, Copy)]
 enum Place {
     Free,
     /// A file at which nobody listens.
@@ -34,16 +35,21 @@ pub fn make_folder<R: Files>(rt: &R, folder: &str) -> io::Result<()> {
     }
 }
 
-// Tries to connect. A listener whose queue is full lives too.
+// What an error of that kind tells, where connecting failed. A listener whose queue is full lives too.
+fn place_by(kind: ErrorKind) -> Option<Place> {
+    match kind {
+        ErrorKind::NotFound => Some(Place::Free),
+        ErrorKind::ConnectionRefused => Some(Place::Left),
+        ErrorKind::WouldBlock => Some(Place::Taken),
+        _ => None,
+    }
+}
+
+// Tries to connect.
 fn look_at<R: Net>(rt: &R, path: &str) -> io::Result<Place> {
     match UnixStream::connect(rt, path) {
         Ok(_) => Ok(Place::Taken),
-        Err(e) => match e.kind() {
-            ErrorKind::NotFound => Ok(Place::Free),
-            ErrorKind::ConnectionRefused => Ok(Place::Left),
-            ErrorKind::WouldBlock => Ok(Place::Taken),
-            _ => Err(e),
-        },
+        Err(e) => place_by(e.kind()).ok_or(e),
     }
 }
 
@@ -66,11 +72,15 @@ pub fn check(status: i32) -> io::Result<()> {
 }
 
 // The mode is the socket's before it has a name, so its file has that mode from the first.
-fn bind<R: Files + Net>(rt: &R, path: &str) -> io::Result<UnixListener> {
-    let socket = rt.unix_socket()?;
+fn put_at<R: Files + Net>(rt: &R, socket: &OwnedFd, path: &str) -> io::Result<()> {
     check(libc::fchmod(socket.as_raw_fd(), SOCKET_MODE))?;
     rt.bind_unix(socket.as_fd(), &SocketAddr::from_pathname(path)?)?;
-    check(libc::net::listen(socket.as_raw_fd(), WAITING))?;
+    check(libc::net::listen(socket.as_raw_fd(), WAITING))
+}
+
+fn bind<R: Files + Net>(rt: &R, path: &str) -> io::Result<UnixListener> {
+    let socket = rt.unix_socket()?;
+    put_at(rt, &socket, path)?;
     let listener = net::UnixListener::from(socket);
     listener.set_nonblocking(true)?;
     Ok(UnixListener::from_std(listener))
@@ -79,9 +89,11 @@ fn bind<R: Files + Net>(rt: &R, path: &str) -> io::Result<UnixListener> {
 /// Listens at a path, at which nobody else listens.
 pub fn listen_at<R: Files + Net>(rt: &R, path: &str) -> io::Result<UnixListener> {
     match look_at(rt, path)? {
-        Place::Free => {}
-        Place::Left => remove_left(rt, path)?,
-        Place::Taken => return Err(io::Error::from(ErrorKind::AddrInUse)),
+        Place::Free => bind(rt, path),
+        Place::Left => {
+            remove_left(rt, path)?;
+            bind(rt, path)
+        }
+        Place::Taken => Err(io::Error::from(ErrorKind::AddrInUse)),
     }
-    bind(rt, path)
 }

@@ -30,21 +30,27 @@ fn count_in(text: &str) -> Option<u64> {
     line.trim().parse::<u64>().ok()
 }
 
+// The path of what the kernel tells of a socket.
+fn path_of(alloc: Global, socket: i32) -> Option<String> {
+    format!(in alloc; "/proc/self/fdinfo/{socket}").ok()
+}
+
+// A front of the file at a path.
+fn read_front<'a, R: Files>(rt: &R, path: &str, piece: &'a mut [u8]) -> Option<&'a str> {
+    let mut file = fs::open(rt, path).ok()?;
+    let count = read_piece(&mut file, piece).ok()?;
+    str::from_utf8(&piece[..count]).ok()
+}
+
 /// Whether no descriptor waits in a socket's queue, as far as the kernel tells. Closing such a socket, or taking what had come to it,
 /// waits for nobody.
 pub fn has_none<R: Files>(rt: &R, alloc: Global, socket: i32) -> bool {
-    let Ok(path) = format!(in alloc; "/proc/self/fdinfo/{socket}") else {
-        return false;
-    };
-    let Ok(mut file) = fs::open(rt, path.as_str()) else {
+    let Some(path) = path_of(alloc, socket) else {
         return false;
     };
     let mut piece = [0u8; 1024];
-    let Ok(count) = read_piece(&mut file, &mut piece) else {
-        return false;
-    };
-    match str::from_utf8(&piece[..count]) {
-        Ok(text) => count_in(text) == Some(0),
-        Err(_) => false,
+    match read_front(rt, path.as_str(), &mut piece) {
+        Some(text) => count_in(text) == Some(0),
+        None => false,
     }
 }

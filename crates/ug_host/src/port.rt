@@ -1,6 +1,6 @@
 // The connect type of the port at which a device hangs: sysfs-bus-usb, `portX/connect_type`.
 use crate::file::{Content, FileFault, join, read_file, word_of};
-use std::alloc::Global;
+use std::alloc::{AllocError, Global};
 use std::fs;
 use std::rt::Files;
 use ug_types::NodeName;
@@ -54,26 +54,80 @@ fn find_interface<R: Files + AllocGlobal + Clone + Drop>(
     Ok(None)
 }
 
-/// The path of the file at the hub's port, where the hub has an interface with ports.
+/// The same, or None where the hub has no folder.
+fn interface_of<R: Files + AllocGlobal + Clone + Drop>(
+    rt: &R,
+    folder: &str,
+    hub: &str,
+) -> Result<Option<String>, FileFault> {
+    match find_interface(rt, folder, hub) {
+        Err(FileFault::Missing) => Ok(None),
+        found => found,
+    }
+}
+
+/// The name of a port's folder.
+fn name_of_port(alloc: Global, hub: &str, port: &str) -> Result<String, AllocError> {
+    let mut name = String::from_str(alloc, hub)?;
+    name.push_str("-port")?;
+    name.push_str(port)?;
+    Ok(name)
+}
+
+/// The path of the file at the hub's port, below an interface in the hub's folder.
+fn path_below(
+    alloc: Global,
+    folder: &str,
+    interface: &str,
+    hub: &str,
+    port: &str,
+) -> Result<String, FileFault> {
+    let name = name_of_port(alloc, hub, port)?;
+    join(alloc, folder, &[interface, name.as_str(), "connect_type"])
+}
+
+/// The path of the file at the hub's port, where the hub, whose folder that is, has an interface with ports.
+fn path_in<R: Files + AllocGlobal + Clone + Drop>(
+    rt: &R,
+    folder: &str,
+    hub: &str,
+    port: &str,
+) -> Result<Option<String>, FileFault> {
+    match interface_of(rt, folder, hub)? {
+        Some(interface) => {
+            let path = path_below(rt.alloc(), folder, interface.as_str(), hub, port)?;
+            Ok(Some(path))
+        }
+        None => Ok(None),
+    }
+}
+
+/// The same, of the hub in that folder of devices.
 fn path_at_hub<R: Files + AllocGlobal + Clone + Drop>(
     rt: &R,
     root: &str,
     hub: &str,
     port: &str,
 ) -> Result<Option<String>, FileFault> {
-    let alloc = rt.alloc();
-    let folder = join(alloc, root, &[hub])?;
-    let interface = match find_interface(rt, folder.as_str(), hub) {
-        Ok(Some(interface)) => interface,
-        Ok(None) => return Ok(None),
-        Err(FileFault::Missing) => return Ok(None),
-        Err(fault) => return Err(fault),
+    let folder = join(rt.alloc(), root, &[hub])?;
+    path_in(rt, folder.as_str(), hub, port)
+}
+
+/// Reads the connect type at the port of a device's hub, where there is a hub with such a folder.
+fn read_at_hub<R: Files + AllocGlobal + Clone + Drop>(
+    rt: &R,
+    alloc: Global,
+    root: &str,
+    name: &NodeName,
+    word: &str,
+) -> Result<Content, FileFault> {
+    let Some(parent) = name.parent() else {
+        return Err(FileFault::Missing);
     };
-    let mut port_folder = String::from_str(alloc, hub)?;
-    port_folder.push_str("-port")?;
-    port_folder.push_str(port)?;
-    let words = [interface.as_str(), port_folder.as_str(), "connect_type"];
-    Ok(Some(join(alloc, folder.as_str(), &words)?))
+    let Some(path) = path_at_hub(rt, root, word_of(&parent)?, port_of(word))? else {
+        return Err(FileFault::Missing);
+    };
+    read_file(rt, alloc, path.as_str(), LIMIT)
 }
 
 /// Reads the connect type of a device. It is there before the device in the folder of the hub's port; the device's own link
@@ -85,14 +139,9 @@ pub fn read_connect_type<R: Files + AllocGlobal + Clone + Drop>(
     name: &NodeName,
 ) -> Result<Content, FileFault> {
     let word = word_of(name)?;
-    if let Some(parent) = name.parent() {
-        let hub = word_of(&parent)?;
-        if let Some(path) = path_at_hub(rt, root, hub, port_of(word))? {
-            match read_file(rt, alloc, path.as_str(), LIMIT) {
-                Err(FileFault::Missing) => {}
-                read => return read,
-            }
-        }
+    match read_at_hub(rt, alloc, root, name, word) {
+        Err(FileFault::Missing) => {}
+        read => return read,
     }
     let path = join(alloc, root, &[word, "port", "connect_type"])?;
     read_file(rt, alloc, path.as_str(), LIMIT)

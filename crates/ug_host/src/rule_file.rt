@@ -10,7 +10,7 @@ use crate::file::{Content, FileFault};
 use crate::fresh::{Fresh, make};
 use crate::plain::{read_at, text_of};
 use crate::same::has_text;
-use std::alloc::Global;
+use std::alloc::{AllocError, Global};
 use std::os::fd::AsRawFd;
 use std::rt::Files;
 use ug_store::{DiskAnswer, Loaded, RuleDisk};
@@ -119,17 +119,23 @@ where
             return Ok(true);
         }
         match self.tried.take() {
-            Some(tried) => {
-                let is = self.has(&tried)?;
-                if is {
-                    self.known = tried;
-                } else {
-                    self.tried = Some(tried);
-                }
-                Ok(is)
-            }
+            Some(tried) => self.is_tried(tried),
             None => Ok(false),
         }
+    }
+
+    // Whether the file has the text that was tried, which is then the known one.
+    fn is_tried(&mut self, tried: Text) -> Result<bool, FileFault>
+        ensures faults { self.new.faults ≡ self.old.faults }
+        ensures path { self.new.path ≡ self.old.path }
+    {
+        let is = self.has(&tried);
+        match is {
+            Ok(true) => self.known = tried,
+            Ok(false) => self.tried = Some(tried),
+            Err(_) => {}
+        }
+        is
     }
 
     // Whether a person was told of just this text.
@@ -149,10 +155,7 @@ where
         if self.was_told(&found) {
             return Ok(None);
         }
-        let sentence = format!(in alloc;
-            "usbguard: {path} was changed by another hand, so rules aren't saved in it. To take what stands there, restart the daemon; to go on with the daemon's rules, move the file away.\n"
-        )?;
-        tell(sentence.as_str());
+        tell_changed(alloc, path)?;
         Ok(Some(found))
     }
 
@@ -177,36 +180,57 @@ where
             self.tell_other(alloc)?;
             return Err(FileFault::Failed);
         }
-        let coming = Text::of(alloc, text)?;
         let path = text_of(self.path.bytes())?;
+        let coming = Text::of(alloc, text)?;
         self.fresh = Some(make(&self.rt, alloc, path, text)?);
         self.coming = Some(coming);
         Ok(())
     }
 
+    // Whether the file has the known text still.
+    fn check_known(&self) -> Result<(), FileFault> {
+        if self.has(&self.known)? {
+            Ok(())
+        } else {
+            Err(FileFault::Failed)
+        }
+    }
+
     // Puts the new file in the other's place, if that has the known text still. From then on the file has the new text, or may have it.
+    fn put(&mut self, fresh: Fresh<R::File>, coming: Text) -> Result<(), FileFault>
+        ensures faults { self.new.faults ≡ self.old.faults }
+        ensures path { self.new.path ≡ self.old.path }
+    {
+        self.check_known()?;
+        let swapped = fresh.swap(&self.rt);
+        if swapped.is_ok() {
+            self.known = coming;
+            self.tried = None;
+        } else {
+            self.tried = Some(coming);
+        }
+        swapped
+    }
+
+    // The same of the file that was written last.
     fn replace(&mut self) -> Result<(), FileFault>
         ensures faults { self.new.faults ≡ self.old.faults }
         ensures path { self.new.path ≡ self.old.path }
     {
-        let (Some(fresh), Some(coming)) = (self.fresh.take(), self.coming.take()) else {
-            return Err(FileFault::Missing);
-        };
-        if !self.has(&self.known)? {
-            return Err(FileFault::Failed);
-        }
-        match fresh.swap(&self.rt) {
-            Ok(()) => {
-                self.known = coming;
-                self.tried = None;
-                Ok(())
-            }
-            Err(fault) => {
-                self.tried = Some(coming);
-                Err(fault)
-            }
+        match (self.fresh.take(), self.coming.take()) {
+            (Some(fresh), Some(coming)) => self.put(fresh, coming),
+            _ => Err(FileFault::Missing),
         }
     }
+}
+
+// Tells a person that the file isn't the daemon's any more.
+fn tell_changed(alloc: Global, path: &str) -> Result<(), AllocError> {
+    let sentence = format!(in alloc;
+        "usbguard: {path} was changed by another hand, so rules aren't saved in it. To take what stands there, restart the daemon; to go on with the daemon's rules, move the file away.\n"
+    )?;
+    tell(sentence.as_str());
+    Ok(())
 }
 
 fn answer_of(done: Result<(), FileFault>) -> DiskAnswer {

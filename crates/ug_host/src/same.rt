@@ -1,7 +1,7 @@
 // Whether a file has a text, which takes no memory.
-use crate::file::{FileFault, read_piece};
+use crate::file::{FileFault, plain, read_piece};
 use std::fs;
-use std::io::{ErrorKind, Read};
+use std::io::Read;
 use std::rt::Files;
 
 // Whether what is left of a file is that text.
@@ -23,9 +23,9 @@ fn ends_with<F: Read>(file: &mut F, text: &[u8]) -> Result<bool, FileFault> {
 
 /// Whether the file at a path has that text, or isn't there.
 pub fn has_text<R: Files>(rt: &R, path: &str, text: &[u8]) -> Result<bool, FileFault> {
-    match fs::open(rt, path) {
+    match plain(fs::open(rt, path)) {
         Ok(mut file) => ends_with(&mut file, text),
-        Err(e) if e.kind() == ErrorKind::NotFound => Ok(true),
-        Err(e) => Err(FileFault::from(e)),
+        Err(FileFault::Missing) => Ok(true),
+        Err(fault) => Err(fault),
     }
 }

@@ -1,8 +1,8 @@
 // Files that decide what the daemon does: who may have written them.
 use crate::at_once::tell;
-use crate::file::FileFault;
+use crate::file::{FileFault, plain};
 use crate::linked::{folder_of, resolve};
-use std::alloc::Global;
+use std::alloc::{AllocError, Global};
 use std::fs::{self, Metadata, OpenFile};
 use std::io::{self, ErrorKind};
 use std::os::unix::fs::MetadataExt;
@@ -43,26 +43,53 @@ pub fn tell_failed(alloc: Global, what: &str, path: &str, error: &io::Error) {
     }
 }
 
-// Whether the file stands at the path, and nobody else can put another one there.
-fn check_folder<R: Files>(
+// The path of the folder itself, of which the text has the slash at its end, or is empty where the folder is the working one.
+fn folder_itself(alloc: Global, folder: &str) -> Result<String, AllocError> {
+    let mut path = String::from_str(alloc, folder)?;
+    path.push('.')?;
+    Ok(path)
+}
+
+fn metadata_of_folder<R: Files>(
+    rt: &R,
+    alloc: Global,
+    folder: &str,
+) -> Result<Metadata, FileFault> {
+    let path = folder_itself(alloc, folder)?;
+    plain(fs::metadata(rt, path.as_str()))
+}
+
+// Whether nobody else can put another file into the folder.
+fn check_folder<R: Files>(rt: &R, alloc: Global, folder: &str) -> Result<(), FileFault> {
+    let metadata = metadata_of_folder(rt, alloc, folder)?;
+    if is_safe_folder(&metadata) {
+        return Ok(());
+    }
+    tell_unsafe(alloc, folder, &metadata);
+    Err(FileFault::Failed)
+}
+
+// Whether the file stands at the path.
+fn check_place<R: Files>(rt: &R, path: &str, file: &Metadata) -> Result<(), FileFault> {
+    let there = plain(fs::metadata(rt, path))?;
+    if there.dev() != file.dev() || there.ino() != file.ino() {
+        return Err(FileFault::Failed);
+    }
+    Ok(())
+}
+
+// Whether the file stands behind the links at the path, and nobody else can put another one there.
+fn check_target<R: Files>(
     rt: &R,
     alloc: Global,
     path: &str,
     file: &Metadata,
 ) -> Result<(), FileFault> {
     let target = resolve(rt, alloc, path)?;
-    let mut folder = String::from_str(alloc, folder_of(target.as_str()))?;
-    folder.push('.')?;
-    let metadata = fs::metadata(rt, folder.as_str())?;
-    if !is_safe_folder(&metadata) {
-        tell_unsafe(alloc, folder_of(target.as_str()), &metadata);
-        return Err(FileFault::Failed);
+    match check_folder(rt, alloc, folder_of(target.as_str())) {
+        Ok(()) => check_place(rt, target.as_str(), file),
+        Err(fault) => Err(fault),
     }
-    let there = fs::metadata(rt, target.as_str())?;
-    if there.dev() != file.dev() || there.ino() != file.ino() {
-        return Err(FileFault::Failed);
-    }
-    Ok(())
 }
 
 fn check_file<R: Files>(
@@ -71,12 +98,12 @@ fn check_file<R: Files>(
     path: &str,
     file: &R::File,
 ) -> Result<(), FileFault> {
-    let metadata = file.metadata()?;
-    if !is_safe_file(&metadata) {
-        tell_unsafe(alloc, path, &metadata);
-        return Err(FileFault::Failed);
+    let metadata = plain(file.metadata())?;
+    if is_safe_file(&metadata) {
+        return check_target(rt, alloc, path, &metadata);
     }
-    check_folder(rt, alloc, path, &metadata)
+    tell_unsafe(alloc, path, &metadata);
+    Err(FileFault::Failed)
 }
 
 // Whether it is neither a file nor a folder. Opening a pipe would wait for its writer.
@@ -84,6 +111,21 @@ fn is_other<R: Files>(rt: &R, path: &str) -> bool {
     match fs::metadata(rt, path) {
         Ok(metadata) => !metadata.is_file() && !metadata.is_dir(),
         Err(_) => false,
+    }
+}
+
+// Opens the file at a path, and gives None where there is none. What else failed is told on standard error.
+fn open_told<R: Files>(rt: &R, alloc: Global, path: &str) -> Result<Option<R::File>, FileFault> {
+    let opened = fs::open(rt, path);
+    if let Err(error) = &opened
+        && error.kind() != ErrorKind::NotFound
+    {
+        tell_failed(alloc, "opened", path, error);
+    }
+    match plain(opened) {
+        Ok(file) => Ok(Some(file)),
+        Err(FileFault::Missing) => Ok(None),
+        Err(fault) => Err(fault),
     }
 }
 
@@ -99,15 +141,8 @@ pub fn open_trusted<R: Files>(
         tell_failed(alloc, "read: it is no file", path, &error);
         return Err(FileFault::Failed);
     }
-    let file = match fs::open(rt, path) {
-        Ok(file) => file,
-        Err(e) => {
-            if e.kind() == ErrorKind::NotFound {
-                return Ok(None);
-            }
-            tell_failed(alloc, "opened", path, &e);
-            return Err(FileFault::from(e));
-        }
+    let Some(file) = open_told(rt, alloc, path)? else {
+        return Ok(None);
     };
     check_file(rt, alloc, path, &file)?;
     Ok(Some(file))
