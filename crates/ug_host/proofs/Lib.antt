@@ -1,4 +1,5 @@
 pub mod Added
 pub mod Apart
 pub mod Counting
+pub mod Looked
 mod Written

@@ -4,3 +4,4 @@ pub mod Untold
 pub mod Zones
 pub mod RuleFiles
 pub mod Tokens
+pub mod Sockets

@@ -12,6 +12,7 @@ mod folder;
 mod fresh;
 mod hubs;
 mod linked;
+mod listener;
 mod listening;
 mod names;
 mod output;

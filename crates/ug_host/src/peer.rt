@@ -2,8 +2,10 @@
 ghost use Rattle.std.specs.Prelude.{◌≡◌, ◌↔◌, ◌<◌, ◌≤◌, length, IfOk, IsErrAnd};
 ghost use Rattle.std.specs.IoError.{error_kind};
 ghost use Rattle.ug_links.specs.Steps.{FitsRead, FitsWrite};
+ghost use Rattle.ug_host.specs.Sockets.{is_open};
 
-use crate::file::read_piece;
+use crate::file::{FileFault, read_piece};
+use crate::listener::Arrival;
 use crate::passed_files::{has_none, peek};
 use crate::tokens::token_of;
 use mio::event::Source;
@@ -67,28 +69,37 @@ fn write_answer(written: io::Result<usize>, size: usize) -> LinkWrote
 
 impl Peer {
     /// A session over that stream. No wait tells of it yet.
-    pub fn new(id: LinkId, listener: u32, stream: UnixStream) -> Peer
-        ensures { result.id ≡ id }
+    pub fn new(id: LinkId, arrival: Arrival) -> Peer
+        ensures id { result.id ≡ id }
+        ensures listener { result.listener ≡ arrival.listener }
     {
         Peer {
             id,
-            listener,
+            listener: arrival.listener,
             over: false,
-            stream,
+            stream: arrival.stream,
             waits: false,
         }
     }
 
+    /// Whether it is the session of that id, and isn't over.
+    pub fn is_open(&self, id: LinkId) -> bool
+        ensures { result ≡ is_open id self.now }
+    {
+        self.id.0 == id.0 && !self.over
+    }
+
     /// Has waits tell of it from now on. Where that can't be had, it is over.
-    pub fn begin(&mut self, registry: &Registry) -> io::Result<()>
+    pub fn begin(&mut self, registry: &Registry) -> Result<(), FileFault>
         ensures id { self.new.id ≡ self.old.id }
+        ensures listener { self.new.listener ≡ self.old.listener }
     {
         let token = token_of(Ready::Session(self.id));
         let begun = registry.register(&mut self.stream, token, Interest::READABLE);
         if begun.is_err() {
             self.end(registry);
         }
-        begun
+        Ok(begun?)
     }
 
     // Has the next wait tell what is ready now. Where that can't be had, a wait may miss it.
@@ -160,6 +171,7 @@ impl Peer {
     /// Ends the session: nothing more comes or goes, and no wait tells of it.
     pub fn end(&mut self, registry: &Registry)
         ensures id { self.new.id ≡ self.old.id }
+        ensures listener { self.new.listener ≡ self.old.listener }
     {
         self.over = true;
         let _shut = self.stream.shutdown(Shutdown::Both);

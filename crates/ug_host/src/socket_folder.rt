@@ -1,57 +1,27 @@
 // The daemon's sockets in a folder of this machine.
-ghost use Rattle.std.specs.Prelude.{◌≡◌, ◌<◌, ◌≤◌, ◌+◌, ◌-◌, ◌^◌, length, true, None, IfOk, IfSome};
+ghost use Rattle.std.specs.Prelude.{◌≡◌, ◌<◌, ◌≤◌, ◌+◌, ◌-◌, ◌^◌, ◌++◌, ◌∷◌, [], length, map, position, true, None, IfOk, IfSome};
 ghost use Rattle.ug_types.specs.Ends.{IsCounted, Rose};
 ghost use Rattle.ug_links.specs.Steps.{FitsRead, FitsWrite};
+ghost use Rattle.ug_host.specs.Sockets.{is_open};
 ghost use Rattle.ug_host.specs.Untold.{untold};
 
-use crate::file::{FileFault, join};
-use crate::listening::{listen_at, make_folder};
+use crate::file::FileFault;
+use crate::listener::{Listener, find_listener, listen_told, path_of, watch_full};
 use crate::peer::Peer;
 use crate::socket_waiter::SocketWaiter;
-use crate::tokens::{FIRST_SESSION, token_of};
-use crate::trusted::tell_failed;
-use mio::net::{UnixListener, UnixStream};
-use mio::{Interest, Registry};
+use crate::tokens::FIRST_SESSION;
+use mio::Registry;
 use std::alloc::Global;
-use std::io::{self, ErrorKind};
+use std::io;
 use std::net::Net;
 use std::rt::Files;
-use std::str;
 use ug_links::{Accepted, LinkRead, LinkWrote, Links, Listening};
-use ug_types::{LinkId, Principal, Ready};
+use ug_types::{LinkId, Principal};
 
 /// The most sessions of one listener, and of all but root's.
 const MOST_OF_ONE: usize = 16;
 
 const MOST_OF_OTHERS: usize = 56;
-
-/// A socket at which the daemon listens.
-#[derive(Drop)]
-struct Listener {
-    number: u32,
-    socket: UnixListener,
-    is_roots: bool,
-    /// Whether somebody may wait who wasn't accepted for want of a place.
-    is_full: bool,
-}
-
-impl Listener {
-    // Has the next wait tell whether somebody waits.
-    fn watch_again(&mut self, registry: &Registry) {
-        self.is_full = false;
-        let token = token_of(Ready::Listener(self.number));
-        let _again = registry.reregister(&mut self.socket, token, Interest::READABLE);
-    }
-}
-
-// Has the next wait tell of each listener at which somebody may wait for a place.
-fn watch_full(listeners: &mut [Listener], registry: &Registry) {
-    for listener in listeners {
-        if listener.is_full {
-            listener.watch_again(registry);
-        }
-    }
-}
 
 /// Unix sockets in a folder, each named by its principal's text and `.socket`. What they answer is told by the machine alone.
 ///
@@ -99,14 +69,6 @@ impl<R: Files + Net + Copy> SocketFolder<R> {
     }
 }
 
-fn next_stream(listener: &UnixListener) -> Result<Option<UnixStream>, FileFault> {
-    match listener.accept() {
-        Ok((stream, _)) => Ok(Some(stream)),
-        Err(e) if e.kind() == ErrorKind::WouldBlock => Ok(None),
-        Err(e) => Err(FileFault::from(e)),
-    }
-}
-
 impl<R: Files + Net> SocketFolder<R> {
     /// The path of a socket that couldn't be had; else the folder's.
     pub fn last_path(&self) -> &str {
@@ -126,53 +88,35 @@ impl<R: Files + Net> SocketFolder<R> {
         }
     }
 
-    fn path_of(&self, alloc: Global, principal: &Principal) -> Result<String, FileFault> {
-        let text = principal.text();
-        let Ok(name) = str::from_utf8(text.bytes()) else {
-            return Err(FileFault::Failed);
-        };
-        let mut path = join(alloc, self.folder.as_str(), &[name])?;
-        path.push_str(".socket")?;
-        Ok(path)
-    }
-
+    #[tactic(auto, using(crate::proofs::Looked::one_more_principal))]
     fn listen_for(&mut self, alloc: Global, principal: &Principal) -> Result<u32, FileFault>
         ensures number { IfOk result (λ number. number ≡ length self.old.listeners.items) }
+        ensures listener { IfOk result (λ number.
+            map (λ l. l.principal) self.new.listeners.items
+            ≡ map (λ l. l.principal) self.old.listeners.items ++ principal.now ∷ []) }
         ensures faults { self.new.faults ≡ self.old.faults }
     {
         let Ok(number) = u32::try_from(self.listeners.len()) else {
             return Err(FileFault::Failed);
         };
-        let path = self.path_of(alloc, principal)?;
+        let folder = self.folder.as_str();
+        let path = path_of(alloc, folder, principal)?;
         self.listeners.reserve(1)?;
-        make_folder(&self.rt, self.folder.as_str())?;
-        let mut socket = match listen_at(&self.rt, path.as_str()) {
-            Ok(socket) => socket,
-            Err(e) => {
-                tell_failed(alloc, "listened at", path.as_str(), &e);
-                self.last = Some(path);
-                return Err(FileFault::from(e));
-            }
-        };
-        let token = token_of(Ready::Listener(number));
-        self.registry
-            .register(&mut socket, token, Interest::READABLE)?;
-        self.listeners.push_reserved(Listener {
-            number,
-            socket,
-            is_roots: principal.text().bytes() == b"root".as_slice(),
-            is_full: false,
-        });
+        let socket = listen_told(&self.rt, alloc, folder, path, &mut self.last)?;
+        let listener = Listener::begin(number, principal, socket, &self.registry)?;
+        self.listeners.push_reserved(listener);
         Ok(number)
     }
 
     // Has the next wait tell whether another session has come.
     fn watch_again(&mut self, listener: u32)
-        requires { listener < length self.old.listeners.items }
         ensures faults { self.new.faults ≡ self.old.faults }
         ensures next { self.new.next ≡ self.old.next }
+        ensures peers { self.new.peers ≡ self.old.peers }
     {
-        self.listeners[listener as usize].watch_again(&self.registry);
+        if let Some(listener) = self.listeners.get_mut(listener as usize) {
+            listener.watch_again(&self.registry);
+        }
     }
 
     // How many sessions a listener has.
@@ -188,8 +132,8 @@ impl<R: Files + Net> SocketFolder<R> {
     }
 
     fn is_roots(&self, listener: u32) -> bool {
-        match self.listeners.get(listener as usize) {
-            Some(listener) => listener.is_roots,
+        match find_listener(self.listeners.as_slice(), listener) {
+            Some(listener) => listener.is_roots(),
             None => false,
         }
     }
@@ -241,30 +185,40 @@ impl<R: Files + Net> SocketFolder<R> {
             self.note_full(listener);
             return Ok(None);
         }
-        let Some(at) = self.listeners.get(listener as usize) else {
+        let Some(at) = find_listener(self.listeners.as_slice(), listener) else {
             return Err(FileFault::Failed);
         };
         self.peers.reserve(1)?;
         let id = LinkId(self.next);
         let next = self.next.checked_add(1).ok_or(FileFault::Failed)?;
-        let Some(stream) = next_stream(&at.socket)? else {
+        let Some(arrival) = at.accept()? else {
             return Ok(None);
         };
         self.next = next;
-        let mut peer = Peer::new(id, listener, stream);
+        let mut peer = Peer::new(id, arrival);
         let begun = peer.begin(&self.registry);
         self.peers.push_reserved(peer);
         begun?;
         self.watch_again(listener);
         Ok(Some(id))
     }
+}
 
-    fn place_of(&self, id: LinkId) -> Option<usize>
-        ensures { IfSome result (λ i. i < length self.now.peers.items) }
-    {
-        self.peers
-            .iter()
-            .position(|peer| peer.id == id && !peer.over)
+// The place of a session that isn't over.
+fn place_of(peers: &[Peer], id: LinkId) -> Option<usize>
+    ensures { result ≡ position (is_open id) peers.now }
+{
+    peers.iter().position(|peer| peer.is_open(id))
+}
+
+// A session that isn't over.
+#[tactic(auto, using(crate::proofs::Looked::open_at))]
+fn open_peer(peers: &mut [Peer], id: LinkId) -> Option<&mut Peer>
+    ensures { IfSome result (λ peer. is_open id peer.now ≡ true) }
+{
+    match place_of(peers, id) {
+        Some(i) => Some(&mut peers[i]),
+        None => None,
     }
 }
 
@@ -302,8 +256,8 @@ impl<R: Files + Net> Links for SocketFolder<R> {
     }
 
     fn read(&mut self, id: LinkId, into: &mut [u8]) -> LinkRead {
-        let answer = match self.place_of(id) {
-            Some(i) => self.peers[i].read(&self.rt, self.alloc, &self.registry, into),
+        let answer = match open_peer(&mut self.peers, id) {
+            Some(peer) => peer.read(&self.rt, self.alloc, &self.registry, into),
             None => LinkRead::Failed,
         };
         self.count(answer == LinkRead::Failed);
@@ -311,8 +265,8 @@ impl<R: Files + Net> Links for SocketFolder<R> {
     }
 
     fn write(&mut self, id: LinkId, bytes: &[u8]) -> LinkWrote {
-        let answer = match self.place_of(id) {
-            Some(i) => self.peers[i].write(&self.registry, bytes),
+        let answer = match open_peer(&mut self.peers, id) {
+            Some(peer) => peer.write(&self.registry, bytes),
             None => LinkWrote::Failed,
         };
         self.count(answer == LinkWrote::Failed);
@@ -320,8 +274,8 @@ impl<R: Files + Net> Links for SocketFolder<R> {
     }
 
     fn close(&mut self, id: LinkId) {
-        if let Some(i) = self.place_of(id) {
-            self.peers[i].end(&self.registry);
+        if let Some(peer) = open_peer(&mut self.peers, id) {
+            peer.end(&self.registry);
         }
         self.close_done();
         watch_full(self.listeners.as_mut_slice(), &self.registry);
