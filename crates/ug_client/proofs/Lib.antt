@@ -1,6 +1,8 @@
+pub mod Calls
 pub mod Ending
 pub mod Front
 pub mod OneAnswer
+pub mod Received
 pub mod Shown
 pub mod Skipping
 pub mod WatchCalls

@@ -1,13 +1,20 @@
 -- Notices that were shown of a stream, piece by piece.
-use Rattle.std.proofs.Common.{◌≡◌, ℕ, ◌+◌, ◌-◌, ◌*◌, ◌<◌, ◌≤◌, inl, false, List, [], ◌∷◌, ◌++◌, length, Option, refl, sym, ap, subst, ◌∙◌, append_assoc, length-append, arith}
+use Rattle.std.proofs.Common.{◌≡◌, ℕ, ◌+◌, ◌-◌, ◌*◌, ◌<◌, ◌≤◌, inl, inr, false, List, [], ◌∷◌, ◌++◌, length, Option, refl, sym, ap, subst, ◌∙◌, append_assoc, length-append, arith}
 use Rattle.std.proofs.lemmas.List.{append-nil}
 use Rattle.std.proofs.lemmas.Bool.{false≢true}
 use Rattle.std.specs.Prelude.{Result, Ok, Err, if◌then◌else◌}
 use Rattle.std.specs.Result.{is_ok, is_err}
-use Rattle.std.proofs.KnownBytes.{Appends-trans, Consumes-trans, Consumes-nil}
-use Rattle.std.specs.Io.KnownBytes.{Appends, Consumes}
+use Rattle.std.proofs.KnownBytes.{Appends-trans, Consumes-kept, Consumes-trans, Consumes-nil}
+use Rattle.std.specs.Io.KnownBytes.{Appends, Consumes, IsAtEnd, Keeps}
 use Rattle.ug_proto.specs.Replies.{ended_lines}
-use Rattle.ug_client.specs.Watching.{AreShort, Shows, ShowsPart, EndsShowing, WatchEnds, WatchesOn, IsWatching}
+use Rattle.ug_types.specs.LinkCalls.{TellsCall}
+use Rattle.ug_types.specs.declared.link_call.Receipt.TheVariants as receipt
+use Rattle.ug_types.specs.declared.link_call.LinkCall.{LinkCall}
+use Rattle.ug_types.specs.declared.link_call.LinkCall.TheVariants as call
+use Rattle.ug_proto.specs.Lines.{IsBeginning}
+use Rattle.ug_client.specs.Calls.{GoesOn}
+use Rattle.ug_client.specs.Watching.{AreShort, Shows, ShowsPart, EndsShowing, WantsNotices, WatchEnds, WatchesOn, IsWatching}
+use Rattle.ug_client.proofs.Calls.{no_piece, none_yet, one_piece}
 use Rattle.ug_client.proofs.Shown.{shows_none}
 use Rattle.ug_client.specs.declared.asked.Asked.{Asked}
 use Rattle.ug_client.specs.declared.asked.Asked.TheVariants as asked
@@ -69,37 +76,68 @@ smaller bytes piece room1 held1 rest room held s p r l m =
     omega (arith, whole, s.count, short_bytes s.shown s.each, p, r, l, m)
 
 -- a call's start
-pub first_ends : (start : List ℕ) (left0 : Option (List ℕ)) (most : ℕ) (held0 held : Option (List ℕ)) (ended : Asked) → EndsShowing start most held0 held ended → WatchesOn start left0 left0 most held0 held ended
-first_ends start left0 most held0 held ended t = record {
+pub first_ends : (start : List ℕ) (calls0 : Option (List LinkCall)) (left0 : Option (List ℕ)) (most : ℕ) (held0 held : Option (List ℕ)) (ended : Asked) → EndsShowing start most held0 held ended → WatchesOn start calls0 calls0 left0 left0 most held0 held ended
+first_ends start calls0 left0 most held0 held ended t = record {
   taken = [];
+  receives = (none_yet (WantsNotices most) 4096 start calls0).receives;
   source = Consumes-nil left0;
   told = ends_then start most held0 start most held0 (shows_none start most held0) [] left0 held ended (subst (λ (b : List ℕ). EndsShowing b most held0 held ended) (sym (append-nil start)) t);
 }
 
-pub first_watching : (start : List ℕ) (left0 : Option (List ℕ)) (most : ℕ) (held0 : Option (List ℕ)) (bytes : List ℕ) (room : ℕ) (held : Option (List ℕ)) → Shows start most held0 bytes room held → IsWatching start left0 left0 most held0 bytes room held
-first_watching start left0 most held0 bytes room held s = record { taken = []; source = Consumes-nil left0; shows = subst (λ (b : List ℕ). Shows b most held0 bytes room held) (sym (append-nil start)) s }
+pub first_watching : (start : List ℕ) (calls0 : Option (List LinkCall)) (left0 : Option (List ℕ)) (most : ℕ) (held0 : Option (List ℕ)) (bytes : List ℕ) (room : ℕ) (held : Option (List ℕ)) → Shows start most held0 bytes room held → IsWatching start calls0 calls0 left0 left0 most held0 bytes room held
+first_watching start calls0 left0 most held0 bytes room held s = record { taken = []; receives = none_yet (WantsNotices most) 4096 start calls0; source = Consumes-nil left0; shows = subst (λ (b : List ℕ). Shows b most held0 bytes room held) (sym (append-nil start)) s }
+
+-- more is wanted behind what was shown
+pub wants_more : (stream : List ℕ) (most : ℕ) (held0 : Option (List ℕ)) (bytes : List ℕ) (room : ℕ) (held : Option (List ℕ)) → Shows stream most held0 bytes room held → IsBeginning bytes → 0 < room → WantsNotices most stream
+wants_more stream most held0 bytes room held s b r = record { shown = s.shown; each = s.each; rest = bytes; split = s.split; begun = b; few = omega (arith, s.count, r) }
 
 -- one piece more
-module _ (start : List ℕ) (left0 left1 left : Option (List ℕ)) (most : ℕ) (held0 : Option (List ℕ)) (bytes : List ℕ) (room1 : ℕ) (held1 : Option (List ℕ)) (w : IsWatching start left0 left1 most held0 bytes room1 held1) (piece : List ℕ) (source : Consumes left1 left piece) where
+module _ (start : List ℕ) (calls0 calls1 calls : Option (List LinkCall)) (left0 left1 left : Option (List ℕ)) (most : ℕ) (held0 : Option (List ℕ)) (bytes : List ℕ) (room1 : ℕ) (held1 : Option (List ℕ)) (w : IsWatching start calls0 calls1 left0 left1 most held0 bytes room1 held1) (begun : IsBeginning bytes) (more : 0 < room1) (piece : List ℕ) (within : length piece ≤ 4096) (tells : TellsCall calls1 (call.Receive (receipt.Bytes piece)) calls) (source : Consumes left1 left piece) where
+  received : GoesOn (WantsNotices most) 4096 start calls0 calls (w.taken ++ piece)
+  received = one_piece (WantsNotices most) 4096 start calls0 calls1 calls w.taken piece w.receives (wants_more (start ++ w.taken) most held0 bytes room1 held1 w.shows begun more) within tells
+
   both : Consumes left0 left (w.taken ++ piece)
   both = Consumes-trans left0 left1 left w.taken piece w.source source
 
-  pub piece_ends : (held : Option (List ℕ)) (ended : Asked) → EndsShowing (bytes ++ piece) room1 held1 held ended → WatchesOn start left0 left most held0 held ended
+  pub piece_ends : (held : Option (List ℕ)) (ended : Asked) → EndsShowing (bytes ++ piece) room1 held1 held ended → WatchesOn start calls0 calls left0 left most held0 held ended
   piece_ends held ended t = record {
     taken = w.taken ++ piece;
+    receives = received.receives;
     source = both;
     told = subst (λ (b : List ℕ). WatchEnds b left most held0 held ended) (append_assoc start w.taken piece) (ends_then (start ++ w.taken) most held0 bytes room1 held1 w.shows piece left held ended t);
   }
 
-  pub piece_watching : (rest : List ℕ) (room : ℕ) (held : Option (List ℕ)) → Shows (bytes ++ piece) room1 held1 rest room held → IsWatching start left0 left most held0 rest room held
+  pub piece_watching : (rest : List ℕ) (room : ℕ) (held : Option (List ℕ)) → Shows (bytes ++ piece) room1 held1 rest room held → IsWatching start calls0 calls left0 left most held0 rest room held
   piece_watching rest room held t = record {
     taken = w.taken ++ piece;
+    receives = received;
     source = both;
     shows = subst (λ (b : List ℕ). Shows b most held0 rest room held) (append_assoc start w.taken piece) (shows_then (start ++ w.taken) most held0 bytes room1 held1 w.shows piece rest room held t);
   }
 
-  pub piece_lost : WatchesOn start left0 left most held0 held1 asked.Memory
+  pub piece_lost : WatchesOn start calls0 calls left0 left most held0 held1 asked.Memory
   piece_lost = piece_ends held1 asked.Memory (record { rest = bytes ++ piece; room = room1; told = shows_none (bytes ++ piece) room1 held1 })
+
+-- no piece more
+module _ (start : List ℕ) (calls0 calls1 calls : Option (List LinkCall)) (left0 left1 left : Option (List ℕ)) (most : ℕ) (held0 : Option (List ℕ)) (bytes : List ℕ) (room1 : ℕ) (held1 : Option (List ℕ)) (w : IsWatching start calls0 calls1 left0 left1 most held0 bytes room1 held1) (begun : IsBeginning bytes) (more : 0 < room1) (kept : Keeps left1 left) where
+  wanted : WantsNotices most (start ++ w.taken)
+  wanted = wants_more (start ++ w.taken) most held0 bytes room1 held1 w.shows begun more
+
+  pub watched_to_end : TellsCall calls1 (call.Receive receipt.End) calls → IsAtEnd left → WatchesOn start calls0 calls left0 left most held0 held1 asked.Done
+  watched_to_end tells end = record {
+    taken = w.taken;
+    receives = no_piece (WantsNotices most) 4096 start calls0 calls1 calls w.taken receipt.End refl w.receives wanted tt tells;
+    source = Consumes-kept left0 left1 left w.taken w.source kept;
+    told = record { rest = bytes; room = room1; shows = w.shows; why = inr (end, begun) };
+  }
+
+  pub watched_to_failure : TellsCall calls1 (call.Receive receipt.Failed) calls → WatchesOn start calls0 calls left0 left most held0 held1 asked.LinkFailed
+  watched_to_failure tells = record {
+    taken = w.taken;
+    receives = no_piece (WantsNotices most) 4096 start calls0 calls1 calls w.taken receipt.Failed refl w.receives wanted tt tells;
+    source = Consumes-kept left0 left1 left w.taken w.source kept;
+    told = record { rest = bytes; room = room1; shows = w.shows };
+  }
 
 -- a vector that took the bytes
 pub grown : {A E : Type 0} (r : Result A E) (new old piece : List ℕ) → new ≡ (if is_ok r then old ++ piece else old) → false ≡ is_err r → new ≡ old ++ piece

@@ -6,7 +6,9 @@ use Rattle.ug_proto.specs.Texts.{request_text}
 use Rattle.ug_proto.specs.declared.reply.Reply.{Reply}
 use Rattle.ug_proto.specs.declared.reply.Reply.TheVariants.{Lines, Refused}
 use Rattle.ug_client.specs.Answers.{Replied, printed}
+use Rattle.ug_types.specs.declared.link_call.LinkCall.{LinkCall}
 use Rattle.ug_client.specs.Awaiting.{TakesNoMore, GivesNoReply}
+use Rattle.ug_client.specs.Calls.{CallsInVain, CallsToAsk, TellsCalls, calls_to_ask}
 use Rattle.ug_client.specs.declared.send.Sent.{Sent}
 use Rattle.ug_client.specs.declared.send.Sent.TheVariants as sent
 use Rattle.ug_client.specs.declared.asked.Asked.{Asked}
@@ -26,6 +28,12 @@ abbrev pub SendsLine : Option (List ℕ) → Option (List ℕ) → List ℕ → 
 SendsLine before after line sent.Done = Appends before after line
 SendsLine before after line sent.Failed = AppendsPart before after line
 SendsLine before after line sent.Memory = Keeps before after
+
+-- the calls of the sending, by how it ended
+abbrev pub SendsCalls : List ℕ → List ℕ → Option (List LinkCall) → Option (List LinkCall) → Sent → Type 0
+SendsCalls path line before after sent.Done = TellsCalls before (calls_to_ask path line []) after
+SendsCalls path line before after sent.Failed = CallsInVain path line before after asked.LinkFailed
+SendsCalls path line before after sent.Memory = CallsInVain path line before after asked.Memory
 
 -- how a call ends whose reply was read and printed
 abbrev pub end_of : Reply → Asked
@@ -66,9 +74,10 @@ ToldBy taken left before after asked.LinkFailed = Keeps before after
 ToldBy taken left before after asked.WriteFault = Printed taken before after asked.WriteFault
 ToldBy taken left before after asked.Memory = Keeps before after
 
--- the whole call
-pub record Asks (line : List ℕ) (sent0 sent left0 left held0 held : Option (List ℕ)) (result : Asked) : Type 0 where
+-- the whole call, of a request's line at the socket of that path
+pub record Asks (path line : List ℕ) (calls0 calls : Option (List LinkCall)) (sent0 sent left0 left held0 held : Option (List ℕ)) (result : Asked) : Type 0 where
   pub taken : List ℕ
+  pub made : CallsToAsk path line calls0 calls taken result
   pub source : Consumes left0 left taken
   pub enough : TakesNoMore taken
   pub requested : SentBy sent0 sent line result

@@ -1,7 +1,9 @@
 -- What was taken from a link whose reply is awaited.
-use Rattle.std.specs.Prelude.{◌≡◌, ℕ, ◌≤◌, List, ◌++◌, length, drop, Option}
+use Rattle.std.specs.Prelude.{◌≡◌, ℕ, ◌≤◌, List, [], ◌++◌, length, drop, Option}
 use Rattle.std.specs.Io.KnownBytes.{Consumes, IsAtEnd}
 use Rattle.ug_client.specs.Answers.{Replied, IsUnanswered, IsAwaiting, IsNoAnswer}
+use Rattle.ug_types.specs.declared.link_call.LinkCall.{LinkCall}
+use Rattle.ug_client.specs.Calls.{Receives}
 use Rattle.ug_client.specs.declared.receive.Awaited.{Awaited}
 use Rattle.ug_client.specs.declared.receive.Awaited.TheVariants as awaited
 
@@ -31,8 +33,9 @@ CameTo taken left kept awaited.NoReply = GivesNoReply taken left
 CameTo taken left kept awaited.LinkFailed = Unit {0}
 CameTo taken left kept awaited.Memory = Unit {0}
 
-pub record Awaits (left0 left : Option (List ℕ)) (kept : List ℕ) (result : Awaited) : Type 0 where
+pub record Awaits (calls0 calls : Option (List LinkCall)) (left0 left : Option (List ℕ)) (kept : List ℕ) (result : Awaited) : Type 0 where
   pub taken : List ℕ
+  pub receives : Receives IsAwaiting 65536 [] calls0 calls taken
   pub source : Consumes left0 left taken
   pub enough : TakesNoMore taken
   pub told : CameTo taken left kept result

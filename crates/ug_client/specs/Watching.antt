@@ -5,9 +5,12 @@ use Rattle.ug_types.specs.Elements.{Has}
 use Rattle.ug_proto.specs.declared.reply.Reply.{Reply}
 use Rattle.ug_proto.specs.Lines.{IsBeginning}
 use Rattle.ug_proto.specs.Replies.{ended_lines}
-use Rattle.ug_client.specs.Answers.{IsNotice, Replied, printed}
+use Rattle.ug_client.specs.Answers.{IsAwaiting, IsNotice, Replied, printed}
 use Rattle.ug_client.specs.Awaiting.{TakesNoMore}
 use Rattle.ug_client.specs.Asking.{AppendsPart, SentBy, ToldBy, end_of}
+use Rattle.ug_types.specs.declared.link_call.LinkCall.{LinkCall}
+use Rattle.ug_types.specs.declared.link_call.Receipt.{Receipt}
+use Rattle.ug_client.specs.Calls.{AreWanted, CallsToAsk, GoesOn, Receives, TellsCalls, bytes_in, calls_to_ask}
 use Rattle.ug_client.specs.declared.asked.Asked.{Asked}
 use Rattle.ug_client.specs.declared.asked.Asked.TheVariants as asked
 use Rattle.ug_client.specs.declared.lines.Next.{Next}
@@ -106,26 +109,48 @@ WatchEnds stream left most held0 held asked.LinkFailed = ShowsSome stream most h
 WatchEnds stream left most held0 held asked.WriteFault = ShowsPart stream most held0 held
 WatchEnds stream left most held0 held asked.Memory = ShowsSome stream most held0 held
 
+-- fewer notices than may be printed stand whole in the stream, and behind them the beginning of a line
+pub record WantsNotices (most : ℕ) (stream : List ℕ) : Type 0 where
+  pub shown : List (List ℕ)
+  pub each : AreShort shown
+  pub rest : List ℕ
+  pub split : stream ≡ ended_lines shown ++ rest
+  pub begun : IsBeginning rest
+  pub few : length shown < most
+
 -- the same where these bytes stood there and more were taken
-pub record WatchesOn (start : List ℕ) (left0 left : Option (List ℕ)) (most : ℕ) (held0 held : Option (List ℕ)) (result : Asked) : Type 0 where
+pub record WatchesOn (start : List ℕ) (calls0 calls : Option (List LinkCall)) (left0 left : Option (List ℕ)) (most : ℕ) (held0 held : Option (List ℕ)) (result : Asked) : Type 0 where
   pub taken : List ℕ
+  pub receives : Receives (WantsNotices most) 4096 start calls0 calls taken
   pub source : Consumes left0 left taken
   pub told : WatchEnds (start ++ taken) left most held0 held result
 
 -- so far
-pub record IsWatching (start : List ℕ) (left0 left : Option (List ℕ)) (most : ℕ) (held0 : Option (List ℕ)) (bytes : List ℕ) (room : ℕ) (held : Option (List ℕ)) : Type 0 where
+pub record IsWatching (start : List ℕ) (calls0 calls : Option (List LinkCall)) (left0 left : Option (List ℕ)) (most : ℕ) (held0 : Option (List ℕ)) (bytes : List ℕ) (room : ℕ) (held : Option (List ℕ)) : Type 0 where
   pub taken : List ℕ
+  pub receives : GoesOn (WantsNotices most) 4096 start calls0 calls taken
   pub source : Consumes left0 left taken
   pub shows : Shows (start ++ taken) most held0 bytes room held
 
+-- the calls up to the reply, and then receives only while notices are to be printed
+pub record CallsToWatch (path line : List ℕ) (calls0 calls : Option (List LinkCall)) (most : ℕ) (front behind further : List ℕ) : Type 0 where
+  pub receipts : List Receipt
+  pub gave : front ≡ bytes_in receipts
+  pub wanted : AreWanted IsAwaiting 65536 [] receipts
+  pub more : List Receipt
+  pub gave_more : further ≡ bytes_in more
+  pub wanted_more : AreWanted (WantsNotices most) 4096 behind more
+  pub tells : TellsCalls calls0 (calls_to_ask path line (receipts ++ more)) calls
+
 -- the call ended as a request ends that isn't done
-pub record EndsBefore (taken : List ℕ) (left held0 held : Option (List ℕ)) (result : Asked) : Type 0 where
+pub record EndsBefore (path line : List ℕ) (calls0 calls : Option (List LinkCall)) (taken : List ℕ) (left held0 held : Option (List ℕ)) (result : Asked) : Type 0 where
+  pub made : CallsToAsk path line calls0 calls taken result
   pub undone : ¬ (result ≡ asked.Done)
   pub enough : TakesNoMore taken
   pub told : ToldBy taken left held0 held result
 
 -- an Ok reply stands in front, and its lines were written; then it ended
-pub record EndsBehind (taken : List ℕ) (left : Option (List ℕ)) (most : ℕ) (held0 held : Option (List ℕ)) (result : Asked) : Type 0 where
+pub record EndsBehind (path line : List ℕ) (calls0 calls : Option (List LinkCall)) (taken : List ℕ) (left : Option (List ℕ)) (most : ℕ) (held0 held : Option (List ℕ)) (result : Asked) : Type 0 where
   pub front : List ℕ
   pub further : List ℕ
   pub whole : taken ≡ front ++ further
@@ -134,13 +159,14 @@ pub record EndsBehind (taken : List ℕ) (left : Option (List ℕ)) (most : ℕ)
   pub ok : end_of reply ≡ asked.Done
   pub behind : List ℕ
   pub replied : Replied front reply behind
+  pub made : CallsToWatch path line calls0 calls most front behind further
   pub held1 : Option (List ℕ)
   pub written : Appends held0 held1 (printed reply)
   pub told : WatchEnds (behind ++ further) left most held1 held result
 
--- the whole call
-pub record Watches (line : List ℕ) (most : ℕ) (sent0 sent left0 left held0 held : Option (List ℕ)) (result : Asked) : Type 0 where
+-- the whole call, of the request's line at the socket of that path
+pub record Watches (path line : List ℕ) (most : ℕ) (calls0 calls : Option (List LinkCall)) (sent0 sent left0 left held0 held : Option (List ℕ)) (result : Asked) : Type 0 where
   pub taken : List ℕ
   pub source : Consumes left0 left taken
   pub requested : SentBy sent0 sent line result
-  pub told : EndsBefore taken left held0 held result ⊎ EndsBehind taken left most held0 held result
+  pub told : EndsBefore path line calls0 calls taken left held0 held result ⊎ EndsBehind path line calls0 calls taken left most held0 held result

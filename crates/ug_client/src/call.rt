@@ -23,7 +23,8 @@ pub fn ask<L: Link, K: Sink>(
     request: &Request,
     out: &mut K,
 ) -> Asked
-    ensures asks { Asks (request_line request.now) (L.sent link.old) (L.sent link.new)
+    ensures asks { Asks path.now (request_line request.now) (L.told link.old) (L.told link.new)
+        (L.sent link.old) (L.sent link.new)
         (L.left link.old) (L.left link.new) (K.held out.old) (K.held out.new) result }
     ensures link { result ≡ Asked.LinkFailed → Rose (L.faults link.old) (L.faults link.new) }
     ensures sink { result ≡ Asked.WriteFault → Rose (K.faults out.old) (K.faults out.new) }
@@ -52,7 +53,8 @@ pub fn watch<L: Link, K: Sink>(
     most: u64,
     out: &mut K,
 ) -> Asked
-    ensures watches { Watches (request_line request.Watch) most (L.sent link.old) (L.sent link.new)
+    ensures watches { Watches path.now (request_line request.Watch) most
+        (L.told link.old) (L.told link.new) (L.sent link.old) (L.sent link.new)
         (L.left link.old) (L.left link.new) (K.held out.old) (K.held out.new) result }
     ensures link { result ≡ Asked.LinkFailed → Rose (L.faults link.old) (L.faults link.new) }
     ensures sink { result ≡ Asked.WriteFault → Rose (K.faults out.old) (K.faults out.new) }

@@ -25,7 +25,8 @@ pub enum Awaited {
 /// Takes bytes of the link until a reply is whole, and keeps them.
 pub fn await_reply<L: Link>(alloc: Global, link: &mut L, kept: &mut Vec<u8>) -> Awaited
     requires { kept.old.items ≡ [] }
-    ensures awaits { Awaits (L.left link.old) (L.left link.new) kept.new.items result }
+    ensures awaits { Awaits (L.told link.old) (L.told link.new)
+        (L.left link.old) (L.left link.new) kept.new.items result }
     ensures sent { Keeps (L.sent link.old) (L.sent link.new) }
     ensures counted { L.faults link.old ≤ L.faults link.new }
     ensures cause { result ≡ Awaited.LinkFailed → Rose (L.faults link.old) (L.faults link.new) }

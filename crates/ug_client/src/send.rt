@@ -2,7 +2,7 @@
 ghost use Rattle.std.specs.Prelude.{◌≡◌, ◌≤◌, IfOk};
 ghost use Rattle.std.specs.Io.KnownBytes.{Keeps};
 ghost use Rattle.ug_types.specs.Ends.{Rose};
-ghost use Rattle.ug_client.specs.Asking.{request_line, SendsLine};
+ghost use Rattle.ug_client.specs.Asking.{request_line, SendsCalls, SendsLine};
 
 use std::alloc::Global;
 use ug_proto::{Request, print_request};
@@ -26,6 +26,7 @@ fn print_line(alloc: Global, request: &Request) -> Result<Vec<u8>, NoMemory>
 
 /// Connects to the socket of that path, and sends the request's line.
 pub fn send_request<L: Link>(alloc: Global, link: &mut L, path: &[u8], request: &Request) -> Sent
+    ensures made { SendsCalls path.now (request_line request.now) (L.told link.old) (L.told link.new) result }
     ensures sent { SendsLine (L.sent link.old) (L.sent link.new) (request_line request.now) result }
     ensures left { Keeps (L.left link.old) (L.left link.new) }
     ensures counted { L.faults link.old ≤ L.faults link.new }

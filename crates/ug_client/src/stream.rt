@@ -45,7 +45,8 @@ fn watch_notices<L: Link, K: Sink>(
     kept: &mut Vec<u8>,
     most: u64,
 ) -> Asked
-    ensures watches { WatchesOn kept.old.items (L.left link.old) (L.left link.new)
+    ensures watches { WatchesOn kept.old.items (L.told link.old) (L.told link.new)
+        (L.left link.old) (L.left link.new)
         most (K.held out.old) (K.held out.new) result }
     ensures sent { Keeps (L.sent link.old) (L.sent link.new) }
     ensures link { result ≡ Asked.LinkFailed → Rose (L.faults link.old) (L.faults link.new) }
@@ -84,7 +85,8 @@ pub fn watch_behind<L: Link, K: Sink>(
     bytes: &[u8],
     most: u64,
 ) -> Asked
-    ensures watches { WatchesOn bytes.now (L.left link.old) (L.left link.new)
+    ensures watches { WatchesOn bytes.now (L.told link.old) (L.told link.new)
+        (L.left link.old) (L.left link.new)
         most (K.held out.old) (K.held out.new) result }
     ensures sent { Keeps (L.sent link.old) (L.sent link.new) }
     ensures link { result ≡ Asked.LinkFailed → Rose (L.faults link.old) (L.faults link.new) }

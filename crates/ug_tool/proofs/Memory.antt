@@ -7,7 +7,10 @@ use Rattle.ug_console.specs.Statuses.{Answers, FirstLines, OfNoMemory}
 use Rattle.ug_console.specs.WholeInputs.{AnswersWhole}
 use Rattle.ug_console.specs.declared.results.Ended.{Ended}
 use Rattle.ug_console.specs.declared.results.Ended.TheVariants.{Memory, WriteFault}
+use Rattle.ug_types.specs.declared.link_call.LinkCall.{LinkCall}
+use Rattle.ug_client.specs.Calls.{Unprinted}
 use Rattle.ug_client.specs.declared.asked.Asked.TheVariants as asked
+use Rattle.ug_client.proofs.Calls.{tells_nothing}
 use Rattle.ug_client.proofs.Ending.{unsent_memory}
 use Rattle.ug_client.proofs.WatchCalls.{ends_before}
 use Rattle.ug_script.specs.Generating.{TellsFaultAlone}
@@ -88,22 +91,22 @@ memory_done : ¬ (asked.Memory ≡ asked.Done)
 memory_done e = cc
 
 -- of a request
-pub request_unsent : (line : List ℕ) (sent left before held : Option (List ℕ)) (faults status : ℕ)
-    → IsOutOfMemory before held status → AsksAndEnds line sent sent left left before held faults faults status
-request_unsent line sent left before held faults status h = record {
+pub request_unsent : (path line : List ℕ) (calls : Option (List LinkCall)) (sent left before held : Option (List ℕ)) (faults status : ℕ)
+    → IsOutOfMemory before held status → AsksAndEnds path line calls calls sent sent left left before held faults faults status
+request_unsent path line calls sent left before held faults status h = record {
   came = asked.Memory;
   between = before;
-  asks = unsent_memory line sent sent left left before (Keeps-refl sent) (Keeps-refl left);
+  asks = unsent_memory path line calls calls sent sent left left before (Unprinted refl (tells_nothing calls)) (Keeps-refl sent) (Keeps-refl left);
   cause = λ e. absurd (memory_failed e);
   ends = h;
 }
 
-pub watch_unsent : (line : List ℕ) (most : ℕ) (sent left before held : Option (List ℕ)) (faults status : ℕ)
-    → IsOutOfMemory before held status → WatchesAndEnds line most sent sent left left before held faults faults status
-watch_unsent line most sent left before held faults status h = record {
+pub watch_unsent : (path line : List ℕ) (most : ℕ) (calls : Option (List LinkCall)) (sent left before held : Option (List ℕ)) (faults status : ℕ)
+    → IsOutOfMemory before held status → WatchesAndEnds path line most calls calls sent sent left left before held faults faults status
+watch_unsent path line most calls sent left before held faults status h = record {
   came = asked.Memory;
   between = before;
-  watches = ends_before line most sent sent left left before before asked.Memory memory_done (unsent_memory line sent sent left left before (Keeps-refl sent) (Keeps-refl left));
+  watches = ends_before path line most calls calls sent sent left left before before asked.Memory memory_done (unsent_memory path line calls calls sent sent left left before (Unprinted refl (tells_nothing calls)) (Keeps-refl sent) (Keeps-refl left));
   cause = λ e. absurd (memory_failed e);
   ends = h;
 }

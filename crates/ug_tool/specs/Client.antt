@@ -3,6 +3,7 @@ use Rattle.std.specs.Prelude.{◌≡◌, ℕ, List, Option, codes}
 use Rattle.std.specs.Io.KnownBytes.{Keeps}
 use Rattle.ug_types.specs.Ends.{Rose}
 use Rattle.ug_console.specs.Fold.{no_memory}
+use Rattle.ug_types.specs.declared.link_call.LinkCall.{LinkCall}
 use Rattle.ug_client.specs.Asking.{Asks}
 use Rattle.ug_client.specs.Watching.{Watches}
 use Rattle.ug_client.specs.declared.asked.Asked.{Asked}
@@ -21,18 +22,18 @@ Ends before after asked.LinkFailed status = EndsIn link_fault 8 before after sta
 Ends before after asked.WriteFault status = (status ≡ 5) × Keeps before after
 Ends before after asked.Memory status = EndsIn no_memory 6 before after status
 
--- a request and its reply: `faults` are those of the link
-pub record AsksAndEnds (line : List ℕ) (sent0 sent left0 left held0 held : Option (List ℕ)) (faults0 faults : ℕ) (status : ℕ) : Type 0 where
+-- a request at the socket of that path, and its reply: `faults` are those of the link
+pub record AsksAndEnds (path line : List ℕ) (calls0 calls : Option (List LinkCall)) (sent0 sent left0 left held0 held : Option (List ℕ)) (faults0 faults : ℕ) (status : ℕ) : Type 0 where
   pub came : Asked
   pub between : Option (List ℕ)
-  pub asks : Asks line sent0 sent left0 left held0 between came
+  pub asks : Asks path line calls0 calls sent0 sent left0 left held0 between came
   pub cause : came ≡ asked.LinkFailed → Rose faults0 faults
   pub ends : Ends between held came status
 
 -- the same with so many notices behind it at most
-pub record WatchesAndEnds (line : List ℕ) (most : ℕ) (sent0 sent left0 left held0 held : Option (List ℕ)) (faults0 faults : ℕ) (status : ℕ) : Type 0 where
+pub record WatchesAndEnds (path line : List ℕ) (most : ℕ) (calls0 calls : Option (List LinkCall)) (sent0 sent left0 left held0 held : Option (List ℕ)) (faults0 faults : ℕ) (status : ℕ) : Type 0 where
   pub came : Asked
   pub between : Option (List ℕ)
-  pub watches : Watches line most sent0 sent left0 left held0 between came
+  pub watches : Watches path line most calls0 calls sent0 sent left0 left held0 between came
   pub cause : came ≡ asked.LinkFailed → Rose faults0 faults
   pub ends : Ends between held came status

@@ -37,7 +37,8 @@ pub fn ask_daemon<L: Link, K: Sink>(
     request: &Request,
     out: &mut K,
 ) -> u8
-    ensures asks { AsksAndEnds (request_line request.now) (L.sent link.old) (L.sent link.new)
+    ensures asks { AsksAndEnds path.now (request_line request.now) (L.told link.old) (L.told link.new)
+        (L.sent link.old) (L.sent link.new)
         (L.left link.old) (L.left link.new) (K.held out.old) (K.held out.new)
         (L.faults link.old) (L.faults link.new) result }
     ensures not_read { result ≢ 4 }
@@ -55,7 +56,8 @@ pub fn watch_daemon<L: Link, K: Sink>(
     most: u64,
     out: &mut K,
 ) -> u8
-    ensures watches { WatchesAndEnds (request_line request.Watch) most (L.sent link.old) (L.sent link.new)
+    ensures watches { WatchesAndEnds path.now (request_line request.Watch) most (L.told link.old) (L.told link.new)
+        (L.sent link.old) (L.sent link.new)
         (L.left link.old) (L.left link.new) (K.held out.old) (K.held out.new)
         (L.faults link.old) (L.faults link.new) result }
     ensures not_read { result ≢ 4 }

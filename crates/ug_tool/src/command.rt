@@ -93,10 +93,12 @@ pub fn carry_out<S: Source, K: Sink, L: Link>(
         → (all base : List ℕ) → S.left input.old ≡ Some all → K.held out.old ≡ Some base
         → adding.Answers asked all base (S.left input.new) (K.held out.new) result }
     ensures asked { (socket : List ℕ) (request : Request) → command.now ≡ commands.Ask socket request
-        → AsksAndEnds (request_line request) (L.sent link.old) (L.sent link.new) (L.left link.old) (L.left link.new)
+        → AsksAndEnds socket (request_line request) (L.told link.old) (L.told link.new)
+        (L.sent link.old) (L.sent link.new) (L.left link.old) (L.left link.new)
         (K.held out.old) (K.held out.new) (L.faults link.old) (L.faults link.new) result }
     ensures watched { (socket : List ℕ) (most : ℕ) → command.now ≡ commands.Watch socket most
-        → WatchesAndEnds (request_line request.Watch) most (L.sent link.old) (L.sent link.new) (L.left link.old) (L.left link.new)
+        → WatchesAndEnds socket (request_line request.Watch) most (L.told link.old) (L.told link.new)
+        (L.sent link.old) (L.sent link.new) (L.left link.old) (L.left link.new)
         (K.held out.old) (K.held out.new) (L.faults link.old) (L.faults link.new) result }
     ensures ended { gives_ended command.now ≡ true → (ended : Ended) × (result ≡ status_of ended) }
     ensures checked_ended { command.now ≡ commands.CheckRules → (ended : Ended) × (result ≡ checking.status_of ended) }

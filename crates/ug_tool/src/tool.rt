@@ -95,10 +95,12 @@ pub fn run_tool<S: Source, K: Sink, L: Link>(
         → (all base : List ℕ) → S.left input.old ≡ Some all → K.held out.old ≡ Some base
         → adding.Answers asked all base (S.left input.new) (K.held out.new) result }
     ensures asked { (socket : List ℕ) (request : Request) → command_in (map (λ word. word.now) words.now) ≡ Some (command.Ask socket request)
-        → AsksAndEnds (request_line request) (L.sent link.old) (L.sent link.new) (L.left link.old) (L.left link.new)
+        → AsksAndEnds socket (request_line request) (L.told link.old) (L.told link.new)
+        (L.sent link.old) (L.sent link.new) (L.left link.old) (L.left link.new)
         (K.held out.old) (K.held out.new) (L.faults link.old) (L.faults link.new) result }
     ensures watched { (socket : List ℕ) (most : ℕ) → command_in (map (λ word. word.now) words.now) ≡ Some (command.Watch socket most)
-        → WatchesAndEnds (request_line request.Watch) most (L.sent link.old) (L.sent link.new) (L.left link.old) (L.left link.new)
+        → WatchesAndEnds socket (request_line request.Watch) most (L.told link.old) (L.told link.new)
+        (L.sent link.old) (L.sent link.new) (L.left link.old) (L.left link.new)
         (K.held out.old) (K.held out.new) (L.faults link.old) (L.faults link.new) result }
     ensures ended { (c : Command) → command_in (map (λ word. word.now) words.now) ≡ Some c → gives_ended c ≡ true → (ended : Ended) × (result ≡ status_of ended) }
     ensures checked_ended { command_in (map (λ word. word.now) words.now) ≡ Some command.CheckRules → (ended : Ended) × (result ≡ checking.status_of ended) }

@@ -21,7 +21,10 @@ memory_undone e = cc
 
 pub returns-in-Done-write_answer-clause-watches : goal.returns-in-Done-write_answer-clause-watches
 returns-in-Done-write_answer-clause-watches g c =
+    let path = c.args.path.now in
     let line = request_line request.Watch in
+    let calls0 = g.L.Link.told c.args.link.now in
+    let calls1 = g.L.Link.told c.send_request.new.link in
     let sent0 = g.L.Link.sent c.args.link.now in
     let sent1 = g.L.Link.sent c.send_request.new.link in
     let left0 = g.L.Link.left c.args.link.now in
@@ -32,18 +35,21 @@ returns-in-Done-write_answer-clause-watches g c =
     let held1 = g.K.Sink.held c.write_answer.new.out in
     let held = g.K.Sink.held c.watch_behind.new.out in
     let place = c.in-Replied.place in
-    let on : WatchesOn (drop place c.deref.result.now) left2 left c.args.most held1 held c.watch_behind.result = subst (λ (b : List ℕ). WatchesOn b left2 left c.args.most held1 held c.watch_behind.result) (to_end place c.deref.result.now) c.watch_behind.ensures.watches in
-    ends_behind line c.args.most sent0 sent1 (g.L.Link.sent c.await_reply.new.link) (g.L.Link.sent c.watch_behind.new.link) left0 left1 left2 left
+    let on : WatchesOn (drop place c.deref.result.now) (g.L.Link.told c.await_reply.new.link) (g.L.Link.told c.watch_behind.new.link) left2 left c.args.most held1 held c.watch_behind.result = subst (λ (b : List ℕ). WatchesOn b (g.L.Link.told c.await_reply.new.link) (g.L.Link.told c.watch_behind.new.link) left2 left c.args.most held1 held c.watch_behind.result) (to_end place c.deref.result.now) c.watch_behind.ensures.watches in
+    ends_behind path line c.args.most calls0 calls1 (g.L.Link.told c.await_reply.new.link) (g.L.Link.told c.watch_behind.new.link) c.in-Done.ensures.made sent0 sent1 (g.L.Link.sent c.await_reply.new.link) (g.L.Link.sent c.watch_behind.new.link) left0 left1 left2 left
     c.in-Done.ensures.sent c.await_reply.ensures.sent c.watch_behind.ensures.sent c.send_request.ensures.left
     held0 held1 held c.await_reply.new.kept.items c.in-Replied.reply place c.watch_behind.result c.in-Replied.ensures.awaits c.in-Done-write_answer.ensures.written
-    (subst (λ (b : List ℕ). WatchesOn (drop place b) left2 left c.args.most held1 held c.watch_behind.result) c.deref.ensures.value on)
+    (subst (λ (b : List ℕ). WatchesOn (drop place b) (g.L.Link.told c.await_reply.new.link) (g.L.Link.told c.watch_behind.new.link) left2 left c.args.most held1 held c.watch_behind.result) c.deref.ensures.value on)
 
 pub returns-in-Done-write_answer-clause-sink : goal.returns-in-Done-write_answer-clause-sink
 returns-in-Done-write_answer-clause-sink g c = λ e. rose_after (g.K.Sink.faults c.args.out.now) (g.K.Sink.faults c.write_answer.new.out) (g.K.Sink.faults c.watch_behind.new.out) c.write_answer.ensures.counted c.watch_behind.ensures.sinks (c.watch_behind.ensures.sink e)
 
 pub returns-in-Replied : goal.returns-in-Replied
 returns-in-Replied g c =
+    let path = c.args.path.now in
     let line = request_line request.Watch in
+    let calls0 = g.L.Link.told c.args.link.now in
+    let calls1 = g.L.Link.told c.send_request.new.link in
     let sent0 = g.L.Link.sent c.args.link.now in
     let left0 = g.L.Link.left c.args.link.now in
     let sent = g.L.Link.sent c.await_reply.new.link in
@@ -51,8 +57,8 @@ returns-in-Replied g c =
     let held0 = g.K.Sink.held c.args.out.now in
     let held = g.K.Sink.held c.write_answer.new.out in
     record {
-      watches = ends_before line c.args.most sent0 sent left0 left held0 held c.write_answer.result c.in_default.not-Done
-          (asks_replied line sent0 (g.L.Link.sent c.send_request.new.link) sent left0 (g.L.Link.left c.send_request.new.link) left c.in-Done.ensures.sent c.await_reply.ensures.sent c.send_request.ensures.left
+      watches = ends_before path line c.args.most calls0 (g.L.Link.told c.await_reply.new.link) sent0 sent left0 left held0 held c.write_answer.result c.in_default.not-Done
+          (asks_replied path line calls0 calls1 (g.L.Link.told c.await_reply.new.link) c.in-Done.ensures.made sent0 (g.L.Link.sent c.send_request.new.link) sent left0 (g.L.Link.left c.send_request.new.link) left c.in-Done.ensures.sent c.await_reply.ensures.sent c.send_request.ensures.left
           held0 held c.await_reply.new.kept.items c.in-Replied.reply c.in-Replied.place c.write_answer.result c.in-Replied.ensures.awaits c.write_answer.ensures.written);
       link = λ e. absurd (subst (λ (r : Asked). Writes held0 held c.in-Replied.reply r) e c.write_answer.ensures.written);
       sink = c.write_answer.ensures.cause;
@@ -61,56 +67,71 @@ returns-in-Replied g c =
 
 pub returns-in-NoReply-clause-watches : goal.returns-in-NoReply-clause-watches
 returns-in-NoReply-clause-watches g c =
+    let path = c.args.path.now in
     let line = request_line request.Watch in
+    let calls0 = g.L.Link.told c.args.link.now in
+    let calls1 = g.L.Link.told c.send_request.new.link in
     let sent0 = g.L.Link.sent c.args.link.now in
     let left0 = g.L.Link.left c.args.link.now in
     let sent = g.L.Link.sent c.await_reply.new.link in
     let left = g.L.Link.left c.await_reply.new.link in
     let held = g.K.Sink.held c.args.out.now in
-    ends_before line c.args.most sent0 sent left0 left held held asked.NoReply none_undone
-    (asks_none line sent0 (g.L.Link.sent c.send_request.new.link) sent left0 (g.L.Link.left c.send_request.new.link) left c.in-Done.ensures.sent c.await_reply.ensures.sent c.send_request.ensures.left
+    ends_before path line c.args.most calls0 (g.L.Link.told c.await_reply.new.link) sent0 sent left0 left held held asked.NoReply none_undone
+    (asks_none path line calls0 calls1 (g.L.Link.told c.await_reply.new.link) c.in-Done.ensures.made sent0 (g.L.Link.sent c.send_request.new.link) sent left0 (g.L.Link.left c.send_request.new.link) left c.in-Done.ensures.sent c.await_reply.ensures.sent c.send_request.ensures.left
     held held c.await_reply.new.kept.items c.in-NoReply.ensures.awaits (Keeps-refl held))
 
 pub returns-in-LinkFailed-clause-watches : goal.returns-in-LinkFailed-clause-watches
 returns-in-LinkFailed-clause-watches g c =
+    let path = c.args.path.now in
     let line = request_line request.Watch in
+    let calls0 = g.L.Link.told c.args.link.now in
+    let calls1 = g.L.Link.told c.send_request.new.link in
     let sent0 = g.L.Link.sent c.args.link.now in
     let left0 = g.L.Link.left c.args.link.now in
     let sent = g.L.Link.sent c.await_reply.new.link in
     let left = g.L.Link.left c.await_reply.new.link in
     let held = g.K.Sink.held c.args.out.now in
-    ends_before line c.args.most sent0 sent left0 left held held asked.LinkFailed failed_undone
-    (asks_failed line sent0 (g.L.Link.sent c.send_request.new.link) sent left0 (g.L.Link.left c.send_request.new.link) left c.in-Done.ensures.sent c.await_reply.ensures.sent c.send_request.ensures.left
+    ends_before path line c.args.most calls0 (g.L.Link.told c.await_reply.new.link) sent0 sent left0 left held held asked.LinkFailed failed_undone
+    (asks_failed path line calls0 calls1 (g.L.Link.told c.await_reply.new.link) c.in-Done.ensures.made sent0 (g.L.Link.sent c.send_request.new.link) sent left0 (g.L.Link.left c.send_request.new.link) left c.in-Done.ensures.sent c.await_reply.ensures.sent c.send_request.ensures.left
     held held c.await_reply.new.kept.items c.await_reply.result c.await_reply.ensures.awaits (Keeps-refl held))
 
 pub returns-clause-watches : goal.returns-clause-watches
 returns-clause-watches g c =
+    let path = c.args.path.now in
     let line = request_line request.Watch in
+    let calls0 = g.L.Link.told c.args.link.now in
+    let calls1 = g.L.Link.told c.send_request.new.link in
     let sent0 = g.L.Link.sent c.args.link.now in
     let left0 = g.L.Link.left c.args.link.now in
     let sent = g.L.Link.sent c.await_reply.new.link in
     let left = g.L.Link.left c.await_reply.new.link in
     let held = g.K.Sink.held c.args.out.now in
-    ends_before line c.args.most sent0 sent left0 left held held asked.Memory memory_undone
-    (asks_memory line sent0 (g.L.Link.sent c.send_request.new.link) sent left0 (g.L.Link.left c.send_request.new.link) left c.in-Done.ensures.sent c.await_reply.ensures.sent c.send_request.ensures.left
+    ends_before path line c.args.most calls0 (g.L.Link.told c.await_reply.new.link) sent0 sent left0 left held held asked.Memory memory_undone
+    (asks_memory path line calls0 calls1 (g.L.Link.told c.await_reply.new.link) c.in-Done.ensures.made sent0 (g.L.Link.sent c.send_request.new.link) sent left0 (g.L.Link.left c.send_request.new.link) left c.in-Done.ensures.sent c.await_reply.ensures.sent c.send_request.ensures.left
     held held c.await_reply.new.kept.items c.await_reply.result c.await_reply.ensures.awaits (Keeps-refl held))
 
 pub returns-in-Failed-clause-watches : goal.returns-in-Failed-clause-watches
 returns-in-Failed-clause-watches g c =
+    let path = c.args.path.now in
     let line = request_line request.Watch in
+    let calls0 = g.L.Link.told c.args.link.now in
+    let calls1 = g.L.Link.told c.send_request.new.link in
     let sent0 = g.L.Link.sent c.args.link.now in
     let left0 = g.L.Link.left c.args.link.now in
     let sent = g.L.Link.sent c.send_request.new.link in
     let left = g.L.Link.left c.send_request.new.link in
     let held = g.K.Sink.held c.args.out.now in
-    ends_before line c.args.most sent0 sent left0 left held held asked.LinkFailed failed_undone (unsent_failed line sent0 sent left0 left held c.in-Failed.ensures.sent c.send_request.ensures.left)
+    ends_before path line c.args.most calls0 calls1 sent0 sent left0 left held held asked.LinkFailed failed_undone (unsent_failed path line calls0 calls1 sent0 sent left0 left held c.in-Failed.ensures.made c.in-Failed.ensures.sent c.send_request.ensures.left)
 
 pub returns-in-Memory-clause-watches : goal.returns-in-Memory-clause-watches
 returns-in-Memory-clause-watches g c =
+    let path = c.args.path.now in
     let line = request_line request.Watch in
+    let calls0 = g.L.Link.told c.args.link.now in
+    let calls1 = g.L.Link.told c.send_request.new.link in
     let sent0 = g.L.Link.sent c.args.link.now in
     let left0 = g.L.Link.left c.args.link.now in
     let sent = g.L.Link.sent c.send_request.new.link in
     let left = g.L.Link.left c.send_request.new.link in
     let held = g.K.Sink.held c.args.out.now in
-    ends_before line c.args.most sent0 sent left0 left held held asked.Memory memory_undone (unsent_memory line sent0 sent left0 left held c.in-Memory.ensures.sent c.send_request.ensures.left)
+    ends_before path line c.args.most calls0 calls1 sent0 sent left0 left held held asked.Memory memory_undone (unsent_memory path line calls0 calls1 sent0 sent left0 left held c.in-Memory.ensures.made c.in-Memory.ensures.sent c.send_request.ensures.left)

@@ -1,17 +1,17 @@
 use Rattle.std.proofs.Common.{ℕ, List, take, arith, subst, length-take}
 use Rattle.std.proofs.KnownBytes.{Keeps-refl, Keeps-trans}
 use Rattle.ug_client.specs.Watching.{EndsShowing, Shows}
-use Rattle.ug_client.proofs.Watched.{first_ends, first_watching, piece_ends, piece_watching, piece_lost, smaller, grown}
+use Rattle.ug_client.proofs.Watched.{first_ends, first_watching, piece_ends, piece_watching, piece_lost, smaller, grown, watched_to_end, watched_to_failure}
 use Rattle.ug_client.proofs.stream.watch_notices.Goals as goal
 
 pub returns-in-Some-clause-watches : goal.returns-in-Some-clause-watches
-returns-in-Some-clause-watches g c = first_ends c.args.kept.now.items (g.L.Link.left c.args.link.now) c.args.most (g.K.Sink.held c.args.out.now) (g.K.Sink.held c.show_kept.new.out) c.in-Some.ended c.in-Some.ensures.shows
+returns-in-Some-clause-watches g c = first_ends c.args.kept.now.items (g.L.Link.told c.args.link.now) (g.L.Link.left c.args.link.now) c.args.most (g.K.Sink.held c.args.out.now) (g.K.Sink.held c.show_kept.new.out) c.in-Some.ended c.in-Some.ensures.shows
 
 pub pieces-init : goal.pieces-init
 pieces-init g c =
     let s = c.in-None.ensures in
     record {
-      watching = first_watching c.args.kept.now.items (g.L.Link.left c.args.link.now) c.args.most (g.K.Sink.held c.args.out.now) c.show_kept.new.kept.items c.show_kept.new.room (g.K.Sink.held c.show_kept.new.out) s.shows.0;
+      watching = first_watching c.args.kept.now.items (g.L.Link.told c.args.link.now) (g.L.Link.left c.args.link.now) c.args.most (g.K.Sink.held c.args.out.now) c.show_kept.new.kept.items c.show_kept.new.room (g.K.Sink.held c.show_kept.new.out) s.shows.0;
       begun = s.shows.1;
       room = s.shows.2;
       sent = Keeps-refl (g.L.Link.sent c.args.link.now);
@@ -20,15 +20,15 @@ pieces-init g c =
     }
 
 pub returns-then-is_err-clause-watches : goal.returns-then-is_err-clause-watches
-returns-then-is_err-clause-watches g c = piece_lost c.args.kept.now.items (g.L.Link.left c.args.link.now) (g.L.Link.left c.pieces.link) (g.L.Link.left c.receive.new.self) c.args.most (g.K.Sink.held c.args.out.now) c.pieces.kept.items c.pieces.room (g.K.Sink.held c.pieces.out) c.pieces.invariant.watching
-    (take c.in-Bytes.n c.receive.new.into) c.in-Bytes.ensures.bytes
+returns-then-is_err-clause-watches g c = piece_lost c.args.kept.now.items (g.L.Link.told c.args.link.now) (g.L.Link.told c.pieces.link) (g.L.Link.told c.receive.new.self) (g.L.Link.left c.args.link.now) (g.L.Link.left c.pieces.link) (g.L.Link.left c.receive.new.self) c.args.most (g.K.Sink.held c.args.out.now) c.pieces.kept.items c.pieces.room (g.K.Sink.held c.pieces.out) c.pieces.invariant.watching c.pieces.invariant.begun c.pieces.invariant.room
+    (take c.in-Bytes.n c.receive.new.into) (omega (arith, length-take c.in-Bytes.n c.receive.new.into, c.in-Bytes.ensures.size, length-take {A = ℕ})) c.in-Bytes.ensures.told c.in-Bytes.ensures.bytes
 
 pub returns-in-Some-show_kept-clause-watches : goal.returns-in-Some-show_kept-clause-watches
 returns-in-Some-show_kept-clause-watches g c =
     let piece = take c.in-Bytes.n c.receive.new.into in
     let e = grown c.extend_from_slice.result c.extend_from_slice.new.self.items c.pieces.kept.items piece c.extend_from_slice.ensures.items c.if-is_err.ensures.value in
-    piece_ends c.args.kept.now.items (g.L.Link.left c.args.link.now) (g.L.Link.left c.pieces.link) (g.L.Link.left c.receive.new.self) c.args.most (g.K.Sink.held c.args.out.now) c.pieces.kept.items c.pieces.room (g.K.Sink.held c.pieces.out) c.pieces.invariant.watching
-    piece c.in-Bytes.ensures.bytes (g.K.Sink.held c.show_kept-in-Bytes.new.out) c.in-Some-show_kept.ended
+    piece_ends c.args.kept.now.items (g.L.Link.told c.args.link.now) (g.L.Link.told c.pieces.link) (g.L.Link.told c.receive.new.self) (g.L.Link.left c.args.link.now) (g.L.Link.left c.pieces.link) (g.L.Link.left c.receive.new.self) c.args.most (g.K.Sink.held c.args.out.now) c.pieces.kept.items c.pieces.room (g.K.Sink.held c.pieces.out) c.pieces.invariant.watching c.pieces.invariant.begun c.pieces.invariant.room
+    piece (omega (arith, length-take c.in-Bytes.n c.receive.new.into, c.in-Bytes.ensures.size, length-take {A = ℕ})) c.in-Bytes.ensures.told c.in-Bytes.ensures.bytes (g.K.Sink.held c.show_kept-in-Bytes.new.out) c.in-Some-show_kept.ended
     (subst (λ (b : List ℕ). EndsShowing b c.pieces.room (g.K.Sink.held c.pieces.out) (g.K.Sink.held c.show_kept-in-Bytes.new.out) c.in-Some-show_kept.ended) e c.in-Some-show_kept.ensures.shows)
 
 pub pieces-preserved : goal.pieces-preserved
@@ -38,8 +38,8 @@ pieces-preserved g c =
     let s = c.in-None-show_kept.ensures in
     let k = c.show_kept-in-Bytes.new in
     record {
-      watching = piece_watching c.args.kept.now.items (g.L.Link.left c.args.link.now) (g.L.Link.left c.pieces.link) (g.L.Link.left c.receive.new.self) c.args.most (g.K.Sink.held c.args.out.now) c.pieces.kept.items c.pieces.room (g.K.Sink.held c.pieces.out) c.pieces.invariant.watching
-          piece c.in-Bytes.ensures.bytes k.kept.items k.room (g.K.Sink.held k.out)
+      watching = piece_watching c.args.kept.now.items (g.L.Link.told c.args.link.now) (g.L.Link.told c.pieces.link) (g.L.Link.told c.receive.new.self) (g.L.Link.left c.args.link.now) (g.L.Link.left c.pieces.link) (g.L.Link.left c.receive.new.self) c.args.most (g.K.Sink.held c.args.out.now) c.pieces.kept.items c.pieces.room (g.K.Sink.held c.pieces.out) c.pieces.invariant.watching c.pieces.invariant.begun c.pieces.invariant.room
+          piece (omega (arith, length-take c.in-Bytes.n c.receive.new.into, c.in-Bytes.ensures.size, length-take {A = ℕ})) c.in-Bytes.ensures.told c.in-Bytes.ensures.bytes k.kept.items k.room (g.K.Sink.held k.out)
           (subst (λ (b : List ℕ). Shows b c.pieces.room (g.K.Sink.held c.pieces.out) k.kept.items k.room (g.K.Sink.held k.out)) e s.shows.0);
       begun = s.shows.1;
       room = s.shows.2;
@@ -47,6 +47,12 @@ pieces-preserved g c =
       link = omega (arith, c.pieces.invariant.link, c.in-Bytes.ensures.counted);
       sink = omega (arith, c.pieces.invariant.sink, s.counted);
     }
+
+pub returns-in-End-clause-watches : goal.returns-in-End-clause-watches
+returns-in-End-clause-watches g c = watched_to_end c.args.kept.now.items (g.L.Link.told c.args.link.now) (g.L.Link.told c.pieces.link) (g.L.Link.told c.receive.new.self) (g.L.Link.left c.args.link.now) (g.L.Link.left c.pieces.link) (g.L.Link.left c.receive.new.self) c.args.most (g.K.Sink.held c.args.out.now) c.pieces.kept.items c.pieces.room (g.K.Sink.held c.pieces.out) c.pieces.invariant.watching c.pieces.invariant.begun c.pieces.invariant.room c.in-End.ensures.bytes.0 c.in-End.ensures.told c.in-End.ensures.bytes.1
+
+pub returns-in-Failed-clause-watches : goal.returns-in-Failed-clause-watches
+returns-in-Failed-clause-watches g c = watched_to_failure c.args.kept.now.items (g.L.Link.told c.args.link.now) (g.L.Link.told c.pieces.link) (g.L.Link.told c.receive.new.self) (g.L.Link.left c.args.link.now) (g.L.Link.left c.pieces.link) (g.L.Link.left c.receive.new.self) c.args.most (g.K.Sink.held c.args.out.now) c.pieces.kept.items c.pieces.room (g.K.Sink.held c.pieces.out) c.pieces.invariant.watching c.pieces.invariant.begun c.pieces.invariant.room c.in-Failed.ensures.bytes c.in-Failed.ensures.told
 
 pub pieces-smaller : goal.pieces-smaller
 pieces-smaller g c =

@@ -6,7 +6,7 @@ use Rattle.ug_client.proofs.stream.watch_notices.Given as goal
 
 abbrev pub invariant-pieces : goal.invariant-pieces
 invariant-pieces g l = record {
-  watching : IsWatching l.fn.kept.items (g.L.Link.left l.fn.link) (g.L.Link.left l.link) l.most (g.K.Sink.held l.fn.out) l.kept.items l.room (g.K.Sink.held l.out);
+  watching : IsWatching l.fn.kept.items (g.L.Link.told l.fn.link) (g.L.Link.told l.link) (g.L.Link.left l.fn.link) (g.L.Link.left l.link) l.most (g.K.Sink.held l.fn.out) l.kept.items l.room (g.K.Sink.held l.out);
   begun : IsBeginning l.kept.items;
   room : 0 < l.room;
   sent : Keeps (g.L.Link.sent l.fn.link) (g.L.Link.sent l.link);

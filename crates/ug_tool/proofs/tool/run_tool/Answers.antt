@@ -139,11 +139,11 @@ returns-in-Err-clause-added g c = λ name asked e all base a b.
 pub returns-in-Err-clause-asked : goal.returns-in-Err-clause-asked
 returns-in-Err-clause-asked g c = λ socket asking e.
     let words = command_in (map (λ (w : Bor (List ℕ)). w.now) c.args.words.now) in
-    request_unsent (request_line asking) (g.L.Link.sent c.args.link.now) (g.L.Link.left c.args.link.now) (g.K.Sink.held c.args.out.now) (g.K.Sink.held c.refuse.new.out) (g.L.Link.faults c.args.link.now) c.refuse.result
+    request_unsent socket (request_line asking) (g.L.Link.told c.args.link.now) (g.L.Link.sent c.args.link.now) (g.L.Link.left c.args.link.now) (g.K.Sink.held c.args.out.now) (g.K.Sink.held c.refuse.new.out) (g.L.Link.faults c.args.link.now) c.refuse.result
     (c.refuse.ensures.memory (fault_is_memory words _ c.in-Err.fault c.in-Err.ensures.err e))
 
 pub returns-in-Err-clause-watched : goal.returns-in-Err-clause-watched
 returns-in-Err-clause-watched g c = λ socket most e.
     let words = command_in (map (λ (w : Bor (List ℕ)). w.now) c.args.words.now) in
-    watch_unsent (request_line request.Watch) most (g.L.Link.sent c.args.link.now) (g.L.Link.left c.args.link.now) (g.K.Sink.held c.args.out.now) (g.K.Sink.held c.refuse.new.out) (g.L.Link.faults c.args.link.now) c.refuse.result
+    watch_unsent socket (request_line request.Watch) most (g.L.Link.told c.args.link.now) (g.L.Link.sent c.args.link.now) (g.L.Link.left c.args.link.now) (g.K.Sink.held c.args.out.now) (g.K.Sink.held c.refuse.new.out) (g.L.Link.faults c.args.link.now) c.refuse.result
     (c.refuse.ensures.memory (fault_is_memory words _ c.in-Err.fault c.in-Err.ensures.err e))
