@@ -1,19 +1,19 @@
 -- Slots, and the list of the standings that they hold.
-use Rattle.std.proofs.Common.{◌≡◌, ℕ, ◌+◌, Bool, true, false, not, cond, List, [], ◌∷◌, ◌++◌, map, take, drop, Option, Some, None, refl, sym, ◌∙◌, ap, subst, add-one, inl, inr, ◌⊎◌}
-use Rattle.std.proofs.lemmas.Bool.{cond_both, cases_Bool, both_ways}
-use Rattle.std.proofs.lemmas.Cmp.{nat_list_eq_equiv, tied_itself}
+use Rattle.std.proofs.Common.{◌≡◌, ℕ, ◌+◌, Bool, true, false, not, cond, List, [], ◌∷◌, map, Option, Some, None, refl, sym, ◌∙◌, ap, subst, add-one, inl, inr, ◌⊎◌}
+use Rattle.std.proofs.lemmas.Bool.{cond_both, cases_Bool}
+use Rattle.std.proofs.lemmas.Cmp.{nat_list_eq_equiv}
 use Rattle.std.proofs.lemmas.Map.Keys.{sorted_head, sorted_tail}
 use Rattle.std.specs.BTreeMap.{is_at, insert_entry}
-use Rattle.std.specs.Map.{lookup, keys_of, remove_entry, set_value}
+use Rattle.std.specs.Map.{keys_of, remove_entry, set_value}
 use Rattle.std.specs.Prelude.{OnOk, OnErr, Result, Ok, Err, is_ok, length}
-use Rattle.std.proofs.Common.{◌<◌, ◌≤◌, arith}
+use Rattle.std.proofs.Common.{arith}
 use native.Mathlib.Decide.{dec_lt}
 use Prim.{yes, no}
 use Rattle.std.proofs.lemmas.List.Folds.{list_any_at, list_any_none}
 use Rattle.std.proofs.lemmas.List.Sorted.{searchable_from_sorted}
-use Rattle.std.specs.List.{AllByRecursion, filter, find, insert}
+use Rattle.std.specs.List.{AllByRecursion, filter, insert}
 use Rattle.std.specs.List.Sorted.{IsStrictlySortedBy, IsSorted, IsSearchInRange, IsBinarySearchResult}
-use Rattle.std.specs.Ordering.{is_eq, is_gt, is_lt, match_ordering, ordering_reverse}
+use Rattle.std.specs.Ordering.{is_eq, is_gt, match_ordering, ordering_reverse}
 use Rattle.std.specs.declared.cmp.Ordering.{Ordering}
 use Rattle.std.specs.declared.cmp.Ordering.TheVariants.{Less, Equal, Greater}
 use Rattle.ug_types.specs.Elements.{Has}
@@ -23,7 +23,7 @@ use Rattle.ug_table.specs.declared.standing.Standing.{Standing}
 use Rattle.ug_table.specs.Standings.{same_name, named, without, place_for, with_standing, lists, marked, with_default}
 use Rattle.ug_table.specs.Bring.{is_reject}
 use Rattle.std.proofs.Common.{◌||◌, ◌&&◌, get_or}
-use Rattle.ug_table.specs.Slots.{Slot, before, filled, slot_of, IsNameOf, AllNamed}
+use Rattle.ug_table.specs.Slots.{Slot, before, filled, slot_of, empty_of, IsNameOf, AllNamed}
 
 -- keys in order
 abbrev pub Sorted : List Slot → Type 0
@@ -243,6 +243,92 @@ bears_found name (e ∷ es) o b h = cond_both (is_at (sweep_cmp name) e.0) (Some
     (λ at v. let is : e.1 ≡ o = cc in subst (λ (w : Option Standing). IsNameOf name w) is (subst (λ (k : List ℕ). IsNameOf k e.1) (sym (at_is name e.0 at)) b.0))
     (λ off v. bears_found name es o b.1 v) h
 
+-- which slots are empty, through each change
+
+pub empty_set : (name : List ℕ) (x y : Standing) (es : List Slot) → slot_of name es ≡ Some (Some x) → empty_of (set_value (is_at (sweep_cmp name)) es (Some y)) ≡ empty_of es
+empty_set name x y [] h = refl
+empty_set name x y ((k, None) ∷ es) h =
+    cond_both (is_at (sweep_cmp name) k) (Some None) (slot_of name es)
+    (λ (v : Option (Option Standing)). v ≡ Some (Some x) → empty_of (cond (is_at (sweep_cmp name) k) ((k, Some y) ∷ es) ((k, None) ∷ set_value (is_at (sweep_cmp name)) es (Some y))) ≡ k ∷ empty_of es)
+    (λ at v. let none : ⊥ = cc in absurd none)
+    (λ off v.
+    ap (λ (t : Bool). empty_of (cond t ((k, Some y) ∷ es) ((k, None) ∷ set_value (is_at (sweep_cmp name)) es (Some y)))) off
+    ∙ ap (λ (ns : List (List ℕ)). k ∷ ns) (empty_set name x y es v)) h
+empty_set name x y ((k, Some z) ∷ es) h =
+    cond_both (is_at (sweep_cmp name) k) (Some (Some z)) (slot_of name es)
+    (λ (v : Option (Option Standing)). v ≡ Some (Some x) → empty_of (cond (is_at (sweep_cmp name) k) ((k, Some y) ∷ es) ((k, Some z) ∷ set_value (is_at (sweep_cmp name)) es (Some y))) ≡ empty_of es)
+    (λ at v. ap (λ (t : Bool). empty_of (cond t ((k, Some y) ∷ es) ((k, Some z) ∷ set_value (is_at (sweep_cmp name)) es (Some y)))) at)
+    (λ off v. ap (λ (t : Bool). empty_of (cond t ((k, Some y) ∷ es) ((k, Some z) ∷ set_value (is_at (sweep_cmp name)) es (Some y)))) off ∙ empty_set name x y es v) h
+
+abbrev others : List ℕ → List (List ℕ) → List (List ℕ)
+others name ns = filter (λ (n : List ℕ). not (same_name n name)) ns
+
+empty_behind : (name : List ℕ) (es : List Slot) → AllBehind name es → others name (empty_of es) ≡ empty_of es
+empty_behind name [] a = refl
+empty_behind name ((k, None) ∷ es) a = ap (λ (t : Bool). cond (not t) (k ∷ others name (empty_of es)) (others name (empty_of es))) (apart_at name k a.0) ∙ ap (λ (ns : List (List ℕ)). k ∷ ns) (empty_behind name es a.1)
+empty_behind name ((k, Some s) ∷ es) a = empty_behind name es a.1
+
+pub empty_remove : (name : List ℕ) (es : List Slot) → Sorted es → empty_of (remove_entry (is_at (sweep_cmp name)) es) ≡ filter (λ (n : List ℕ). not (same_name n name)) (empty_of es)
+empty_remove name [] s = refl
+empty_remove name ((k, None) ∷ es) s =
+    cond_both (is_at (sweep_cmp name) k) es ((k, None) ∷ remove_entry (is_at (sweep_cmp name)) es) (λ (v : List Slot). empty_of v ≡ cond (not (is_at (sweep_cmp name) k)) (k ∷ others name (empty_of es)) (others name (empty_of es)))
+    (λ at. sym (empty_behind name es (behind_of name (k, None) es s at)) ∙ sym (ap (λ (t : Bool). cond (not t) (k ∷ others name (empty_of es)) (others name (empty_of es))) at))
+    (λ off. ap (λ (ns : List (List ℕ)). k ∷ ns) (empty_remove name es (sorted_tail sweep_cmp k (keys_of es) s)) ∙ sym (ap (λ (t : Bool). cond (not t) (k ∷ others name (empty_of es)) (others name (empty_of es))) off))
+    ∙ sym (ap (λ (t : Bool). cond (not t) (k ∷ others name (empty_of es)) (others name (empty_of es))) (same_at name k))
+empty_remove name ((k, Some x) ∷ es) s =
+    cond_both (is_at (sweep_cmp name) k) es ((k, Some x) ∷ remove_entry (is_at (sweep_cmp name)) es) (λ (v : List Slot). empty_of v ≡ others name (empty_of es))
+    (λ at. sym (empty_behind name es (behind_of name (k, Some x) es s at)))
+    (λ off. empty_remove name es (sorted_tail sweep_cmp k (keys_of es) s))
+
+pub empty_place : (name : List ℕ) (es : List Slot) → empty_of es ≡ [] → empty_of (insert_entry sweep_cmp es name None) ≡ name ∷ []
+empty_place name [] h = refl
+empty_place name ((k, None) ∷ es) h = let none : ⊥ = cc in absurd none
+empty_place name ((k, Some x) ∷ es) h = by (empty_place name es h) (sweep_cmp name k) refl
+  where
+    by : empty_of (insert_entry sweep_cmp es name None) ≡ name ∷ [] → (o : Ordering) → sweep_cmp name k ≡ o → empty_of (match_ordering o ((name, None) ∷ (k, Some x) ∷ es) ((k, None) ∷ es) ((k, Some x) ∷ insert_entry sweep_cmp es name None)) ≡ name ∷ []
+    by rest Less q = ap (λ (ns : List (List ℕ)). name ∷ ns) h
+    by rest Equal q = ap (λ (w : List ℕ). w ∷ empty_of es) (sym (sweep_exact name k q)) ∙ ap (λ (ns : List (List ℕ)). name ∷ ns) h
+    by rest Greater q = rest
+
+less_empty : (k name : List ℕ) (es : List Slot) → AllBehind k es → empty_of es ≡ name ∷ [] → sweep_cmp k name ≡ Less
+less_empty k name [] a h = let none : ⊥ = cc in absurd none
+less_empty k name ((j, None) ∷ es) a h = let is : j ≡ name = cc in subst (λ (w : List ℕ). sweep_cmp k w ≡ Less) is a.0
+less_empty k name ((j, Some x) ∷ es) a h = less_empty k name es a.1 h
+
+at_same : (name k : List ℕ) → k ≡ name → is_at (sweep_cmp name) k ≡ true
+at_same name k e = sym (same_at name k) ∙ ap (λ (v : List ℕ). same_name v name) e ∙ same_refl name
+
+-- the slot of the one name whose slot is empty
+pub empty_slot : (name : List ℕ) (es : List Slot) → Sorted es → empty_of es ≡ name ∷ [] → slot_of name es ≡ Some None
+empty_slot name [] s h = let none : ⊥ = cc in absurd none
+empty_slot name ((k, None) ∷ es) s h = let is : k ≡ name = cc in ap (λ (t : Bool). cond t (Some None) (slot_of name es)) (at_same name k is)
+empty_slot name ((k, Some x) ∷ es) s h =
+    let less = less_empty k name es (sorted_head sweep_cmp k (keys_of es) s) h in
+    ap (λ (t : Bool). cond t (Some (Some x)) (slot_of name es)) (ap is_eq (sweep_total.antisymm name k ∙ ap ordering_reverse less))
+    ∙ empty_slot name es (sorted_tail sweep_cmp k (keys_of es) s) h
+
+pub empty_fill : (name : List ℕ) (x : Standing) (es : List Slot) → empty_of es ≡ name ∷ [] → slot_of name es ≡ Some None → empty_of (set_value (is_at (sweep_cmp name)) es (Some x)) ≡ []
+empty_fill name x [] h f = let none : ⊥ = cc in absurd none
+empty_fill name x ((k, None) ∷ es) h f =
+    let is : k ≡ name = cc in
+    let rest : empty_of es ≡ [] = cc in
+    ap (λ (t : Bool). empty_of (cond t ((k, Some x) ∷ es) ((k, None) ∷ set_value (is_at (sweep_cmp name)) es (Some x)))) (at_same name k is) ∙ rest
+empty_fill name x ((k, Some y) ∷ es) h f =
+    cond_both (is_at (sweep_cmp name) k) (Some (Some y)) (slot_of name es)
+    (λ (v : Option (Option Standing)). v ≡ Some None → empty_of (cond (is_at (sweep_cmp name) k) ((k, Some x) ∷ es) ((k, Some y) ∷ set_value (is_at (sweep_cmp name)) es (Some x))) ≡ [])
+    (λ at v. let none : ⊥ = cc in absurd none)
+    (λ off v. ap (λ (t : Bool). empty_of (cond t ((k, Some x) ∷ es) ((k, Some y) ∷ set_value (is_at (sweep_cmp name)) es (Some x)))) off ∙ empty_fill name x es h v) f
+
+pub empty_filter : (p : List ℕ → Bool) (es : List Slot) → empty_of (filter (λ (e : Slot). p e.0) es) ≡ filter p (empty_of es)
+empty_filter p [] = refl
+empty_filter p ((k, None) ∷ es) =
+    let rest = empty_filter p es in
+    elim (cases_Bool (p k)) [
+      | inl e ↦ ap (λ (t : Bool). empty_of (cond t ((k, None) ∷ filter (λ (e : Slot). p e.0) es) (filter (λ (e : Slot). p e.0) es))) e ∙ ap (λ (ns : List (List ℕ)). k ∷ ns) rest ∙ sym (ap (λ (t : Bool). cond t (k ∷ filter p (empty_of es)) (filter p (empty_of es))) e)
+      | inr e ↦ ap (λ (t : Bool). empty_of (cond t ((k, None) ∷ filter (λ (e : Slot). p e.0) es) (filter (λ (e : Slot). p e.0) es))) e ∙ rest ∙ sym (ap (λ (t : Bool). cond t (k ∷ filter p (empty_of es)) (filter p (empty_of es))) e)
+    ]
+empty_filter p ((k, Some x) ∷ es) = cond_both (p k) ((k, Some x) ∷ filter (λ (e : Slot). p e.0) es) (filter (λ (e : Slot). p e.0) es) (λ (v : List Slot). empty_of v ≡ filter p (empty_of es)) (λ e. empty_filter p es) (λ e. empty_filter p es)
+
 -- a search among names in order
 tells : (y name : List ℕ) (o : Ordering) → sweep_cmp y name ≡ o → same_name y name ≡ is_eq o
 tells y name o e = sweep_ties y name ∙ ap is_eq e
@@ -279,3 +365,7 @@ default_own name s e = ap (λ (t : Bool). record s { defaulted = t || s.defaulte
 pub either_way : {A E : Type 0} (r : Result A E) (P Q R : Type 0) → OnOk r P → OnErr r Q → (P → R) → (Q → R) → R
 either_way (Ok x) P Q R p q f g = f p
 either_way (Err e) P Q R p q f g = g q
+
+pub when_ok : {A E : Type 0} (r : Result A E) (P : Type 0) → is_ok r ≡ true → OnOk r P → P
+when_ok (Ok x) P e h = h
+when_ok (Err y) P e h = let none : ⊥ = cc in absurd none

@@ -1,5 +1,5 @@
 -- Slots of names. A slot that is empty holds the place of a standing that is to come.
-use Rattle.std.specs.Prelude.{◌≡◌, ◌≤◌, ℕ, Bool, true, false, List, [], ◌∷◌, ◌++◌, not, nat_eq, Option, Some, None, length}
+use Rattle.std.specs.Prelude.{◌≡◌, ◌≤◌, ℕ, Bool, true, false, List, [], ◌∷◌, ◌++◌, not, nat_eq, Option, Some, None, length, ◌⊎◌}
 use Rattle.std.specs.List.{filter, filter_map, cons_option}
 use Rattle.std.specs.Ordering.{nat_cmp}
 use Rattle.std.specs.BTreeMap.{BTreeMap, IsOrdered, is_at, get}
@@ -7,6 +7,7 @@ use Rattle.std.specs.Map.{lookup}
 use Rattle.ug_types.specs.Elements.{Has, AllDistinct}
 use Rattle.ug_types.specs.Names.{sweep_cmp}
 use Rattle.ug_table.specs.declared.standing.Standing.{Standing}
+use Rattle.ug_table.specs.declared.standing.Place.{Place}
 
 abbrev pub Slot : Type 0
 Slot = List ℕ × Option Standing
@@ -31,23 +32,34 @@ abbrev pub AllNamed : List Slot → Type 0
 AllNamed [] = Unit {0}
 AllNamed (e ∷ es) = IsNameOf e.0 e.1 × AllNamed es
 
--- what the maps hold: the standings; the slots of names; and the names of numbers
+-- the names of the slots that are empty
+abbrev pub empty_of : List Slot → List (List ℕ)
+empty_of [] = []
+empty_of ((name, None) ∷ es) = name ∷ empty_of es
+empty_of ((name, Some s) ∷ es) = empty_of es
+
+-- the place of that name and number
+abbrev pub place_of : List ℕ → ℕ → Option Place
+place_of name number = Some (record { name = name; number = number })
+
+-- what the maps hold: the standings; and the place that is held for one to come
 pub record Store : Type 0 where
   pub items : List Standing
-  pub slots : List Slot
-  pub numbers : List (ℕ × List ℕ)
+  pub place : Option Place
 
-abbrev pub store : List Slot → List (ℕ × List ℕ) → Store
-store slots numbers = record { items = filled slots; slots = slots; numbers = numbers }
+abbrev pub store : List Slot → Option Place → Store
+store slots place = record { items = filled slots; place = place }
 
--- the name of that number
-abbrev pub name_of : ℕ → List (ℕ × List ℕ) → Option (List ℕ)
-name_of number ns = lookup (is_at (nat_cmp number)) ns
+-- its name
+abbrev pub named_by : Option Place → List (List ℕ)
+named_by None = []
+named_by (Some p) = p.name ∷ []
 
--- there is a place for a standing of that name and number
-pub record HasPlace (name : List ℕ) (number : ℕ) (k : Store) : Type 0 where
-  pub slot : slot_of name k.slots ≡ Some None
-  pub numbered : name_of number k.numbers ≡ Some name
+-- a standing bears both the number and the name, or the place does
+abbrev pub BearBoth : List Standing → Option Place → ℕ → List ℕ → Type 0
+BearBoth ss place number name =
+    ((s : Standing) × Has ss s × (s.number ≡ number) × (s.name ≡ name))
+    ⊎ (place ≡ place_of name number)
 
 -- a standing that isn't settled has its number on the list, and each number there is of one
 pub record IsRetry (ss : List Standing) (retry : List ℕ) : Type 0 where
@@ -62,10 +74,17 @@ noted number false true retry = filter (λ n. not (nat_eq n number)) retry
 noted number true true retry = retry
 noted number false false retry = retry
 
--- the maps agree
-pub record Agree (by_name : BTreeMap (List ℕ) (Option Standing)) (by_number : BTreeMap ℕ (List ℕ)) (again : List ℕ) (most : ℕ) : Type 0 where
+-- The maps agree. The one slot that is empty is the place's, and a number leads to a name just where a
+-- standing or the place bears both.
+pub record Agree (by_name : BTreeMap (List ℕ) (Option Standing)) (by_number : BTreeMap ℕ (List ℕ))
+    (place : Option Place) (again : List ℕ) (most : ℕ) : Type 0 where
   pub ordered : IsOrdered sweep_cmp by_name
   pub bear : AllNamed by_name.entries
-  pub numbers : (s : Standing) → Has (filled by_name.entries) s → get nat_cmp by_number s.number ≡ Some s.name
+  pub empty : empty_of by_name.entries ≡ named_by place
+  pub numbers : (s : Standing) → Has (filled by_name.entries) s
+      → get nat_cmp by_number s.number ≡ Some s.name
+  pub held : (p : Place) → place ≡ Some p → get nat_cmp by_number p.number ≡ Some p.name
+  pub only : (number : ℕ) (name : List ℕ) → get nat_cmp by_number number ≡ Some name
+      → BearBoth (filled by_name.entries) place number name
   pub retry : IsRetry (filled by_name.entries) again
   pub room : length by_name.entries ≤ most

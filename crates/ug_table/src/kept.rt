@@ -1,5 +1,5 @@
 // The standings in ordered maps.
-ghost use Rattle.std.specs.Prelude.{◌≡◌, ◌≤◌, ◌<◌, ◌+◌, ◌^◌, true, false, [], length, map, None, option_copied, Some, ℕ, IfSome, IsSome, OnOk, is_some, not, nat_eq, vec_capacity};
+ghost use Rattle.std.specs.Prelude.{◌≡◌, ◌≤◌, ◌<◌, ◌+◌, ◌^◌, true, false, [], length, map, None, option_copied, Some, ℕ, IfSome, IsSome, OnOk, OnErr, is_some, not, nat_eq, vec_capacity};
 ghost use Rattle.std.specs.BTreeMap.{get};
 ghost use Rattle.std.proofs.lemmas.Map.Entries.{option_filter};
 ghost use Rattle.std.specs.Ordering.{nat_cmp};
@@ -9,14 +9,14 @@ ghost use Rattle.ug_table.specs.Allowed.{allowed_of};
 ghost use Rattle.std.specs.List.Sorted.{IsSorted};
 ghost use Rattle.ug_types.specs.Names.{sweep_cmp};
 ghost use Rattle.ug_table.specs.Standings.{named, standing_of, numbered, marked, did_default, without, with_standing, lists};
-ghost use Rattle.ug_table.specs.Slots.{filled, HasPlace, IsRetry, noted};
+ghost use Rattle.ug_table.specs.Slots.{filled, place_of, IsRetry, noted};
 ghost use Rattle.ug_table.specs.Orders.{with_order};
 ghost use Rattle.ug_table.specs.Order.{IsNextNumbered};
 
 use crate::slots::{
     Slots, fill, find, forget, has, make_place, mark, mark_default, order, retain_listed,
 };
-use crate::standing::{Known, Standing};
+use crate::standing::{Known, Place, Standing};
 use crate::table::{is_allowed, known_of};
 use std::alloc::Global;
 use std::collections::BTreeMap;
@@ -24,11 +24,13 @@ use std::marker::Model;
 use std::ops::Bound;
 use ug_types::{NoMemory, NodeName, Principal, Query, Target};
 
-/// The standings, seen as their list in sweep order of their names, beside the places that are held for others.
+/// The standings, seen as their list in sweep order of their names, beside the place that is held for one to come.
 #[derive(Drop)]
 pub struct Standings {
     pub(crate) by_name: Slots,
     by_number: BTreeMap<u64, NodeName>,
+    // Its slot is empty, and its number leads to its name.
+    place: Option<Place>,
     // The numbers of those that aren't settled, with room for each.
     retry: Vec<u64>,
 }
@@ -39,19 +41,21 @@ impl Model for Standings {
 
     ghost Value = { Store };
 
-    ghost view = { λ s. store s.by_name.entries s.by_number.entries };
+    ghost view = { λ s. store s.by_name.entries s.place };
 
-    ghost invariant = { λ s. Agree s.by_name s.by_number s.retry.items (vec_capacity s.retry) };
+    ghost invariant = { λ s. Agree s.by_name s.by_number s.place s.retry.items (vec_capacity s.retry) };
 }
 
 impl Standings {
-    /// No standing. It takes no memory.
+    /// No standing, and no place. It takes no memory.
     pub fn new(alloc: Global) -> Standings
-        ensures { result.items ≡ [] }
+        ensures items { result.items ≡ [] }
+        ensures place { result.place ≡ None }
     {
         Standings {
             by_name: BTreeMap::new(alloc),
             by_number: BTreeMap::new(alloc),
+            place: None,
             retry: Vec::new(alloc),
         }
     }
@@ -88,10 +92,7 @@ impl Standings {
             Some(name) => name,
             None => return None,
         };
-        match find(&self.by_name, name) {
-            Some(s) if s.number == number => Some(s),
-            _ => None,
-        }
+        find(&self.by_name, name)
     }
 
     /// The standing with the least number above that one.
@@ -115,13 +116,16 @@ impl Standings {
         &self.retry
     }
 
-    /// Holds a place for a standing of that name and number. Where there is no memory, all is as before.
+    /// Holds a place for a standing of that name and number, in place of any that was held. Where there is no memory,
+    /// none is held.
     pub fn reserve(&mut self, name: &NodeName, number: u64) -> Result<(), NoMemory>
         requires unnamed { named name.now self.old.items ≡ None }
         requires unnumbered { numbered number self.old.items ≡ None }
         ensures items { self.new.items ≡ self.old.items }
-        ensures place { OnOk result (HasPlace name.now number self.new) }
+        ensures place { OnOk result (self.new.place ≡ place_of name.now number) }
+        ensures refused { OnErr result (self.new.place ≡ None) }
     {
+        self.release();
         if self.retry.reserve(self.by_name.len() + 1).is_err() {
             return Err(NoMemory);
         }
@@ -129,6 +133,10 @@ impl Standings {
             return Err(NoMemory);
         }
         if make_place(&mut self.by_name, name) {
+            self.place = Some(Place {
+                name: *name,
+                number,
+            });
             return Ok(());
         }
         let _again = self.by_number.remove(&number);
@@ -137,21 +145,27 @@ impl Standings {
 
     /// Puts a standing in its place. It takes no memory.
     pub fn put(&mut self, standing: Standing)
-        requires place { HasPlace standing.name standing.number self.old }
+        requires place { self.old.place ≡ place_of standing.name standing.number }
         ensures items { self.new.items ≡ with_standing standing self.old.items }
+        ensures place { self.new.place ≡ None }
         ensures len { length self.new.items ≡ length self.old.items + 1 }
     {
         note_mark(&mut self.retry, standing.number, true, standing.settled);
         fill(&mut self.by_name, standing);
+        self.place = None;
     }
 
-    /// Gives a place up.
-    pub fn release(&mut self, name: &NodeName, number: u64)
-        requires place { HasPlace name.now number self.old }
+    /// Gives up the place that is held, if any.
+    pub fn release(&mut self)
         ensures items { self.new.items ≡ self.old.items }
+        ensures place { self.new.place ≡ None }
     {
-        let _number = self.by_number.remove(&number);
-        forget(&mut self.by_name, name);
+        let Some(place) = self.place else {
+            return;
+        };
+        let _number = self.by_number.remove(&place.number);
+        forget(&mut self.by_name, &place.name);
+        self.place = None;
     }
 
     /// Drops the standing of a name.
@@ -211,12 +225,13 @@ impl Standings {
         self.by_name.len()
     }
 
-    /// Drops the standings of other names than these, which are in order.
+    /// Drops the standings of other names than these, which are in order, and any place.
     pub fn retain_listed(&mut self, names: &[NodeName])
         requires { IsSorted sweep_cmp names.now }
         ensures items { self.new.items ≡ filter (λ s. lists names.now s.name) self.old.items }
         ensures len { length self.new.items ≤ length self.old.items }
     {
+        self.release();
         retain_listed(&mut self.by_name, names);
         keep_numbers(&mut self.by_number, names);
         keep_known(&mut self.retry, &self.by_number);

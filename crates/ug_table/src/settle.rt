@@ -2,7 +2,7 @@
 ghost use Rattle.std.specs.Prelude.{true, false, ◌≡◌, ◌≤◌, ◌<◌, ◌+◌, ◌++◌, ◌∷◌, [], ◌-◌, ◌^◌, length, is_none, IsSome, Some, None};
 ghost use Rattle.ug_types.specs.Names.{parent_of};
 ghost use Rattle.ug_kernel.specs.Tree.{Runs, Room};
-ghost use Rattle.ug_table.specs.Slots.{HasPlace};
+ghost use Rattle.ug_table.specs.Slots.{place_of};
 ghost use Rattle.ug_audit.specs.Journal.{Notes, noted_in};
 ghost use Rattle.ug_audit.specs.declared.entry.Entry.TheVariants.{Unsettled};
 ghost use Rattle.ug_table.specs.State.{state_of, kept_of, terms_of};
@@ -44,14 +44,15 @@ fn is_stands(settled: Settled) -> bool
 
 /// Keeps a new standing, unless its device is gone.
 fn keep(standings: &mut Standings, standing: Standing, wrote: bool, settled: Settled)
-    requires { HasPlace standing.name standing.number standings.old }
+    requires { standings.old.place ≡ place_of standing.name standing.number }
+    ensures place { standings.new.place ≡ None }
     ensures standings { standings.new.items ≡ kept_standings standings.old.items (record standing { defaulted = wrote }) settled }
     ensures len { length standings.new.items ≤ length standings.old.items + 1 }
 {
     let mut standing = standing;
     standing.defaulted = wrote;
     match settled {
-        Settled::Nobody => standings.release(&standing.name, standing.number),
+        Settled::Nobody => standings.release(),
         Settled::Stands => {
             standing.settled = true;
             standing.removed = standing.removed || is_reject(standing.verdict);

@@ -1,5 +1,5 @@
 // The slots of names: each holds a standing, or its place.
-ghost use Rattle.std.specs.Prelude.{◌≡◌, ◌≤◌, ◌+◌, true, false, ◌||◌, ◌&&◌, length, map, Some, None, option_copied, IsSome};
+ghost use Rattle.std.specs.Prelude.{◌≡◌, ◌≤◌, ◌+◌, true, false, ◌||◌, ◌&&◌, not, [], ◌∷◌, length, map, Some, None, option_copied};
 ghost use Rattle.std.specs.Bool.{OnTrue, OnFalse};
 ghost use Rattle.std.specs.List.{filter};
 ghost use Rattle.std.specs.List.Sorted.{IsSorted};
@@ -10,7 +10,7 @@ ghost use Rattle.ug_types.specs.Elements.{Has};
 ghost use Rattle.ug_table.specs.declared.standing.Standing.{Standing};
 ghost use Rattle.ug_table.specs.Bring.{is_reject};
 ghost use Rattle.ug_table.specs.Orders.{with_order};
-ghost use Rattle.ug_table.specs.Slots.{filled, slot_of, AllNamed};
+ghost use Rattle.ug_table.specs.Slots.{filled, slot_of, empty_of, AllNamed};
 
 use crate::bring::is_reject;
 use crate::standing::Standing;
@@ -38,6 +38,7 @@ pub(crate) fn mark(slots: &mut Slots, name: &NodeName, settled: bool)
     ensures items { filled slots.new.entries ≡ map (marked name.now settled) (filled slots.old.entries) }
     ensures ordered { IsOrdered sweep_cmp slots.new }
     ensures bear { AllNamed slots.new.entries }
+    ensures empty { empty_of slots.new.entries ≡ empty_of slots.old.entries }
     ensures len { length slots.new.entries ≡ length slots.old.entries }
 {
     let Some(slot) = slots.get_mut(name) else {
@@ -64,6 +65,7 @@ pub(crate) fn mark_default(slots: &mut Slots, name: &NodeName)
     ensures items { filled slots.new.entries ≡ map (with_default name.now) (filled slots.old.entries) }
     ensures ordered { IsOrdered sweep_cmp slots.new }
     ensures bear { AllNamed slots.new.entries }
+    ensures empty { empty_of slots.new.entries ≡ empty_of slots.old.entries }
     ensures len { length slots.new.entries ≡ length slots.old.entries }
 {
     let Some(slot) = slots.get_mut(name) else {
@@ -90,6 +92,7 @@ pub(crate) fn order(
     ensures items { filled slots.new.entries ≡ with_order number verdict who (filled slots.old.entries) }
     ensures ordered { IsOrdered sweep_cmp slots.new }
     ensures bear { AllNamed slots.new.entries }
+    ensures empty { empty_of slots.new.entries ≡ empty_of slots.old.entries }
     ensures len { length slots.new.entries ≡ length slots.old.entries }
 {
     let Some(slot) = slots.get_mut(name) else {
@@ -109,6 +112,8 @@ pub(crate) fn forget(slots: &mut Slots, name: &NodeName)
     ensures items { filled slots.new.entries ≡ without name.now (filled slots.old.entries) }
     ensures ordered { IsOrdered sweep_cmp slots.new }
     ensures bear { AllNamed slots.new.entries }
+    ensures empty { empty_of slots.new.entries
+        ≡ filter (λ n. not (same_name n name.now)) (empty_of slots.old.entries) }
     ensures len { length slots.new.entries ≤ length slots.old.entries }
 {
     let _gone = slots.remove(name);
@@ -119,11 +124,12 @@ pub(crate) fn make_place(slots: &mut Slots, name: &NodeName) -> bool
     requires ordered { IsOrdered sweep_cmp slots.old }
     requires bear { AllNamed slots.old.entries }
     requires absent { named name.now (filled slots.old.entries) ≡ None }
+    requires full { empty_of slots.old.entries ≡ [] }
     ensures items { filled slots.new.entries ≡ filled slots.old.entries }
     ensures ordered { IsOrdered sweep_cmp slots.new }
     ensures bear { AllNamed slots.new.entries }
     ensures len { length slots.new.entries ≤ length slots.old.entries + 1 }
-    ensures place { OnTrue result (slot_of name.now slots.new.entries ≡ Some None) }
+    ensures place { OnTrue result (empty_of slots.new.entries ≡ name.now ∷ []) }
     ensures same { OnFalse result (slots.new.entries ≡ slots.old.entries) }
 {
     slots.insert(*name, None).is_ok()
@@ -134,9 +140,11 @@ pub(crate) fn fill(slots: &mut Slots, standing: Standing)
     requires ordered { IsOrdered sweep_cmp slots.old }
     requires bear { AllNamed slots.old.entries }
     requires place { slot_of standing.name slots.old.entries ≡ Some None }
+    requires only { empty_of slots.old.entries ≡ standing.name ∷ [] }
     ensures items { filled slots.new.entries ≡ with_standing standing (filled slots.old.entries) }
     ensures ordered { IsOrdered sweep_cmp slots.new }
     ensures bear { AllNamed slots.new.entries }
+    ensures empty { empty_of slots.new.entries ≡ [] }
     ensures len { length slots.new.entries ≡ length slots.old.entries }
 {
     let name = standing.name;
@@ -161,6 +169,8 @@ pub(crate) fn retain_listed(slots: &mut Slots, names: &[NodeName])
     ensures items { filled slots.new.entries ≡ filter (λ s. lists names.now s.name) (filled slots.old.entries) }
     ensures ordered { IsOrdered sweep_cmp slots.new }
     ensures bear { AllNamed slots.new.entries }
+    ensures empty { empty_of slots.new.entries
+        ≡ filter (lists names.now) (empty_of slots.old.entries) }
     ensures len { length slots.new.entries ≤ length slots.old.entries }
 {
     slots.retain(|name, _slot| has(names, name));

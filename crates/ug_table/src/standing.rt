@@ -21,6 +21,13 @@ pub struct Standing {
     pub defaulted: bool,
 }
 
+/// A name and a number for which room is held.
+#[derive(Clone, Copy)]
+pub struct Place {
+    pub name: NodeName,
+    pub number: u64,
+}
+
 /// What the writes of a standing need.
 #[derive(Clone, Copy)]
 pub struct Known {

@@ -1,12 +1,6 @@
-use Rattle.std.proofs.Common.{◌≡◌, ◌∙◌, ◌+◌, ap, sym, subst, refl, rules, arith, Option, Some, None, Bor, map, List, ℕ, Bool, true, false}
-use Rattle.std.specs.BTreeMap.{BTreeMap, is_at}
-use Rattle.std.specs.Map.{set_value, lookup}
-use Rattle.std.proofs.lemmas.Map.Steps.{set_value_same}
-use Rattle.ug_types.specs.Names.{sweep_cmp}
-use Rattle.ug_table.specs.Standings.{named, marked, without, with_standing, lists}
-use Rattle.ug_table.specs.Slots.{Slot, filled, slot_of, AllNamed, IsNameOf}
-use Rattle.ug_table.proofs.Entries.{flat, named_slot, without_slot, map_slot, fill_slot, place_slot, filter_slot, map_absent, bear_set, bear_remove, bear_place, bear_filter, bears_found, search_lists, marked_other, marked_own}
-use Rattle.ug_table.specs.declared.standing.Standing.{Standing}
+use Rattle.std.proofs.Common.{◌∙◌, ap, sym, subst, refl, Some}
+use Rattle.ug_table.specs.Slots.{filled, empty_of, AllNamed}
+use Rattle.ug_table.proofs.Entries.{fill_slot, empty_fill, bear_set}
 use Rattle.ug_table.proofs.slots.fill.Goals as goal
 
 pub returns-in-Some-clause-items : goal.returns-in-Some-clause-items
@@ -16,3 +10,8 @@ returns-in-Some-clause-items c =
 
 pub returns-in-Some-clause-bear : goal.returns-in-Some-clause-bear
 returns-in-Some-clause-bear c = subst AllNamed (sym (c.get_mut.follows.holds (Some c.args.standing)).0) (bear_set c.args.standing.name c.args.slots.now.entries (Some c.args.standing) c.requires.bear refl)
+
+pub returns-in-Some-clause-empty : goal.returns-in-Some-clause-empty
+returns-in-Some-clause-empty c =
+    ap empty_of (c.get_mut.follows.holds (Some c.args.standing)).0
+    ∙ empty_fill c.args.standing.name c.args.standing c.args.slots.now.entries c.requires.only c.requires.place

@@ -1,5 +1,4 @@
-use Rattle.std.proofs.Common.{◌≡◌, ◌∙◌, ap, sym, Option, Bor, option_copied}
-use Rattle.ug_table.specs.declared.standing.Standing.{Standing}
+use Rattle.std.proofs.Common.{◌∙◌, ap, sym, option_copied}
 use Rattle.ug_table.proofs.Entries.{named_slot, flat}
 use Rattle.ug_table.proofs.slots.find.Goals as goal
 

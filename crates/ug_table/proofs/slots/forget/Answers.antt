@@ -1,12 +1,6 @@
-use Rattle.std.proofs.Common.{◌≡◌, ◌∙◌, ◌+◌, ap, sym, subst, refl, rules, arith, Option, Some, None, Bor, map, List, ℕ, Bool, true, false}
-use Rattle.std.specs.BTreeMap.{BTreeMap, is_at}
-use Rattle.std.specs.Map.{set_value, lookup}
-use Rattle.std.proofs.lemmas.Map.Steps.{set_value_same}
-use Rattle.ug_types.specs.Names.{sweep_cmp}
-use Rattle.ug_table.specs.Standings.{named, marked, without, with_standing, lists}
-use Rattle.ug_table.specs.Slots.{Slot, filled, slot_of, AllNamed, IsNameOf}
-use Rattle.ug_table.proofs.Entries.{flat, named_slot, without_slot, map_slot, fill_slot, place_slot, filter_slot, map_absent, bear_set, bear_remove, bear_place, bear_filter, bears_found, search_lists, marked_other, marked_own}
-use Rattle.ug_table.specs.declared.standing.Standing.{Standing}
+use Rattle.std.proofs.Common.{◌∙◌, ap, sym, subst}
+use Rattle.ug_table.specs.Slots.{filled, empty_of, AllNamed}
+use Rattle.ug_table.proofs.Entries.{without_slot, bear_remove, empty_remove}
 use Rattle.ug_table.proofs.slots.forget.Goals as goal
 
 pub returns-clause-items : goal.returns-clause-items
@@ -14,3 +8,6 @@ returns-clause-items c = ap filled c.remove-gone.ensures.entries ∙ without_slo
 
 pub returns-clause-bear : goal.returns-clause-bear
 returns-clause-bear c = subst AllNamed (sym c.remove-gone.ensures.entries) (bear_remove c.args.name.now c.args.slots.now.entries c.requires.bear)
+
+pub returns-clause-empty : goal.returns-clause-empty
+returns-clause-empty c = ap empty_of c.remove-gone.ensures.entries ∙ empty_remove c.args.name.now c.args.slots.now.entries c.requires.ordered

@@ -1,10 +1,6 @@
-use Rattle.std.proofs.Common.{◌≡◌, ◌∙◌, ap, sym, subst, refl, arith, Some, None, ℕ, ◌<◌, ◌≤◌, IsSome}
+use Rattle.std.proofs.Common.{◌≡◌, sym, subst, refl, arith}
 use Rattle.ug_types.specs.Elements.{Has}
-use Rattle.ug_table.specs.declared.standing.Standing.{Standing}
-use Rattle.ug_table.specs.Standings.{numbered}
-use Rattle.ug_table.specs.Slots.{Store, filled}
-use Rattle.std.specs.BTreeMap.{get}
-use Rattle.std.specs.Ordering.{nat_cmp}
+use Rattle.ug_table.specs.Slots.{Store}
 use native.Mathlib.Decide.{dec_lt}
 use Prim.{yes, no}
 use Rattle.ug_table.proofs.Agreement.{unnumbered, numbered_has}

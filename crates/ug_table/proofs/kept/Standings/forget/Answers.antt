@@ -1,11 +1,8 @@
-use Rattle.std.proofs.Common.{◌≡◌, ◌∙◌, ap, sym, subst, refl, rules, arith, Option, Some, None, map, List, ℕ, Bool, true, false}
-use Rattle.ug_table.specs.Standings.{named, numbered, without, marked, with_standing}
-use Rattle.ug_table.specs.Slots.{Store, HasPlace, filled, slot_of}
-use Rattle.std.specs.BTreeMap.{get}
-use Rattle.std.specs.Ordering.{nat_cmp}
-use Rattle.ug_table.specs.declared.standing.Standing.{Standing}
+use Rattle.std.proofs.Common.{◌∙◌, ap, sym, arith}
+use Rattle.ug_table.specs.Standings.{named}
+use Rattle.ug_table.specs.Slots.{Store, filled}
 use Rattle.ug_table.proofs.Agreement.{agree_forget, without_absent, without_few}
-use Rattle.std.proofs.Common.{length, ◌≤◌}
+use Rattle.std.proofs.Common.{length}
 use Rattle.ug_table.proofs.kept.Standings.forget.Goals as goal
 
 pub returns-in-None : goal.returns-in-None
@@ -13,7 +10,7 @@ returns-in-None c = record { len = omega arith; items = sym (without_absent c.ar
 
 pub invariant_of-self : goal.invariant_of-self
 invariant_of-self c =
-    agree_forget c.self.inside.by_name c.forget.new.slots c.self.inside.by_number c.remove-number.new.self c.self.inside.retry.items c.note_mark.new.retry.items _ _ c.args.name.now c.in-Some.s.now c.self.invariant (sym c.in-Some.ensures) c.forget.ensures.items c.forget.ensures.ordered c.forget.ensures.bear c.forget.ensures.len c.remove-number.ensures.updates.2 c.note_mark.ensures.items c.note_mark.ensures.capacity
+    agree_forget c.self.inside.by_name c.forget.new.slots c.self.inside.by_number c.remove-number.new.self c.self.inside.place c.self.inside.retry.items c.note_mark.new.retry.items _ _ c.args.name.now c.in-Some.s.now c.self.invariant (sym c.in-Some.ensures) c.forget.ensures.items c.forget.ensures.ordered c.forget.ensures.bear c.forget.ensures.empty c.forget.ensures.len c.remove-number.ensures.updates.0 c.note_mark.ensures.items c.note_mark.ensures.capacity
 
 pub returns-clause-len : goal.returns-clause-len
 returns-clause-len c =

@@ -1,21 +1,20 @@
-use Rattle.std.proofs.Common.{◌≡◌, ◌∙◌, ap, sym, subst, refl, rules, arith, Option, Some, None, map, List, ℕ, Bool, true, false, ◌≤◌, length}
-use Rattle.ug_types.specs.Elements.{Has}
-use Rattle.ug_table.specs.Standings.{named, numbered, without, marked, with_standing, lists}
-use Rattle.ug_table.specs.Slots.{Store, HasPlace, filled, slot_of}
-use Rattle.std.specs.BTreeMap.{get, is_at}
-use Rattle.std.specs.Ordering.{nat_cmp}
+use Rattle.std.proofs.Common.{◌∙◌, ap, arith, length}
 use Rattle.ug_table.specs.declared.standing.Standing.{Standing}
+use Rattle.ug_table.specs.Standings.{lists}
+use Rattle.ug_table.specs.Slots.{Store, filled}
 use Rattle.ug_table.proofs.Agreement.{agree_listed, filter_few}
 use Rattle.ug_table.proofs.kept.Standings.retain_listed.Goals as goal
 
 pub invariant_of-self : goal.invariant_of-self
 invariant_of-self c =
     let f = c.self.inside in
-    agree_listed f.by_name c.retain_listed.new.slots f.by_number c.keep_numbers.new.by_number f.retry.items c.keep_known.new.retry.items _ _ (lists c.args.names.now) c.self.invariant c.retain_listed.ensures.items c.retain_listed.ensures.ordered c.retain_listed.ensures.bear c.retain_listed.ensures.len c.keep_numbers.ensures c.keep_known.ensures.items c.keep_known.ensures.capacity
+    let none = ap (λ (k : Store). k.place) c.self.view_is ∙ c.release.ensures.place in
+    agree_listed f.place f.by_name c.retain_listed.new.slots f.by_number c.keep_numbers.new.by_number f.retry.items c.keep_known.new.retry.items _ _ (lists c.args.names.now) none c.self.invariant c.retain_listed.ensures.items c.retain_listed.ensures.ordered c.retain_listed.ensures.bear c.retain_listed.ensures.empty c.retain_listed.ensures.len c.keep_numbers.ensures c.keep_known.ensures.items c.keep_known.ensures.capacity
 
 pub returns-clause-len : goal.returns-clause-len
 returns-clause-len c =
     let now = ap length c.retain_listed.ensures.items in
     let few = filter_few (λ (s : Standing). lists c.args.names.now s.name) (filled c.self.inside.by_name.entries) in
     let same = ap (λ (k : Store). length k.items) c.self.view_is in
-    omega (arith, now, few, same)
+    let was = ap length c.release.ensures.items in
+    omega (arith, now, few, same, was)

@@ -1,10 +1,9 @@
-use Rattle.std.proofs.Common.{◌≡◌, ◌∙◌, ap, sym, subst, refl, rules, arith, Option, Some, None, map, List, ℕ, Bool, true, false}
-use Rattle.ug_table.specs.Standings.{named, numbered, without, marked, with_standing}
-use Rattle.ug_table.specs.Slots.{Store, HasPlace, filled, slot_of}
+use Rattle.std.proofs.Common.{◌≡◌, ◌∙◌, ap, sym, subst}
+use Rattle.ug_table.specs.Slots.{Store, filled}
 use Rattle.std.specs.BTreeMap.{get}
 use Rattle.std.specs.Ordering.{nat_cmp}
 use Rattle.ug_table.specs.declared.standing.Standing.{Standing}
-use Rattle.ug_table.proofs.Agreement.{one_numbered, agree_distinct, numbered_has, unnumbered, order_none, agree_order}
+use Rattle.ug_table.proofs.Agreement.{one_numbered, agree_distinct, numbered_has, order_none, agree_order}
 use Rattle.ug_table.proofs.Entries.{name_same, same_refl}
 use Rattle.std.proofs.lemmas.Bool.{both_ways}
 use Rattle.ug_types.specs.Elements.{Has}
@@ -20,7 +19,7 @@ order-requires-clause-own c s a f e =
     let x = c.in-Some.s.now in
     let k = numbered_has c.args.number c.args.self.now.items x (sym c.in-Some.ensures) in
     let h = subst (λ (v : Store). Has v.items x) (sym c.self.view_is) k.0 in
-    let is : s ≡ x = one_numbered (filled c.self.inside.by_name.entries) (get nat_cmp c.self.inside.by_number) s x (agree_distinct c.self.inside.by_name c.self.inside.by_number _ _ c.self.invariant) c.self.invariant.numbers a h (e ∙ sym k.1) in
+    let is : s ≡ x = one_numbered (filled c.self.inside.by_name.entries) (get nat_cmp c.self.inside.by_number) s x (agree_distinct c.self.inside.by_name c.self.inside.by_number c.self.inside.place _ _ c.self.invariant) c.self.invariant.numbers a h (e ∙ sym k.1) in
     both_ways (same_name s.name x.name) f (ap (λ (v : Standing). same_name v.name x.name) is ∙ same_refl x.name)
 
 pub order-requires-clause-numbered : goal.order-requires-clause-numbered
@@ -28,8 +27,8 @@ order-requires-clause-numbered c s a t =
     let x = c.in-Some.s.now in
     let k = numbered_has c.args.number c.args.self.now.items x (sym c.in-Some.ensures) in
     let h = subst (λ (v : Store). Has v.items x) (sym c.self.view_is) k.0 in
-    let is : s ≡ x = distinct_one (λ (v : Standing). v.name) (filled c.self.inside.by_name.entries) s x (agree_distinct c.self.inside.by_name c.self.inside.by_number _ _ c.self.invariant) a h (name_same s.name x.name t) in
+    let is : s ≡ x = distinct_one (λ (v : Standing). v.name) (filled c.self.inside.by_name.entries) s x (agree_distinct c.self.inside.by_name c.self.inside.by_number c.self.inside.place _ _ c.self.invariant) a h (name_same s.name x.name t) in
     ap (λ (v : Standing). v.number) is ∙ k.1
 
 pub invariant_of-self : goal.invariant_of-self
-invariant_of-self c = agree_order c.self.inside.by_name c.order.new.slots c.self.inside.by_number c.self.inside.retry.items _ c.args.number c.args.verdict c.args.who c.self.invariant c.order.ensures.items c.order.ensures.ordered c.order.ensures.bear c.order.ensures.len
+invariant_of-self c = agree_order c.self.inside.by_name c.order.new.slots c.self.inside.by_number c.self.inside.place c.self.inside.retry.items _ c.args.number c.args.verdict c.args.who c.self.invariant c.order.ensures.items c.order.ensures.ordered c.order.ensures.bear c.order.ensures.empty c.order.ensures.len

@@ -1,9 +1,8 @@
-use Rattle.std.proofs.Common.{List, ◌∙◌, ap}
+use Rattle.std.proofs.Common.{◌∙◌, ap}
 use Rattle.std.specs.List.{list_any}
 use Rattle.ug_match.specs.Queries.{query_matches}
-use Rattle.ug_table.specs.Allowed.{allowed_of, allowed_records}
+use Rattle.ug_table.specs.Allowed.{allowed_records}
 use Rattle.ug_table.specs.Table.{TableState}
-use Rattle.ug_table.specs.declared.standing.Standing.{Standing}
 use Rattle.ug_table.proofs.Allowed.{records_any}
 use Rattle.ug_table.proofs.table.Table.any_allowed.Goals as goal
 

@@ -1,7 +1,7 @@
-use Rattle.std.proofs.Common.{◌∙◌, false, refl, ap, sym, subst, rules, arith, min, List, length, ◌≤◌}
+use Rattle.std.proofs.Common.{◌∙◌, false, refl, ap, sym, subst, rules, arith, min, List, length}
 use Rattle.std.specs.Prelude.{vec_capacity}
 use Rattle.ug_table.specs.Table.{TableState}
-use Rattle.ug_table.specs.Standings.{named, standing_of}
+use Rattle.ug_table.specs.Standings.{standing_of}
 use Rattle.ug_table.specs.Order.{StandInOrder}
 use Rattle.ug_table.specs.declared.standing.Standing.{Standing}
 use Rattle.ug_table.proofs.Marks.{kept_more}
