@@ -54,6 +54,7 @@ use Rattle.ug_table.proofs.Steps.{in_order as kept_order}
 use Rattle.ug_core.specs.Answering.{acting, answer_of, asking, deed_after, keeping, reply_to, replying}
 use Rattle.ug_core.specs.Changes.{change_entry, lines_of}
 use Rattle.ug_core.specs.Event.{DaemonState, ready}
+use Rattle.ug_core.specs.Values.{LogsValues}
 use Rattle.ug_core.specs.Laws.{Answers, AnswersAtOnce, AnswersEvent, CarriesOut, GoesAsAnswer, GoesOn, LeavesVerdict, No_record, No_room, Outcome, ProbeRefuses, RefusesBehind, RefusesOrder, RunsAnswer, StoreRefuses, Unstored, Without_memory, if_watching, is_on_device}
 use Rattle.ug_core.specs.Policy.{Judging, policy_answer, policy_later}
 use Rattle.ug_core.specs.Storing.{noted_store, refused_by, stored_with, with_changes}
@@ -64,6 +65,7 @@ use Rattle.ug_core.specs.declared.daemon.Event.TheVariants.{Sweep, Order}
 use Rattle.ug_core.specs.declared.storing.Stored.{Stored}
 use Rattle.ug_core.specs.declared.storing.Stored.TheVariants as stored
 use Rattle.ug_core.proofs.Came.{At_first, At_last, At_once, At_probe, By_probe, Came, GoesFrom, No_call, Sets, SetsVerdict, came_so, stores_as}
+use Rattle.ug_core.proofs.Values.{quiet_values, runs_values, same_values, values_then}
 use Rattle.ug_core.proofs.Asked.{Probed}
 
 -- ---- what a verdict leaves
@@ -397,6 +399,7 @@ module _ (who : Named) (line : List ℕ) (k : Kernel) (d : DaemonState) (change 
         entries = told.entries;
         bears = told.bears;
         given = told.given;
+        values = values_then k y.behind l (quiet_values k y.behind z.quiet) (runs_values (ordering y.number y.verdict who y.on was) y.behind y.p l y.run);
         state = y.state;
       }))
 
@@ -422,6 +425,13 @@ answering_told gives told did keeps (Order moment who line) s o d became t p a h
           let acted = second.run asked.1 in
           order_so who line first.kernel d h.choice.change became l a sound stand (came_so calls who line d became first.kernel second.kernel l a h.choice asked.0 stores acted.0),
     )
+
+-- values change by the writes of an order alone
+pub answered_values : (event : Event) (k : Kernel) (d : DaemonState) (became : Stored) (l : Kernel) (a : DaemonState) → AnswersEvent event k d became l a → LogsValues k l
+answered_values (Sweep moment) k d became l a h = same_values k l h.0
+answered_values (Order moment who line) k d became l a (inl h) = quiet_values k l h.quiet
+answered_values (Order moment who line) k d became l a (inr (inl h)) = same_values k l h.0
+answered_values (Order moment who line) k d became l a (inr (inr h)) = h.values
 
 -- behind an order the kernel is sound, and the standings are of its devices
 

@@ -1,6 +1,8 @@
 pub mod Asked
 pub mod Came
 pub mod Answered
+pub mod Bindings
+pub mod Values
 pub mod Handled
 pub mod Failures
 pub mod Verdicts

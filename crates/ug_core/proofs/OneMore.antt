@@ -56,7 +56,7 @@ use Rattle.ug_table.specs.declared.standing.Settled.TheVariants as settled
 use Rattle.ug_core.specs.Privileges.{denied_of, first_denied}
 use Rattle.ug_core.specs.declared.storing.Stored.{Stored}
 use Rattle.ug_core.specs.declared.storing.Stored.TheVariants as stored
-use Rattle.ug_core.proofs.Answered.{now_standings}
+use Rattle.ug_core.proofs.Answered.{answered_values, now_standings}
 use Rattle.ug_core.proofs.SoFar.{SoFar, any_append, at_changed, changed_so, entry_silent, fair_so, journal_append, listed_after, listed_append, noted_so, ordered_so, placed_new, still_so, told_append}
 
 -- ---- one event
@@ -434,7 +434,7 @@ module _ (policy : Judging) (first : Kernel) (hs : List Happened) (h : Happened)
       ∙ ap (λ (l : List Told). told_of hs ++ (first_told ++ l)) (ap (λ (ds : List Decision). decided ds) (sym inside))
       ∙ ap (λ (o : Option Reply). told_of hs ++ (told_if (was_done o) (changes_asked (ready_of h) h.event) ++ decided (unordered (decisions_in h.after.sweep.entries)))) (sym law.reply)
       ∙ sym (told_append hs h) in
-      let swept = fair_so policy first (hs ++ h ∷ []) (told_of hs ++ first_told) (journal hs ++ a.entries) (moment_of h.event) (not a.listed) h.kernel_answered h.kernel_after a v b.at kept_hub law.law.defaults fair (λ r p. placed_new hs h fair.rest r entries (b.listed ∙ listed) p) b.so in
+      let swept = fair_so policy first (hs ++ h ∷ []) (told_of hs ++ first_told) (journal hs ++ a.entries) (moment_of h.event) (not a.listed) h.kernel_answered h.kernel_after a v b.at kept_hub law.law.defaults fair (λ r p. placed_new hs h fair.rest r (answered_values h.event h.kernel (ready_of h) h.became h.kernel_answered h.answered answers) entries (b.listed ∙ listed) p) b.so in
       let last = noted_so policy first h.kernel_after (hs ++ h ∷ []) ((told_of hs ++ first_told) ++ ruled_told) ((journal hs ++ a.entries) ++ fair.rest) (y ∷ []) v h.after.sweep refl refl (ap (λ (z : State Judging). z.standings) law.entries) (ap (λ (z : State Judging). z.next) law.entries) (ap (λ (z : State Judging). z.hub) law.entries) (λ m. ap (λ (z : State Judging). at_moment m z.judge) law.entries) swept in (
         subst (λ (l : List Told). SoFar policy first h.kernel_after (hs ++ h ∷ []) l (journal (hs ++ h ∷ [])) h.after.sweep) told
             (subst (λ (es : List Entry). SoFar policy first h.kernel_after (hs ++ h ∷ []) ((told_of hs ++ first_told) ++ ruled_told) es h.after.sweep) whole last),

@@ -41,6 +41,7 @@ use Rattle.ug_core.specs.Policy.{Judging, cause_for, choice_for, kept, by_choice
 use Rattle.ug_core.specs.Event.{moment_of}
 use Rattle.ug_core.specs.InForce.{Decision, decision_of, decisions_in, or_else, on_number, last_decision, last_judged, standing_decision, in_force, Agree, is_ordered, unordered, numbers_on, given_numbers, Follow}
 use Rattle.ug_core.specs.Rulings.{CanTake, Changed, Decided, PolicyStep, Ruled, Ruling, Told, Was_changed, after_ruling, after_steps, at_moment, decision_by, told_by}
+use Rattle.ug_core.specs.Values.{LogsValues}
 use Rattle.ug_core.specs.Chain.{Happened, ready_of, changes_asked, decided, journal, told_if, told_in, told_of, was_done, tells_unlisted, has_listed, IsPlaced, WasAsked, WasOrdered}
 use Rattle.ug_core.proofs.InForce.{told_numbers, in_force_append, on_itself, on_another, unordered_append, unordered_all, decisions_append, decisions_more, has_decision, standing_found, fresh, numbers_append, follow_append, lift, lift_agree}
 use Rattle.ug_core.proofs.Steps.{after_ruled, can_ruled, can_then, ruled, ruled_has, ruled_unchanged, steps_append, told_ruled, told_then}
@@ -229,6 +230,7 @@ placed_stays hs more k l r g p = record {
   present = p.present;
   device = device_stays k l r.device r.name r.held r.judged g p.device;
   probed = p.probed;
+  met = p.met;
   stand = p.stand;
   left = p.left;
   marked = p.marked;
@@ -537,9 +539,9 @@ fair_so policy first hs tl es moment present k l w v at hub keeps fair placing s
     placed_same : (hs : List Happened) (k l : Kernel) (r : Ruling) → Grows k l → IsPlaced hs k r → IsPlaced hs l r
     placed_same hs k l r g p = subst (λ (x : List Happened). IsPlaced x l r) (append-nil hs) (placed_stays hs [] k l r g p)
 
-pub placed_new : (hs : List Happened) (h : Happened) (rest : List Entry) (r : Ruling) → h.after.sweep.entries ≡ h.answered.sweep.entries ++ (rest ++ entry.End h.answered.event ∷ []) → h.answered.sweep.listed ≡ has_listed hs
+pub placed_new : (hs : List Happened) (h : Happened) (rest : List Entry) (r : Ruling) → LogsValues h.kernel h.kernel_answered → h.after.sweep.entries ≡ h.answered.sweep.entries ++ (rest ++ entry.End h.answered.event ∷ []) → h.answered.sweep.listed ≡ has_listed hs
     → IsAt (not h.answered.sweep.listed) (moment_of h.event) h.kernel_answered h.kernel_after h.answered.sweep.standings rest r → IsPlaced (hs ++ h ∷ []) h.kernel_after r
-placed_new hs h rest r entries listed p =
+placed_new hs h rest r values entries listed p =
     let y : Entry = entry.End h.answered.event in
     let this : Entry = entry.Judged r.number r.name r.held p.verdict p.cause in
     record {
@@ -556,6 +558,7 @@ placed_new hs h rest r entries listed p =
       present = p.present_is ∙ ap (λ (b : Bool). not b) listed;
       device = p.device;
       probed = p.probed;
+      met = λ d at. let x = values.value r.device d at in (values.more, values.log, sym (p.probed.met x.0 x.1) ∙ x.2);
       stand = p.stand;
       left = p.left;
       marked = p.marked;

@@ -42,6 +42,7 @@ use Rattle.ug_core.specs.Privileges.{is_granted}
 use Rattle.ug_core.specs.InForce.{Decision, decision_of, decisions_in, is_ordered, unordered, in_force, Agree, given_numbers, Follow}
 use Rattle.ug_core.specs.Laws.{AnswersEvent, Handled}
 use Rattle.ug_core.specs.Changes.{change_asked}
+use Rattle.ug_core.specs.Values.{on_by}
 use Rattle.ug_core.specs.Rulings.{CanTake, Changed, Decided, PolicyStep, Ruled, Ruling, Told, Was_changed, after_steps, at_moment, told_by}
 use Rattle.ug_core.specs.declared.changes.Change.{Change}
 use Rattle.ug_core.specs.declared.storing.Stored.{Stored}
@@ -125,10 +126,16 @@ abbrev pub has_listed : List Happened → Bool
 has_listed [] = false
 has_listed (h ∷ hs) = not (list_any tells_unlisted h.after.sweep.entries) || has_listed hs
 
+-- where the device was there before an order, its value is the one that it had then, but for what the
+-- order's writes made of it
+abbrev pub IsAsMet : Kernel → Kernel → ℕ → Bool → Type 0
+IsAsMet k l i on = (d : Device) → slice_get k.devices i ≡ Some d
+    → (more : List Effect) × (l.log ≡ k.log ++ more) × (on ≡ on_by i more d.on)
+
 -- The place of a ruling in a run: its event, and in that the `judged` entry of its number. The moment is the event's. Devices count as
 -- present where no listing of an earlier event had succeeded. The record is that of the very device of the held file, which in this
 -- event lived from the opening of that file to the probe that gave its value, and had that value when the sweep began, if it was there
--- then. The standings are those that are left there of the ones that the sweep began with, and each is marked as settled as is told there.
+-- then; and when the event began, but for what the writes of its order made of it. The standings are those that are left there of the ones that the sweep began with, and each is marked as settled as is told there.
 pub record IsPlaced (hs : List Happened) (k : Kernel) (r : Ruling) : Type 0 where
   pub earlier : List Happened
   pub event : Happened
@@ -143,6 +150,7 @@ pub record IsPlaced (hs : List Happened) (k : Kernel) (r : Ruling) : Type 0 wher
   pub present : r.present ≡ not (has_listed earlier)
   pub device : IsDevice k r.device r.name r.held r.judged
   pub probed : IsProbed event.kernel_answered event.kernel_after r.name r.held.0 r.device r.on
+  pub met : IsAsMet event.kernel event.kernel_answered r.device r.on
   pub stand : Stand event.kernel_after r.standings r.number
   pub left : AreLeft event.answered.sweep.standings front r.standings
   pub marked : AreMarkedIn swept_before r.name event.answered.sweep.standings front r.standings

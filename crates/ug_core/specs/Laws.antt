@@ -44,6 +44,7 @@ use Rattle.ug_table.specs.Parts.{AllBear, failures_told, told_in_reply, unsettle
 use Rattle.ug_table.specs.Standings.{numbered}
 use Rattle.ug_table.specs.declared.standing.Settled.{Settled}
 use Rattle.ug_table.specs.declared.standing.Standing.{Standing}
+use Rattle.ug_core.specs.Bindings.{BindsJudged}
 use Rattle.ug_core.specs.Answering.{acting, answered_with, asking, deed_after, replying}
 use Rattle.ug_core.specs.Changes.{CanChange, change_asked, change_lines, changed_by, is_saved, lines_of, parameter_at}
 use Rattle.ug_core.specs.Storing.{TellsStored, noted_store, refused_by, stored_with, storing, with_changes}
@@ -57,6 +58,7 @@ use Rattle.ug_core.specs.Privileges.{denied_of, is_granted}
 use Rattle.ug_core.specs.Event.{DaemonState, ready, trying, handling}
 use Rattle.ug_core.specs.Durable.{KeepsFile, WritesEvent}
 use Rattle.ug_core.specs.Pending.{TriesSave}
+use Rattle.ug_core.specs.Values.{LogsValues}
 use Rattle.ug_core.specs.declared.changes.Change.{Change}
 use Rattle.ug_core.specs.declared.changes.Change.TheVariants.{Rules}
 use Rattle.ug_core.specs.declared.choosing.Choice.{Choice}
@@ -202,7 +204,7 @@ pub record LeavesVerdict (number : ℕ) (verdict : Target) (before after : List 
 
 -- A verdict that was ordered by one who may. The device of that number's standing was there, with that value. If the verdict is to be
 -- permanent, its rule is saved and in force. The verdict is set and told, and the device is brought to it; and the reply tells what came
--- of it.
+-- of it. Values change by the writes in the log alone.
 pub record CarriesOut (who : Named) (line : List ℕ) (k : Kernel) (d : DaemonState) (became : Stored) (l : Kernel) (e : DaemonState) : Type 0 where
   pub number : ℕ
   pub verdict : Target
@@ -228,6 +230,7 @@ pub record CarriesOut (who : Named) (line : List ℕ) (k : Kernel) (d : DaemonSt
   pub entries : kept.entries ≡ changed.sweep.entries ++ verdict_entry (with_verdict verdict who standing) ∷ rest
   pub bears : AllBear standing.name rest
   pub given : numbers_given rest ≡ []
+  pub values : LogsValues k l
   pub state : e ≡ answered_with changed (lines_of change d.sweep.judge.next) (how, kept)
 
 -- what an order that needs no call of the kernel comes to: the lines of its reply, what it changes, and whether its user or group is told
@@ -355,7 +358,8 @@ module _ {S T : Type 0} (sysfs : Sysfs.Ghosts S) (disk : RuleDisk.Ghosts T) wher
   -- numbering of calls begins anew, and on the disk the order from the state behind that; and on
   -- the kernel the sweep from the state behind the order. What a crash may leave of the rule file
   -- is kept, and what was written to it can be read again. A save is tried exactly where one was
-  -- pending, and the entries tell what became of it.
+  -- pending, and the entries tell what became of it. Each device that the sweep judged was bound by
+  -- calls of the event.
   pub record HandlesEvent (event : Event) (s : S) (o : T) (d : DaemonState)
       (t : S) (p : T) (e : DaemonState) : Type 0 where
     pub tried : Option Saved
@@ -379,6 +383,7 @@ module _ {S T : Type 0} (sysfs : Sysfs.Ghosts S) (disk : RuleDisk.Ghosts T) wher
     pub faults_told : TellsEvent gives calls faults event start (ready event tried d)
         became middle answered t e
     pub once : NamesOnceIn told middle answered t e
+    pub binds : BindsJudged sysfs start answered t e
     pub file : KeepsFile disk_told event tried became o d p e
     pub saves : TriesSave event tried became d e
 
@@ -402,6 +407,7 @@ module _ {S T : Type 0} (sysfs : Sysfs.Ghosts S) (disk : RuleDisk.Ghosts T) wher
     pub resumed : S
     pub passes_on : goes middle p resumed
     pub runs : Runs gives resumed (handling answered) e t
+    pub binds : BindsJudged sysfs resumed answered t e
     pub written : WritesEvent event d became
     pub saveable : IsSaveable d.sweep.judge.rules
     pub saveable_after : IsSaveable e.sweep.judge.rules

@@ -8,6 +8,8 @@ pub mod Verdicts
 pub mod Event
 pub mod Pending
 pub mod Durable
+pub mod Values
+pub mod Bindings
 pub mod Laws
 pub mod InForce
 pub mod Rulings

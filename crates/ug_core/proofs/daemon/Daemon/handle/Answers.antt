@@ -9,6 +9,7 @@ use Rattle.ug_core.specs.Event.{DaemonState, daemon_of, tried_with, ready, tryin
 use Rattle.ug_audit.proofs.Noting.{live_members}
 use Rattle.ug_audit.proofs.Texts.{all_entries}
 use Rattle.ug_core.proofs.Answered.{answering_made, answering_told, ready_failures, ready_names}
+use Rattle.ug_core.proofs.Bindings.{binds_judged}
 use Rattle.ug_core.proofs.Failures.{event_tells}
 use Rattle.ug_core.proofs.Kept.{file_kept}
 use Rattle.ug_core.proofs.Noted.{all_noted}
@@ -72,6 +73,7 @@ returns-clause-handles g c =
       law = c.sweep.ensures.law;
       faults_told = tells;
       once = c.sweep.ensures.once;
+      binds = binds_judged g.Y.Sysfs g.met.Y.Sysfs.did made.made start middle a t e made.along c.sweep.ensures.runs;
       file = file_kept g.Y.Sysfs.gives g.D.RuleDisk.keeps g.D.RuleDisk.told g.met.D.RuleDisk.did event start o d tried q became middle p a t e tries answers tells (event_keeps_rules g.Y.Sysfs.gives middle a e t c.sweep.ensures.runs);
       saves = tries_save g.Y.Sysfs.gives g.Y.Sysfs.calls g.Y.Sysfs.faults g.D.RuleDisk.keeps event o d tried q start became made.made middle p a middle t e c.sweep.ensures.tells.swept tries answers made.goes c.sweep.ensures.tells.tells.goes c.sweep.ensures.tells.entries (event_keeps_pending g.Y.Sysfs.gives middle a e t c.sweep.ensures.runs);
     }

@@ -1,4 +1,4 @@
-use Rattle.std.proofs.Common.{◌≡◌, ℕ, [], ap, subst, ◌∙◌, Option, sym}
+use Rattle.std.proofs.Common.{◌≡◌, ℕ, refl, [], ap, subst, ◌∙◌, Option, sym}
 use Rattle.std.specs.Prelude.{IfSome}
 use Rattle.ug_proto.specs.declared.reply.Reply.{Reply}
 use Rattle.ug_core.specs.Answering.{HasWholeLines}
@@ -10,6 +10,7 @@ use Rattle.ug_core.specs.Durable.{WritesEvent}
 use Rattle.ug_audit.proofs.Noting.{live_members}
 use Rattle.ug_audit.proofs.Texts.{all_entries}
 use Rattle.ug_core.proofs.Answered.{answering_made, ready_failures, ready_names}
+use Rattle.ug_core.proofs.Bindings.{binds_judged}
 use Rattle.ug_core.proofs.Kept.{kept_event, sweep_adds}
 use Rattle.ug_core.proofs.Noted.{all_noted}
 use Rattle.ug_core.proofs.Plain.{event_keeps_pending, event_keeps_rules}
@@ -67,6 +68,7 @@ returns-clause-passes g c =
       resumed = resumed;
       passes_on = c.pass-2.ensures.goes;
       runs = c.sweep.ensures.runs;
+      binds = binds_judged g.Y.Sysfs g.met.Y.Sysfs.did [] resumed resumed a t e refl c.sweep.ensures.runs;
       written = ready_writes event tried d became (subst (λ (x : DaemonState). WritesEvent event x became) is c.answer-stored.ensures.written);
       saveable = c.stay_saveable.ensures;
       saveable_after = c.stay_saveable-2.ensures;
