@@ -1,11 +1,9 @@
 -- An access line is read as its grammar says.
-use Rattle.std.proofs.Common.{◌≡◌, ℕ, ◌+◌, ◌⊎◌, inl, inr, ◌↔◌, Bool, true, false, not, ◌&&◌, ◌||◌, if◌then◌else◌, nat_eq, nat_lt, List, [], ◌∷◌, ◌++◌, length, take, drop, Option, Some, None, Result, Ok, Err, refl, sym, ap, subst, ◌∙◌, append_assoc, append-nil, arith, length-append}
+use Rattle.std.proofs.Common.{◌≡◌, ℕ, ◌+◌, ◌⊎◌, inl, inr, ◌↔◌, Bool, true, false, not, ◌&&◌, ◌||◌, if◌then◌else◌, nat_eq, nat_lt, List, [], ◌∷◌, ◌++◌, Option, Some, None, Result, Ok, Err, refl, sym, ap, subst, ◌∙◌, append-nil, arith}
 use Rattle.std.specs.Prelude.{find}
 use Rattle.std.proofs.lemmas.Bool.{and_parts, both_ways}
 use Rattle.std.proofs.lemmas.Bool.Decides.{nat_tests}
-use Rattle.std.proofs.lemmas.List.{drop_at}
-use Rattle.std.proofs.Math.Seq.{take-append_seam}
-use Rattle.std.specs.List.{list_any, position, position_or_len}
+use Rattle.std.specs.List.{list_any}
 use Rattle.ug_types.specs.Elements.{Has}
 use Rattle.ug_types.specs.Principals.{Named, is_name, is_name_byte, principal_named, principal_of, principal_text}
 use Rattle.ug_types.specs.declared.text_fault.TextFault.{TextFault}
@@ -24,68 +22,17 @@ use Rattle.ug_acl.specs.Texts.{access_read, pairs_given}
 use Rattle.ug_acl.proofs.Saying.{says}
 use Rattle.ug_script.specs.declared.step.AccessLine.{AccessLine}
 use Rattle.ug_script.specs.declared.step.SetupLine.TheVariants.{Access}
-use Rattle.ug_script.specs.Grammar.{in_access, granting, split_principal, grant_of, IsAccess}
+use Rattle.ug_script.specs.Grammar.{in_access, granting, grant_of, IsAccess}
 use Rattle.ug_script.specs.Words.{begins_entry, is_entry, is_one_line}
+use Rattle.ug_script.proofs.LineCuts.{cut_alone, cut_found, space}
 
 -- ---- the first space
 
-tested : (b : ℕ) → ¬ (b ≡ 32) → nat_eq 32 b ≡ false
-tested b h = grind (arith, nat_tests)
-
-space_len : (xs rest : List ℕ) → ¬ Has xs 32 → position_or_len (nat_eq 32) (xs ++ 32 ∷ rest) ≡ length xs
-space_len [] rest h = refl
-space_len (b ∷ xs) rest h = rw (tested b (λ e. h (inl e))) (ap (λ (n : ℕ). 1 + n) (space_len xs rest (λ k. h (inr k))) ∙ omega arith)
-
-space_found : (xs rest : List ℕ) → ¬ Has xs 32 → position (nat_eq 32) (xs ++ 32 ∷ rest) ≡ Some (length xs)
-space_found xs rest h =
-    let l = space_len xs rest h in
-    let t : nat_lt (position_or_len (nat_eq 32) (xs ++ 32 ∷ rest)) (length (xs ++ 32 ∷ rest)) ≡ true = grind (arith, nat_tests, l, length-append xs (32 ∷ rest)) in
-    rw t (ap Some l)
-
-no_space_len : (xs : List ℕ) → ¬ Has xs 32 → position_or_len (nat_eq 32) xs ≡ length xs
-no_space_len [] h = refl
-no_space_len (b ∷ xs) h = rw (tested b (λ e. h (inl e))) (ap (λ (n : ℕ). 1 + n) (no_space_len xs (λ k. h (inr k))) ∙ omega arith)
-
-space_missing : (xs : List ℕ) → ¬ Has xs 32 → position (nat_eq 32) xs ≡ None
-space_missing xs h =
-    let l = no_space_len xs h in
-    let t : nat_lt (position_or_len (nat_eq 32) xs) (length xs) ≡ false = grind (arith, nat_tests, l) in
-    rw t refl
-
-record Space (xs : List ℕ) : Type 0 where
-  word : List ℕ
-  rest : List ℕ
-  is : xs ≡ word ++ 32 ∷ rest
-  no_space : ¬ Has word 32
-
-space : (xs : List ℕ) → Space xs ⊎ (¬ Has xs 32)
-space [] = inr (λ h. h)
-space (b ∷ xs) = by (nat_eq 32 b) refl (space xs)
-  where
-    by : (v : Bool) → nat_eq 32 b ≡ v → Space xs ⊎ (¬ Has xs 32) → Space (b ∷ xs) ⊎ (¬ Has (b ∷ xs) 32)
-    by true e s =
-        let same : b ≡ 32 = grind (arith, nat_tests) in
-        inl (record { word = []; rest = xs; is = ap (λ (c : ℕ). c ∷ xs) same; no_space = λ h. h })
-    by false e (inl s) = inl (record {
-      word = b ∷ s.word;
-      rest = s.rest;
-      is = ap (λ (l : List ℕ). b ∷ l) s.is;
-      no_space = λ h. elim h [ inl k ↦ (let none : ⊥ = grind (arith, nat_tests) in none) | inr k ↦ s.no_space k ];
-    })
-    by false e (inr n) = inr (λ h. elim h [ inl k ↦ (let none : ⊥ = grind (arith, nat_tests) in none) | inr k ↦ n k ])
-
--- what stands before the first space, and behind it
 cut_at : (text word line : List ℕ) → text ≡ word ++ 32 ∷ line → ¬ Has word 32 → grant_of text ≡ granting (principal_of word) line
-cut_at text word line is apart =
-    let found : position (nat_eq 32) text ≡ Some (length word) = ap (position (nat_eq 32)) is ∙ space_found word line apart in
-    let taken : take (length word) text ≡ word = ap (take (length word)) is ∙ take-append_seam word (32 ∷ line) in
-    let dropped : drop (length word + 1) text ≡ line = ap (drop (length word + 1)) (is ∙ sym (append_assoc word (32 ∷ []) line)) ∙ drop_at (word ++ 32 ∷ []) line (length word + 1) (length-append word (32 ∷ [])) in
-    ap (λ (o : Option ℕ). split_principal o text) found
-    ∙ ap (λ (w : List ℕ). granting (principal_of w) (drop (length word + 1) text)) taken
-    ∙ ap (λ (l : List ℕ). granting (principal_of word) l) dropped
+cut_at text word line is apart = ap grant_of is ∙ cut_found (λ (w l : List ℕ). granting (principal_of w) l) None word line apart
 
 no_cut : (text : List ℕ) → ¬ Has text 32 → grant_of text ≡ None
-no_cut text h = ap (λ (o : Option ℕ). split_principal o text) (space_missing text h)
+no_cut text h = cut_alone (λ (w l : List ℕ). granting (principal_of w) l) None text h
 
 -- ---- principals
 
@@ -96,7 +43,7 @@ named_so group name who h = by (is_name name) refl h
     by true e k = (let same : who ≡ record { group = group; name = name } = cc in same, e)
     by false e k = let none : ⊥ = cc in absurd none
 
-principal_so : (word : List ℕ) (who : Named) → principal_of word ≡ Some who → (word ≡ principal_text who) × (is_name who.name ≡ true)
+pub principal_so : (word : List ℕ) (who : Named) → principal_of word ≡ Some who → (word ≡ principal_text who) × (is_name who.name ≡ true)
 principal_so [] who h = let none : ⊥ = cc in absurd none
 principal_so (b ∷ word) who h = by (nat_eq b 58) refl h
   where
@@ -113,7 +60,7 @@ no_colon b name h = first (and_parts (is_name_byte b) _ (and_parts _ _ h).1).0
     first : is_name_byte b ≡ true → nat_eq b 58 ≡ false
     first k = grind (arith, nat_tests)
 
-so_principal : (who : Named) → is_name who.name ≡ true → principal_of (principal_text who) ≡ Some who
+pub so_principal : (who : Named) → is_name who.name ≡ true → principal_of (principal_text who) ≡ Some who
 so_principal who h = by who.group who.name h
   where
     by : (group : Bool) (name : List ℕ) → is_name name ≡ true → principal_of (if group then 58 ∷ name else name) ≡ Some (record { group = group; name = name })
@@ -121,7 +68,7 @@ so_principal who h = by who.group who.name h
     by false [] k = let none : ⊥ = cc in absurd none
     by false (b ∷ name) k = rw (no_colon b name k) (rw k refl)
 
-graphic_apart : (word : List ℕ) → is_graphic word ≡ true → ¬ Has word 32
+pub graphic_apart : (word : List ℕ) → is_graphic word ≡ true → ¬ Has word 32
 graphic_apart [] h k = k
 graphic_apart (b ∷ word) h (inl m) = let s = and_parts (nat_lt 32 b) (is_graphic word) h in let none : ⊥ = grind (arith, nat_tests, s.0) in none
 graphic_apart (b ∷ word) h (inr m) = graphic_apart word (and_parts (nat_lt 32 b) (is_graphic word) h).1 m

@@ -23,3 +23,12 @@ mod FirstStop
 mod WholeLines
 mod Counted
 mod Summed
+pub mod LineCuts
+pub mod LineTables
+pub mod HexWords
+pub mod Zones
+pub mod FileWords
+pub mod LineReads
+pub mod Turns
+pub mod Schedules
+pub mod MoveLines

@@ -1,7 +1,7 @@
 -- What each line of a script asks for.
-use Rattle.std.specs.Prelude.{◌≡◌, ℕ, ℤ, ◌+◌, ◌-◌, Bool, true, false, ◌&&◌, ◌||◌, nat_eq, if◌then◌else◌, List, [], ◌∷◌, ◌++◌, length, take, drop, Option, Some, None, Result, Ok, Err, codes}
+use Rattle.std.specs.Prelude.{◌≡◌, ℕ, Bool, true, false, ◌&&◌, ◌||◌, nat_eq, if◌then◌else◌, List, [], ◌∷◌, ◌++◌, length, Option, Some, None, option_and_then, option_map, Result, Ok, Err, codes}
 use Rattle.std.specs.Cmp.Lexicographic.{pointwise}
-use Rattle.std.specs.List.{starts_with, ends_with, position}
+use Rattle.std.specs.List.{starts_with}
 use Rattle.ug_types.specs.Elements.{Has}
 use Rattle.ug_types.specs.Principals.{Named, is_name, principal_of, principal_text}
 use Rattle.ug_types.specs.declared.access.Section.{Section}
@@ -17,21 +17,24 @@ use Rattle.ug_rule.specs.Grammar.{WellFormed}
 use Rattle.ug_rule.specs.Rules.{rule_read}
 use Rattle.ug_store.specs.declared.mishap.Mishap.{Mishap}
 use Rattle.ug_store.specs.declared.mishap.Mishap.TheVariants as mishap
+use Rattle.ug_store.specs.declared.mishap.Planned.{Planned}
 use Rattle.ug_sysfs.specs.declared.script.Failing.{Failing}
 use Rattle.ug_sysfs.specs.declared.script.Move.{Move}
 use Rattle.ug_sysfs.specs.declared.script.Move.TheVariants as move
-use Rattle.ug_sysfs.specs.declared.script.NewDevice.{NewDevice}
+use Rattle.ug_sysfs.specs.declared.script.Scheduled.{Scheduled}
 use Rattle.ug_core.specs.declared.daemon.Event.{Event}
 use Rattle.ug_core.specs.declared.daemon.Event.TheVariants.{Sweep, Order}
+use Rattle.ug_script.specs.declared.line_word.LineWord.{LineWord}
+use Rattle.ug_script.specs.declared.line_word.LineWord.TheVariants as word
 use Rattle.ug_script.specs.declared.step.AccessLine.{AccessLine}
-use Rattle.ug_script.specs.declared.step.Plan.{Plan}
 use Rattle.ug_script.specs.declared.step.Plan.TheVariants as plan
 use Rattle.ug_script.specs.declared.step.SetupLine.{SetupLine}
 use Rattle.ug_script.specs.declared.step.SetupLine.TheVariants.{Rule, Conf, Access, Seed, Zone}
 use Rattle.ug_script.specs.declared.step.Step.{Step}
 use Rattle.ug_script.specs.declared.step.Step.TheVariants as step
+use Rattle.ug_script.specs.LineWords.{line_word_of}
 use Rattle.ug_script.specs.Plugs.{device_of}
-use Rattle.ug_script.specs.Words.{name_of, moment_of, call_of, seed_of, offset_of, is_entry, is_one_line}
+use Rattle.ug_script.specs.Words.{name_of, moment_of, call_of, cut_by_space, seed_of, offset_of, is_entry, is_one_line}
 
 -- ---- lines that stand before all others
 
@@ -48,13 +51,9 @@ abbrev pub granting : Option Named → List ℕ → Option SetupLine
 granting None line = None
 granting (Some who) line = if is_one_line line && is_entry line then in_access who (access_read line) else None
 
-abbrev pub split_principal : Option ℕ → List ℕ → Option SetupLine
-split_principal None text = None
-split_principal (Some space) text = granting (principal_of (take space text)) (drop (space + 1) text)
-
 -- `PRINCIPAL SECTION=LIST`
 abbrev pub grant_of : List ℕ → Option SetupLine
-grant_of text = split_principal (position (nat_eq 32) text) text
+grant_of text = cut_by_space (λ who line. granting (principal_of who) line) None text
 
 -- a user, or a group behind `:`, one space, and one line of an access file, which gives privileges of a section
 pub record IsAccess (text : List ℕ) (a : AccessLine) : Type 0 where
@@ -67,171 +66,122 @@ pub record IsAccess (text : List ℕ) (a : AccessLine) : Type 0 where
   pub grant : IsGrant line section privileges
   pub gives : a.grants ≡ pairs_given (given_to section privileges ∷ [])
 
-abbrev pub in_seed : Option (List ℕ) → Option SetupLine
-in_seed None = None
-in_seed (Some seed) = Some (Seed seed)
-
-abbrev pub in_zone : Option ℤ → Option SetupLine
-in_zone None = None
-in_zone (Some offset) = Some (Zone offset)
-
--- lines of which one may stand there
-unfoldable pub single_of : List ℕ → Option SetupLine
-single_of line =
-    if starts_with nat_eq line (codes "seed ") then in_seed (seed_of (drop 5 line))
-    else if starts_with nat_eq line (codes "zone ") then in_zone (offset_of (drop 5 line))
-    else None
-
-unfoldable pub setup_of : List ℕ → Option SetupLine
-setup_of line =
-    if starts_with nat_eq line (codes "rule ") then in_rule (rule_read (drop 5 line))
-    else if starts_with nat_eq line (codes "conf ") then Some (Conf (drop 5 line))
-    else if starts_with nat_eq line (codes "access ") then grant_of (drop 7 line)
-    else single_of line
-
 -- ---- devices that come and go
 
-abbrev pub plug_move : Option NewDevice → Option Move
-plug_move None = None
-plug_move (Some device) = Some (move.Plug device)
+abbrev pub move_behind : LineWord → List ℕ → Option Move
+move_behind word.Plug text = option_map move.Plug (device_of text)
+move_behind word.Unplug text = option_map move.Unplug (name_of text)
+move_behind other text = None
 
-abbrev pub unplug_move : Option (List ℕ) → Option Move
-unplug_move None = None
-unplug_move (Some name) = Some (move.Unplug name)
+abbrev pub move_by : Option LineWord → List ℕ → Option Move
+move_by None text = None
+move_by (Some word) text = move_behind word text
 
-unfoldable pub move_of : List ℕ → Option Move
-move_of line =
-    if starts_with nat_eq line (codes "plug ") then plug_move (device_of (drop 5 line))
-    else if starts_with nat_eq line (codes "unplug ") then unplug_move (name_of (drop 7 line))
-    else None
+-- a `plug` or an `unplug` line
+abbrev pub move_of : List ℕ → Option Move
+move_of line = cut_by_space (λ word text. move_by (line_word_of word) text) None line
 
 -- ---- what is scheduled for a call of the next event
 
-abbrev pub with_action : ℕ → Bool → Option Move → Option Plan
-with_action call after None = None
-with_action call after (Some action) = Some (plan.Move (record { call = call; after = after; action = action }))
-
-abbrev pub with_call : Bool → Option ℕ → List ℕ → Option Plan
-with_call after None text = None
-with_call after (Some call) text = with_action call after (move_of text)
-
-abbrev pub split_call : Bool → Option ℕ → List ℕ → Option Plan
-split_call after None text = None
-split_call after (Some space) text = with_call after (call_of (take space text)) (drop (space + 1) text)
+abbrev pub scheduled_at : Bool → ℕ → List ℕ → Option Scheduled
+scheduled_at after call text =
+    option_map (λ action. record { call = call; after = after; action = action }) (move_of text)
 
 -- `CALL MOVE`, before the effect of that call of the next event or after it
-abbrev pub move_plan : Bool → List ℕ → Option Plan
-move_plan after text = split_call after (position (nat_eq 32) text) text
+abbrev pub scheduled_of : Bool → List ℕ → Option Scheduled
+scheduled_of after text =
+    cut_by_space (λ call rest. option_and_then (λ k. scheduled_at after k rest) (call_of call))
+    None text
 
 abbrev pub failing_at : Bool → Option ℕ → Option Failing
-failing_at effect None = None
-failing_at effect (Some call) = Some (record { call = call; effect = effect })
+failing_at effect call = option_map (λ k. record { call = k; effect = effect }) call
+
+unfoldable pub is_effect : List ℕ → Bool
+is_effect word = pointwise nat_eq word (codes "effect")
 
 -- `CALL`, or `CALL effect`
-unfoldable pub failing_of : List ℕ → Option Failing
+abbrev pub failing_of : List ℕ → Option Failing
 failing_of text =
-    if ends_with nat_eq text (codes " effect") then failing_at true (call_of (take (length text - 7) text))
-    else failing_at false (call_of text)
-
-abbrev pub fail_plan : Option Failing → Option Plan
-fail_plan None = None
-fail_plan (Some failing) = Some (plan.Fail failing)
+    cut_by_space (λ call rest. if is_effect rest then failing_at true (call_of call) else None)
+    (failing_at false (call_of text)) text
 
 abbrev pub mishap_of : Bool → Mishap
 mishap_of true = mishap.Effect
 mishap_of false = mishap.NoEffect
 
--- the same of a call of the disk
-abbrev pub disk_plan : Option Failing → Option Plan
-disk_plan None = None
-disk_plan (Some failing) = Some (plan.OnDisk (record { call = failing.call; mishap = mishap_of failing.effect; stops = false }))
+abbrev pub fails_on_disk : Failing → Planned
+fails_on_disk failing =
+    record { call = failing.call; mishap = mishap_of failing.effect; stops = false }
 
-abbrev pub stopping_at : Mishap → Option ℕ → Option Plan
-stopping_at leaves None = None
-stopping_at leaves (Some call) = Some (plan.OnDisk (record { call = call; mishap = leaves; stops = true }))
+unfoldable pub is_fail : List ℕ → Bool
+is_fail word = pointwise nat_eq word (codes "fail")
 
--- `CALL old`, or `CALL new`: the machine stops in that call of the disk, and a swap has had its effect or not
-unfoldable pub stop_plan : List ℕ → Option Plan
-stop_plan text =
-    if ends_with nat_eq text (codes " old") then stopping_at mishap.NoEffect (call_of (take (length text - 4) text))
-    else if ends_with nat_eq text (codes " new") then stopping_at mishap.Effect (call_of (take (length text - 4) text))
+-- `fail CALL`, or `fail CALL effect`, of a call of the disk
+abbrev pub disk_fail_of : List ℕ → Option Planned
+disk_fail_of text =
+    cut_by_space (λ word rest. if is_fail word then option_map fails_on_disk (failing_of rest) else None)
+    None text
+
+-- whether a swap has had its effect
+unfoldable pub left_by : List ℕ → Option Mishap
+left_by word =
+    if pointwise nat_eq word (codes "old") then Some mishap.NoEffect
+    else if pointwise nat_eq word (codes "new") then Some mishap.Effect
     else None
 
--- the lines of calls that fail
-unfoldable pub fails_of : List ℕ → Option Plan
-fails_of line =
-    if starts_with nat_eq line (codes "fail ") then fail_plan (failing_of (drop 5 line))
-    else if starts_with nat_eq line (codes "disk fail ") then disk_plan (failing_of (drop 10 line))
-    else if starts_with nat_eq line (codes "stop ") then stop_plan (drop 5 line)
-    else None
+abbrev pub stopping_at : ℕ → Option Mishap → Option Planned
+stopping_at call left =
+    option_map (λ leaves. record { call = call; mishap = leaves; stops = true }) left
 
-unfoldable pub plan_of : List ℕ → Option Plan
-plan_of line =
-    if starts_with nat_eq line (codes "before ") then move_plan false (drop 7 line)
-    else if starts_with nat_eq line (codes "after ") then move_plan true (drop 6 line)
-    else fails_of line
+-- `CALL old`, or `CALL new`: the machine stops in that call of the disk
+abbrev pub stop_of : List ℕ → Option Planned
+stop_of text =
+    cut_by_space (λ call rest. option_and_then (λ k. stopping_at k (left_by rest)) (call_of call))
+    None text
 
 -- ---- events
 
-abbrev pub sweep_at : Option ℕ → Option Event
-sweep_at None = None
-sweep_at (Some moment) = Some (Sweep (record { 0 = moment }))
-
-abbrev pub ordered : ℕ → Option Named → List ℕ → Option Event
-ordered moment None request = None
-ordered moment (Some who) request = Some (Order (record { 0 = moment }) who request)
-
-abbrev pub split_who : ℕ → Option ℕ → List ℕ → Option Event
-split_who moment None text = None
-split_who moment (Some space) text = ordered moment (principal_of (take space text)) (drop (space + 1) text)
-
 -- `PRINCIPAL REQUEST`, where the request is any text, and may be empty
-abbrev pub order_at : Option ℕ → List ℕ → Option Event
-order_at None text = None
-order_at (Some moment) text = split_who moment (position (nat_eq 32) text) text
-
-abbrev pub split_moment : Option ℕ → List ℕ → Option Event
-split_moment None text = None
-split_moment (Some space) text = order_at (moment_of (take space text)) (drop (space + 1) text)
+abbrev pub order_at : ℕ → List ℕ → Option Event
+order_at moment text =
+    cut_by_space (λ who request.
+    option_map (λ p. Order (record { 0 = moment }) p request) (principal_of who)) None text
 
 -- `MOMENT PRINCIPAL REQUEST`
 abbrev pub order_of : List ℕ → Option Event
-order_of text = split_moment (position (nat_eq 32) text) text
-
-unfoldable pub event_of : List ℕ → Option Event
-event_of line =
-    if starts_with nat_eq line (codes "sweep ") then sweep_at (moment_of (drop 6 line))
-    else if starts_with nat_eq line (codes "order ") then order_of (drop 6 line)
-    else None
+order_of text =
+    cut_by_space (λ moment rest. option_and_then (λ n. order_at n rest) (moment_of moment)) None text
 
 -- ---- all lines
 
-abbrev pub in_setup : Option SetupLine → Option Step
-in_setup None = None
-in_setup (Some line) = Some (step.Setup line)
+-- what the text behind a line's first word asks for
+unfoldable pub step_behind : LineWord → List ℕ → Option Step
+step_behind word.Plug text = option_map (λ d. step.Move (move.Plug d)) (device_of text)
+step_behind word.Unplug text = option_map (λ name. step.Move (move.Unplug name)) (name_of text)
+step_behind word.Before text = option_map (λ m. step.Schedule (plan.Move m)) (scheduled_of false text)
+step_behind word.After text = option_map (λ m. step.Schedule (plan.Move m)) (scheduled_of true text)
+step_behind word.Fail text = option_map (λ f. step.Schedule (plan.Fail f)) (failing_of text)
+step_behind word.Disk text = option_map (λ p. step.Schedule (plan.OnDisk p)) (disk_fail_of text)
+step_behind word.Stop text = option_map (λ p. step.Schedule (plan.OnDisk p)) (stop_of text)
+step_behind word.Sweep text =
+    option_map (λ moment. step.Event (Sweep (record { 0 = moment }))) (moment_of text)
+step_behind word.Order text = option_map step.Event (order_of text)
+step_behind word.Rule text = option_map step.Setup (in_rule (rule_read text))
+step_behind word.Conf text = Some (step.Setup (Conf text))
+step_behind word.Access text = option_map step.Setup (grant_of text)
+step_behind word.Seed text = option_map (λ seed. step.Setup (Seed seed)) (seed_of text)
+step_behind word.Zone text = option_map (λ offset. step.Setup (Zone offset)) (offset_of text)
 
-abbrev pub in_move : Option Move → Option Step
-in_move None = None
-in_move (Some action) = Some (step.Move action)
+abbrev pub step_by : Option LineWord → List ℕ → Option Step
+step_by None text = None
+step_by (Some word) text = step_behind word text
 
-abbrev pub in_plan : Option Plan → Option Step
-in_plan None = None
-in_plan (Some plan) = Some (step.Schedule plan)
-
-abbrev pub in_event : Option Event → Option Step
-in_event None = None
-in_event (Some event) = Some (step.Event event)
-
-abbrev pub first_of : Option Step → Option Step → Option Step
-first_of None other = other
-first_of (Some step) other = Some step
-
--- what a line asks for, None where it is bad
+-- what a line asks for, None where it is bad: the first word chooses what stands behind it
 unfoldable pub step_of_line : List ℕ → Option Step
 step_of_line line =
     if nat_eq (length line) 0 || starts_with nat_eq line (codes "#") then Some step.Skip
     else if pointwise nat_eq line (codes "restart") then Some step.Restart
-    else first_of (in_move (move_of line)) (first_of (in_plan (plan_of line)) (first_of (in_event (event_of line)) (in_setup (setup_of line))))
+    else cut_by_space (λ word text. step_by (line_word_of word) text) None line
 
 -- the rule that is asked for, if one is, is the rule of some line
 abbrev pub AsksForRule : SetupLine → Type 0

@@ -1,4 +1,7 @@
 pub mod Grammar
+pub mod LineExamples
+pub mod LineGrammar
+pub mod LineWords
 pub mod Plugs
 pub mod Words
 pub mod Setup
@@ -10,3 +13,4 @@ pub mod Laws
 pub mod Journal
 pub mod Example
 pub mod RuleFiles
+pub mod Schedules

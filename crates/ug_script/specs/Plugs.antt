@@ -1,13 +1,13 @@
 -- The device that a `plug` line plugs in.
-use Rattle.std.specs.Prelude.{ℕ, ◌+◌, ◌-◌, Bool, true, false, ◌&&◌, nat_eq, if◌then◌else◌, List, [], ◌∷◌, ◌++◌, length, take, drop, get_or, Option, Some, None, Ok, Err, codes}
-use Rattle.std.specs.List.{starts_with, position}
+use Rattle.std.specs.Prelude.{ℕ, ◌-◌, Bool, true, false, ◌&&◌, nat_eq, if◌then◌else◌, List, [], ◌∷◌, ◌++◌, length, get_or, Option, Some, None, option_and_then, option_map, Ok, Err, codes}
+use Rattle.std.specs.Cmp.Lexicographic.{pointwise}
 use Rattle.ug_lex.specs.declared.token.Token.{Token}
 use Rattle.ug_lex.specs.declared.token.TokenKind.{TokenKind}
 use Rattle.ug_lex.specs.declared.token.TokenKind.TheVariants.{Word, Str, Open, Close, ParenOpen, ParenClose, Bang}
 use Rattle.ug_lex.specs.Lexing.{Lexed, tokens_of}
 use Rattle.ug_sysfs.specs.declared.script.NewDevice.{NewDevice}
 use Rattle.ug_script.specs.declared.plugs.Files.{Files}
-use Rattle.ug_script.specs.Words.{name_of, bytes_of}
+use Rattle.ug_script.specs.Words.{bytes_of, cut_by_space, name_of}
 
 -- a word that is a dash stands for no file
 abbrev pub no_file : List ℕ → Token → Option (Option (List ℕ))
@@ -61,42 +61,36 @@ files_by text (Err fault) = None
 abbrev pub files_of : List ℕ → Option Files
 files_of text = files_by text (tokens_of text)
 
-abbrev pub with_files : List ℕ → Bool → List ℕ → Option Files → Option NewDevice
-with_files name on descriptors None = None
-with_files name on descriptors (Some files) = Some (record {
+abbrev pub device_with : List ℕ → Bool → List ℕ → Files → NewDevice
+device_with name on descriptors files = record {
   name = name;
   descriptors = descriptors;
   product = files.product;
   serial = files.serial;
   connect = files.connect;
   on = on;
-})
+}
 
-abbrev pub with_descriptors : List ℕ → Bool → Option (List ℕ) → List ℕ → Option NewDevice
-with_descriptors name on None text = None
-with_descriptors name on (Some descriptors) text = with_files name on descriptors (files_of text)
+-- `DESC PRODUCT SERIAL CONNECT`
+abbrev pub with_digits : List ℕ → Bool → List ℕ → Option NewDevice
+with_digits name on text =
+    cut_by_space (λ digits rest.
+    option_and_then (λ d. option_map (device_with name on d) (files_of rest)) (bytes_of digits)) None text
 
--- the descriptors stand before the first space
-abbrev pub split_descriptors : List ℕ → Bool → Option ℕ → List ℕ → Option NewDevice
-split_descriptors name on None text = None
-split_descriptors name on (Some space) text = with_descriptors name on (bytes_of (take space text)) (drop (space + 1) text)
-
--- a start, the descriptors and the texts
-abbrev pub with_start : List ℕ → List ℕ → Option NewDevice
-with_start name text =
-    if starts_with nat_eq text (codes "0 ") then split_descriptors name false (position (nat_eq 32) (drop 2 text)) (drop 2 text)
-    else if starts_with nat_eq text (codes "1 ") then split_descriptors name true (position (nat_eq 32) (drop 2 text)) (drop 2 text)
+-- `0` or `1`
+unfoldable pub start_of : List ℕ → Option Bool
+start_of word =
+    if pointwise nat_eq word (codes "0") then Some false
+    else if pointwise nat_eq word (codes "1") then Some true
     else None
 
-abbrev pub with_name : Option (List ℕ) → List ℕ → Option NewDevice
-with_name None text = None
-with_name (Some name) text = with_start name text
-
--- the name stands before the first space
-abbrev pub split_name : Option ℕ → List ℕ → Option NewDevice
-split_name None text = None
-split_name (Some space) text = with_name (name_of (take space text)) (drop (space + 1) text)
+-- `START DESC PRODUCT SERIAL CONNECT`
+abbrev pub with_start : List ℕ → List ℕ → Option NewDevice
+with_start name text =
+    cut_by_space (λ start rest. option_and_then (λ on. with_digits name on rest) (start_of start))
+    None text
 
 -- `NAME START DESC PRODUCT SERIAL CONNECT`
 unfoldable pub device_of : List ℕ → Option NewDevice
-device_of text = split_name (position (nat_eq 32) text) text
+device_of text =
+    cut_by_space (λ name rest. option_and_then (λ n. with_start n rest) (name_of name)) None text

@@ -1,6 +1,6 @@
 -- Names, numbers and hexadecimal words of a script's lines.
-use Rattle.std.specs.Prelude.{◌≡◌, ℕ, ◌+◌, ◌-◌, ◌*◌, ℤ, pos, neg_ℤ, Bool, false, not, ◌&&◌, ◌||◌, nat_eq, nat_le, if◌then◌else◌, List, [], ◌∷◌, length, get_or, find, Option, Some, None, Result, Ok, Err}
-use Rattle.std.specs.List.{fold, list_any}
+use Rattle.std.specs.Prelude.{◌≡◌, ℕ, ◌+◌, ◌-◌, ◌*◌, ℤ, pos, neg_ℤ, Bool, false, not, ◌&&◌, ◌||◌, nat_eq, nat_le, if◌then◌else◌, List, [], ◌∷◌, length, take, drop, get_or, find, Option, Some, None, Result, Ok, Err}
+use Rattle.std.specs.List.{fold, list_any, position}
 use Rattle.hex.specs.Hex.{decode_of, decode_sized}
 use Rattle.hex.specs.declared.error.FromHexError.{FromHexError}
 use Rattle.ug_decimals.specs.Numbers.{number_in}
@@ -9,6 +9,14 @@ use Rattle.ug_types.specs.declared.reading.Reading.{Reading}
 use Rattle.ug_types.specs.declared.reading.Reading.TheVariants.{Start}
 use Rattle.ug_script.specs.declared.step.StepFault.{StepFault}
 use Rattle.ug_script.specs.declared.step.StepFault.TheVariants.{Bad, Memory}
+
+abbrev pub cut_at_space : {X : Type 0} → (List ℕ → List ℕ → X) → X → Option ℕ → List ℕ → X
+cut_at_space reads alone None text = alone
+cut_at_space reads alone (Some space) text = reads (take space text) (drop (space + 1) text)
+
+-- what stands before the first space is read with what stands behind it, unless there is none
+abbrev pub cut_by_space : {X : Type 0} → (List ℕ → List ℕ → X) → X → List ℕ → X
+cut_by_space reads alone text = cut_at_space reads alone (position (nat_eq 32) text) text
 
 abbrev pub then_byte : Option Reading → ℕ → Option Reading
 then_byte None b = None

@@ -8,6 +8,7 @@ mod generator;
 mod halting;
 mod interpreter;
 mod laws;
+mod line_word;
 mod move_lines;
 mod parse;
 mod plan_lines;
@@ -28,7 +29,10 @@ mod words;
 
 pub use generator::generate_policy;
 pub use interpreter::Interpreter;
-pub use laws::{access_law, birth_law, default_law, script_law, words_law, worked_law};
+pub use laws::{
+    access_law, birth_law, default_law, line_words_law, lines_law, moves_law, schedule_law,
+    script_law, words_law, worked_law,
+};
 pub use parse::parse_line;
 pub use runner::Runner;
 pub use step::{AccessLine, Plan, SetupLine, Step, StepFault};

@@ -1,32 +1,36 @@
-// Lines for devices that come and go.
-ghost use Rattle.std.specs.Prelude.{◌≡◌};
+// Devices that come and go.
+ghost use Rattle.ug_script.specs.Grammar as grammar;
 ghost use Rattle.ug_script.specs.Grammar.{move_of};
 ghost use Rattle.ug_script.specs.Words.{Parses};
 
+use crate::line_word::{LineWord, line_word};
 use crate::plugs::device;
 use crate::step::StepFault;
-use crate::words::name;
+use crate::words::{name, space};
 use std::alloc::Global;
 use ug_sysfs::Move;
 
-/// Reads a line for what the kernel does by itself. `plug` takes a name, `1` where the device starts authorised, else `0`, its
-/// descriptors in hexadecimal, and its texts, each a dash or a string. `unplug` takes a name.
-#[tactic(auto, unfolding(crate::specs::Grammar::move_of))]
+/// What stands behind `plug` or `unplug`. `plug` takes a name, `1` where the device starts authorised, else `0`, its descriptors in
+/// hexadecimal, and its texts, each a dash or a string. `unplug` takes a name.
+fn move_behind(alloc: Global, word: LineWord, text: &[u8]) -> Result<Move, StepFault>
+    ensures { Parses (grammar.move_behind word text.now) result }
+{
+    match word {
+        LineWord::Plug => Ok(Move::Plug(device(alloc, text)?)),
+        LineWord::Unplug => Ok(Move::Unplug(name(text).ok_or(StepFault::Bad)?)),
+        _ => Err(StepFault::Bad),
+    }
+}
+
+/// A move that stands behind the number of a call.
 pub fn move_line(alloc: Global, line: &[u8]) -> Result<Move, StepFault>
     ensures { Parses (move_of line.now) result }
 {
-    if line.starts_with(b"plug ") {
-        return match device(alloc, &line[5..]) {
-            Ok(device) => Ok(Move::Plug(device)),
-            Err(StepFault::Bad) => Err(StepFault::Bad),
-            Err(StepFault::Memory) => Err(StepFault::Memory),
-        };
-    }
-    if line.starts_with(b"unplug ") {
-        return match name(&line[7..]) {
+    match space(line) {
+        None => Err(StepFault::Bad),
+        Some(at) => match line_word(&line[..at]) {
             None => Err(StepFault::Bad),
-            Some(name) => Ok(Move::Unplug(name)),
-        };
+            Some(word) => move_behind(alloc, word, &line[at + 1..]),
+        },
     }
-    Err(StepFault::Bad)
 }

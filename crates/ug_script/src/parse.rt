@@ -1,50 +1,47 @@
 // The steps of a script's lines.
 ghost use Rattle.ug_script.specs.Grammar as grammar;
-ghost use Rattle.ug_script.specs.Grammar.{first_of, in_event, in_move, in_plan, in_setup, step_of_line};
+ghost use Rattle.ug_script.specs.Grammar.{step_of_line};
 ghost use Rattle.ug_script.specs.Words.{Parses};
 
-use crate::event_lines::event_line;
-use crate::move_lines::move_line;
-use crate::plan_lines::plan_line;
-use crate::setup_lines::setup_line;
-use crate::step::{Step, StepFault};
+use crate::event_lines::order;
+use crate::line_word::{LineWord, line_word};
+use crate::plan_lines::{disk_fail, failing, scheduled, stop};
+use crate::plugs::device;
+use crate::setup_lines::{offset, read_access, read_rule, seed};
+use crate::step::{Plan, SetupLine, Step, StepFault};
+use crate::words::{moment, name, space};
 use std::alloc::Global;
+use ug_core::Event;
+use ug_sysfs::Move;
+use ug_types::{Moment, Text};
 
-fn setup_step(alloc: Global, line: &[u8]) -> Result<Step, StepFault>
-    ensures { Parses (in_setup (grammar.setup_of line.now)) result }
+/// What stands behind a line's first word.
+#[tactic(auto, unfolding(crate::specs::Grammar::step_behind))]
+fn step_behind(alloc: Global, word: LineWord, text: &[u8]) -> Result<Step, StepFault>
+    ensures { Parses (grammar.step_behind word text.now) result }
 {
-    match setup_line(alloc, line) {
-        Ok(setup) => Ok(Step::Setup(setup)),
-        Err(fault) => Err(fault),
-    }
-}
-
-fn event_or_setup(alloc: Global, line: &[u8]) -> Result<Step, StepFault>
-    ensures { Parses (first_of (in_event (grammar.event_of line.now))
-        (in_setup (grammar.setup_of line.now))) result }
-{
-    match event_line(alloc, line) {
-        Ok(event) => Ok(Step::Event(event)),
-        Err(StepFault::Bad) => setup_step(alloc, line),
-        Err(StepFault::Memory) => Err(StepFault::Memory),
-    }
-}
-
-fn plan_or_other(alloc: Global, line: &[u8]) -> Result<Step, StepFault>
-    ensures { Parses (first_of (in_plan (grammar.plan_of line.now))
-        (first_of (in_event (grammar.event_of line.now))
-        (in_setup (grammar.setup_of line.now)))) result }
-{
-    match plan_line(alloc, line) {
-        Ok(plan) => Ok(Step::Schedule(plan)),
-        Err(StepFault::Bad) => event_or_setup(alloc, line),
-        Err(StepFault::Memory) => Err(StepFault::Memory),
+    let bad = StepFault::Bad;
+    match word {
+        LineWord::Plug => Ok(Step::Move(Move::Plug(device(alloc, text)?))),
+        LineWord::Unplug => Ok(Step::Move(Move::Unplug(name(text).ok_or(bad)?))),
+        LineWord::Before => Ok(Step::Schedule(Plan::Move(scheduled(alloc, false, text)?))),
+        LineWord::After => Ok(Step::Schedule(Plan::Move(scheduled(alloc, true, text)?))),
+        LineWord::Fail => Ok(Step::Schedule(Plan::Fail(failing(text).ok_or(bad)?))),
+        LineWord::Disk => Ok(Step::Schedule(Plan::OnDisk(disk_fail(text).ok_or(bad)?))),
+        LineWord::Stop => Ok(Step::Schedule(Plan::OnDisk(stop(text).ok_or(bad)?))),
+        LineWord::Sweep => Ok(Step::Event(Event::Sweep(Moment(moment(text).ok_or(bad)?)))),
+        LineWord::Order => Ok(Step::Event(order(alloc, text)?)),
+        LineWord::Rule => Ok(Step::Setup(read_rule(alloc, text)?)),
+        LineWord::Conf => Ok(Step::Setup(SetupLine::Conf(Text::of(alloc, text)?))),
+        LineWord::Access => Ok(Step::Setup(read_access(alloc, text)?)),
+        LineWord::Seed => Ok(Step::Setup(SetupLine::Seed(seed(text).ok_or(bad)?))),
+        LineWord::Zone => Ok(Step::Setup(SetupLine::Zone(offset(text).ok_or(bad)?))),
     }
 }
 
 /// Reads a line that is not the first. An empty line and a comment are skipped. `plug` and `unplug` tell what the kernel does by
-/// itself; `before`, `after`, `fail` and `disk fail` speak of a call of the next event; `sweep` and `order` are events; `restart` begins another run of
-/// the daemon; `rule`, `conf`, `access`, `seed` and `zone` stand before all others.
+/// itself; `before`, `after`, `fail`, `disk fail` and `stop` speak of a call of the next event; `sweep` and `order` are events; `restart`
+/// begins another run of the daemon; `rule`, `conf`, `access`, `seed` and `zone` stand before all others.
 #[tactic(auto, unfolding(crate::specs::Grammar::step_of_line))]
 pub fn parse_line(alloc: Global, line: &[u8]) -> Result<Step, StepFault>
     ensures { Parses (step_of_line line.now) result }
@@ -55,9 +52,11 @@ pub fn parse_line(alloc: Global, line: &[u8]) -> Result<Step, StepFault>
     if line == b"restart".as_slice() {
         return Ok(Step::Restart);
     }
-    match move_line(alloc, line) {
-        Ok(action) => Ok(Step::Move(action)),
-        Err(StepFault::Bad) => plan_or_other(alloc, line),
-        Err(StepFault::Memory) => Err(StepFault::Memory),
+    match space(line) {
+        None => Err(StepFault::Bad),
+        Some(at) => match line_word(&line[..at]) {
+            None => Err(StepFault::Bad),
+            Some(word) => step_behind(alloc, word, &line[at + 1..]),
+        },
     }
 }

@@ -1,13 +1,12 @@
 // Lines for a call of the next event.
-ghost use Rattle.std.specs.Prelude.{◌≡◌, nat_eq};
-ghost use Rattle.std.specs.List.{position};
+ghost use Rattle.std.specs.Prelude.{◌≡◌, option_map};
 ghost use Rattle.ug_script.specs.Grammar as grammar;
-ghost use Rattle.ug_script.specs.Grammar.{disk_plan, fail_plan, failing_at, failing_of, fails_of, move_of, move_plan, plan_of, stop_plan};
+ghost use Rattle.ug_script.specs.Grammar.{disk_fail_of, failing_of, scheduled_at, scheduled_of, stop_of};
 ghost use Rattle.ug_script.specs.Words as words;
 ghost use Rattle.ug_script.specs.Words.{Parses};
 
 use crate::move_lines::move_line;
-use crate::step::{Plan, StepFault};
+use crate::step::StepFault;
 use crate::words::{moment, space};
 use std::alloc::Global;
 use ug_store::{Mishap, Planned};
@@ -29,35 +28,31 @@ fn call(text: &[u8]) -> Option<u64>
     }
 }
 
-fn scheduled(alloc: Global, after: bool, call: u64, text: &[u8]) -> Result<Plan, StepFault>
-    ensures { Parses (grammar.with_action call after (move_of text.now)) result }
+fn scheduled_at(alloc: Global, after: bool, call: u64, text: &[u8]) -> Result<Scheduled, StepFault>
+    ensures { Parses (scheduled_at after call text.now) result }
 {
-    match move_line(alloc, text) {
-        Ok(action) => Ok(Plan::Move(Scheduled {
-            call,
-            after,
-            action,
-        })),
-        Err(StepFault::Bad) => Err(StepFault::Bad),
-        Err(StepFault::Memory) => Err(StepFault::Memory),
-    }
+    Ok(Scheduled {
+        call,
+        after,
+        action: move_line(alloc, text)?,
+    })
 }
 
-/// `CALL MOVE`.
-fn planned_move(alloc: Global, after: bool, text: &[u8]) -> Result<Plan, StepFault>
-    ensures { Parses (move_plan after text.now) result }
+/// `CALL MOVE`, where the call's number is from 1 to 1,048,576, and the move is a `plug` or an `unplug` line.
+pub fn scheduled(alloc: Global, after: bool, text: &[u8]) -> Result<Scheduled, StepFault>
+    ensures { Parses (scheduled_of after text.now) result }
 {
     match space(text) {
         None => Err(StepFault::Bad),
         Some(at) => match call(&text[..at]) {
             None => Err(StepFault::Bad),
-            Some(call) => scheduled(alloc, after, call, &text[at + 1..]),
+            Some(call) => scheduled_at(alloc, after, call, &text[at + 1..]),
         },
     }
 }
 
 fn failing_at(effect: bool, text: &[u8]) -> Option<Failing>
-    ensures { result ≡ failing_at effect (words.call_of text.now) }
+    ensures { result ≡ grammar.failing_at effect (words.call_of text.now) }
 {
     match call(text) {
         None => None,
@@ -65,23 +60,26 @@ fn failing_at(effect: bool, text: &[u8]) -> Option<Failing>
     }
 }
 
-/// `CALL` or `CALL effect`.
-#[tactic(auto, unfolding(crate::specs::Grammar::failing_of))]
-fn failing(text: &[u8]) -> Option<Failing>
-    ensures { result ≡ failing_of text.now }
+#[tactic(auto, unfolding(crate::specs::Grammar::is_effect))]
+fn is_effect(word: &[u8]) -> bool
+    ensures { result ≡ grammar.is_effect word.now }
 {
-    if text.ends_with(b" effect") {
-        return failing_at(true, &text[..text.len() - 7]);
-    }
-    failing_at(false, text)
+    word == b"effect".as_slice()
 }
 
-fn planned_fail(text: &[u8]) -> Option<Plan>
-    ensures { result ≡ fail_plan (failing_of text.now) }
+/// A call's number, and `effect` behind it where a write is to have its effect all the same.
+pub fn failing(text: &[u8]) -> Option<Failing>
+    ensures { result ≡ failing_of text.now }
 {
-    match failing(text) {
-        Some(failing) => Some(Plan::Fail(failing)),
-        None => None,
+    match space(text) {
+        None => failing_at(false, text),
+        Some(at) => {
+            if is_effect(&text[at + 1..]) {
+                failing_at(true, &text[..at])
+            } else {
+                None
+            }
+        }
     }
 }
 
@@ -95,75 +93,77 @@ fn mishap(effect: bool) -> Mishap
     }
 }
 
-fn planned_disk_fail(text: &[u8]) -> Option<Plan>
-    ensures { result ≡ disk_plan (failing_of text.now) }
+#[tactic(auto, unfolding(crate::specs::Grammar::is_fail))]
+fn is_fail(word: &[u8]) -> bool
+    ensures { result ≡ grammar.is_fail word.now }
+{
+    word == b"fail".as_slice()
+}
+
+fn failing_on_disk(text: &[u8]) -> Option<Planned>
+    ensures { result ≡ option_map grammar.fails_on_disk (failing_of text.now) }
 {
     match failing(text) {
-        Some(failing) => Some(Plan::OnDisk(Planned {
+        Some(failing) => Some(Planned {
             call: failing.call,
             mishap: mishap(failing.effect),
             stops: false,
-        })),
+        }),
         None => None,
     }
 }
 
-fn stopping_at(leaves: Mishap, text: &[u8]) -> Option<Plan>
-    ensures { result ≡ grammar.stopping_at leaves (words.call_of text.now) }
+/// `fail`, and the same of a call of the disk.
+pub fn disk_fail(text: &[u8]) -> Option<Planned>
+    ensures { result ≡ disk_fail_of text.now }
 {
-    match call(text) {
+    match space(text) {
         None => None,
-        Some(call) => Some(Plan::OnDisk(Planned {
+        Some(at) => {
+            if is_fail(&text[..at]) {
+                failing_on_disk(&text[at + 1..])
+            } else {
+                None
+            }
+        }
+    }
+}
+
+#[tactic(auto, unfolding(crate::specs::Grammar::left_by))]
+fn left_by(word: &[u8]) -> Option<Mishap>
+    ensures { result ≡ grammar.left_by word.now }
+{
+    if word == b"old".as_slice() {
+        return Some(Mishap::NoEffect);
+    }
+    if word == b"new".as_slice() {
+        return Some(Mishap::Effect);
+    }
+    None
+}
+
+fn stopping_at(call: u64, word: &[u8]) -> Option<Planned>
+    ensures { result ≡ grammar.stopping_at call (grammar.left_by word.now) }
+{
+    match left_by(word) {
+        None => None,
+        Some(mishap) => Some(Planned {
             call,
-            mishap: leaves,
+            mishap,
             stops: true,
-        })),
+        }),
     }
 }
 
-/// `CALL old` or `CALL new`.
-#[tactic(auto, unfolding(crate::specs::Grammar::stop_plan))]
-fn planned_stop(text: &[u8]) -> Option<Plan>
-    ensures { result ≡ stop_plan text.now }
+/// The number of a call of the disk in which the machine stops, and `old`, or `new` where a swap is to have had its effect.
+pub fn stop(text: &[u8]) -> Option<Planned>
+    ensures { result ≡ stop_of text.now }
 {
-    if text.ends_with(b" old") {
-        return stopping_at(Mishap::NoEffect, &text[..text.len() - 4]);
+    match space(text) {
+        None => None,
+        Some(at) => match call(&text[..at]) {
+            None => None,
+            Some(call) => stopping_at(call, &text[at + 1..]),
+        },
     }
-    if text.ends_with(b" new") {
-        return stopping_at(Mishap::Effect, &text[..text.len() - 4]);
-    }
-    None
-}
-
-#[tactic(auto, unfolding(crate::specs::Grammar::fails_of))]
-fn fail_line(line: &[u8]) -> Option<Plan>
-    ensures { result ≡ fails_of line.now }
-{
-    if line.starts_with(b"fail ") {
-        return planned_fail(&line[5..]);
-    }
-    if line.starts_with(b"disk fail ") {
-        return planned_disk_fail(&line[10..]);
-    }
-    if line.starts_with(b"stop ") {
-        return planned_stop(&line[5..]);
-    }
-    None
-}
-
-/// Reads a line for a call of the next event. `before` and `after` take a call's number, from 1 to 1,048,576, and a `plug` or
-/// an `unplug` line. `fail` takes a call's number, and `effect` behind it where a write is to have its effect all the same. `disk fail`
-/// takes the same of a call of the disk. `stop` takes the number of one in which the machine stops, and `old`, or `new` where a swap is to
-/// have had its effect.
-#[tactic(auto, unfolding(crate::specs::Grammar::plan_of))]
-pub fn plan_line(alloc: Global, line: &[u8]) -> Result<Plan, StepFault>
-    ensures { Parses (plan_of line.now) result }
-{
-    if line.starts_with(b"before ") {
-        return planned_move(alloc, false, &line[7..]);
-    }
-    if line.starts_with(b"after ") {
-        return planned_move(alloc, true, &line[6..]);
-    }
-    fail_line(line).ok_or(StepFault::Bad)
 }

@@ -1,7 +1,7 @@
 // `plug` lines.
-ghost use Rattle.std.specs.Prelude.{◌≡◌, ◌++◌, ◌∷◌, [], get_or, nat_eq, IfOk};
-ghost use Rattle.std.specs.List.{position};
-ghost use Rattle.ug_script.specs.Plugs.{device_of, file_of, files_in, files_of, fill, one_space, split_descriptors, with_files, with_product, with_start};
+ghost use Rattle.std.specs.Prelude.{◌≡◌, ◌++◌, ◌∷◌, [], get_or, option_map, IfOk};
+ghost use Rattle.ug_script.specs.Plugs.{device_of, device_with, file_of, files_in, files_of, fill, one_space, start_of, with_product};
+ghost use Rattle.ug_script.specs.Plugs as plugs;
 ghost use Rattle.ug_script.specs.Words.{Parses};
 
 use crate::step::StepFault;
@@ -119,7 +119,7 @@ fn described(
     descriptors: Text,
     text: &[u8],
 ) -> Result<NewDevice, StepFault>
-    ensures { Parses (with_files name on descriptors (files_of text.now)) result }
+    ensures { Parses (option_map (device_with name on descriptors) (files_of text.now)) result }
 {
     let files = read_files(alloc, text)?;
     Ok(NewDevice {
@@ -134,7 +134,7 @@ fn described(
 
 /// `DESC PRODUCT SERIAL CONNECT`, of which the first is hexadecimal.
 fn with_digits(alloc: Global, name: NodeName, on: bool, text: &[u8]) -> Result<NewDevice, StepFault>
-    ensures { Parses (split_descriptors name on (position (nat_eq 32) text.now) text.now) result }
+    ensures { Parses (plugs.with_digits name on text.now) result }
 {
     match space(text) {
         None => Err(StepFault::Bad),
@@ -145,17 +145,31 @@ fn with_digits(alloc: Global, name: NodeName, on: bool, text: &[u8]) -> Result<N
     }
 }
 
-/// `START DESC PRODUCT SERIAL CONNECT`.
-fn started(alloc: Global, name: NodeName, text: &[u8]) -> Result<NewDevice, StepFault>
-    ensures { Parses (with_start name text.now) result }
+/// Whether the device starts authorised.
+#[tactic(auto, unfolding(crate::specs::Plugs::start_of))]
+fn start(word: &[u8]) -> Option<bool>
+    ensures { result ≡ start_of word.now }
 {
-    if text.starts_with(b"0 ") {
-        return with_digits(alloc, name, false, &text[2..]);
+    if word == b"0".as_slice() {
+        return Some(false);
     }
-    if text.starts_with(b"1 ") {
-        return with_digits(alloc, name, true, &text[2..]);
+    if word == b"1".as_slice() {
+        return Some(true);
     }
-    Err(StepFault::Bad)
+    None
+}
+
+/// `START DESC PRODUCT SERIAL CONNECT`.
+fn with_start(alloc: Global, name: NodeName, text: &[u8]) -> Result<NewDevice, StepFault>
+    ensures { Parses (plugs.with_start name text.now) result }
+{
+    match space(text) {
+        None => Err(StepFault::Bad),
+        Some(at) => match start(&text[..at]) {
+            None => Err(StepFault::Bad),
+            Some(on) => with_digits(alloc, name, on, &text[at + 1..]),
+        },
+    }
 }
 
 /// A device by its name, `1` where it starts authorised, else `0`, its descriptors in hexadecimal, and the texts of its product,
@@ -168,7 +182,7 @@ pub fn device(alloc: Global, text: &[u8]) -> Result<NewDevice, StepFault>
         None => Err(StepFault::Bad),
         Some(at) => match name(&text[..at]) {
             None => Err(StepFault::Bad),
-            Some(name) => started(alloc, name, &text[at + 1..]),
+            Some(name) => with_start(alloc, name, &text[at + 1..]),
         },
     }
 }

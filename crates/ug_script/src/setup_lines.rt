@@ -2,7 +2,7 @@
 ghost use Rattle.std.specs.Prelude.{◌≡◌, ◌≤◌, ◌&&◌, Some};
 ghost use Rattle.ug_acl.specs.Texts.{access_read};
 ghost use Rattle.ug_rule.specs.Rules.{rule_read};
-ghost use Rattle.ug_script.specs.Grammar.{grant_of, granting, in_access, in_rule, in_seed, in_zone, setup_of, single_of};
+ghost use Rattle.ug_script.specs.Grammar.{grant_of, granting, in_access, in_rule};
 ghost use Rattle.ug_script.specs.Words as words;
 ghost use Rattle.ug_script.specs.Words.{Parses, offset_of, seed_of, signed_by, with_minutes};
 
@@ -11,10 +11,10 @@ use crate::words::{is_entry, is_one_line, space};
 use std::alloc::Global;
 use ug_acl::parse_access;
 use ug_rule::{RuleFault, parse_rule};
-use ug_types::{FileFault, Principal, Text};
+use ug_types::{FileFault, Principal};
 
-/// What stands behind `rule `, read as usbguard-rules.conf(5) says.
-fn read_rule(alloc: Global, text: &[u8]) -> Result<SetupLine, StepFault>
+/// What stands behind `rule`, read as usbguard-rules.conf(5) says.
+pub fn read_rule(alloc: Global, text: &[u8]) -> Result<SetupLine, StepFault>
     ensures { Parses (in_rule (rule_read text.now)) result }
 {
     match parse_rule(alloc, text) {
@@ -46,7 +46,7 @@ fn read_grant_line(alloc: Global, who: Principal, line: &[u8]) -> Result<SetupLi
 }
 
 /// A user, or a group behind `:`, and a line of an access file.
-fn read_access(alloc: Global, text: &[u8]) -> Result<SetupLine, StepFault>
+pub fn read_access(alloc: Global, text: &[u8]) -> Result<SetupLine, StepFault>
     ensures { Parses (grant_of text.now) result }
 {
     match space(text) {
@@ -59,7 +59,7 @@ fn read_access(alloc: Global, text: &[u8]) -> Result<SetupLine, StepFault>
 }
 
 /// 64 hexadecimal digits of either case.
-fn seed(text: &[u8]) -> Option<[u8; 32]>
+pub fn seed(text: &[u8]) -> Option<[u8; 32]>
     ensures { result ≡ seed_of text.now }
 {
     let mut seed = [0; 32];
@@ -107,9 +107,9 @@ fn seconds(sign: u8, hours: u8, minutes: u8) -> Option<i32>
     }
 }
 
-/// `+HH:MM` or `-HH:MM`, in seconds.
+/// An offset from UTC as `+HH:MM` or `-HH:MM`, hours to 23, in seconds.
 #[tactic(auto, unfolding(crate::specs::Words::offset_of))]
-fn offset(text: &[u8]) -> Option<i32>
+pub fn offset(text: &[u8]) -> Option<i32>
     ensures { result ≡ offset_of text.now }
 {
     if text.len() != 6 || text[3] != b':' {
@@ -122,58 +122,4 @@ fn offset(text: &[u8]) -> Option<i32>
             Some(minutes) => seconds(text[0], hours, minutes),
         },
     }
-}
-
-fn read_zone(text: &[u8]) -> Option<SetupLine>
-    ensures { result ≡ in_zone (offset_of text.now) }
-{
-    match offset(text) {
-        None => None,
-        Some(offset) => Some(SetupLine::Zone(offset)),
-    }
-}
-
-fn read_seed(text: &[u8]) -> Option<SetupLine>
-    ensures { result ≡ in_seed (seed_of text.now) }
-{
-    match seed(text) {
-        None => None,
-        Some(seed) => Some(SetupLine::Seed(seed)),
-    }
-}
-
-/// A line of which one may stand there.
-#[tactic(auto, unfolding(crate::specs::Grammar::single_of))]
-fn single_line(line: &[u8]) -> Option<SetupLine>
-    ensures { result ≡ single_of line.now }
-{
-    if line.starts_with(b"seed ") {
-        return read_seed(&line[5..]);
-    }
-    if line.starts_with(b"zone ") {
-        return read_zone(&line[5..]);
-    }
-    None
-}
-
-/// Reads a line that stands before all others. `rule` takes a rule of usbguard-rules.conf(5), `conf` a line of settings, which
-/// is read when it is taken, `access` a user or a group with a line of an access file, `seed` 64 hexadecimal digits, and `zone` an
-/// offset from UTC as `+HH:MM` or `-HH:MM`, hours to 23.
-#[tactic(auto, unfolding(crate::specs::Grammar::setup_of))]
-pub fn setup_line(alloc: Global, line: &[u8]) -> Result<SetupLine, StepFault>
-    ensures { Parses (setup_of line.now) result }
-{
-    if line.starts_with(b"rule ") {
-        return read_rule(alloc, &line[5..]);
-    }
-    if line.starts_with(b"conf ") {
-        return match Text::of(alloc, &line[5..]) {
-            Ok(text) => Ok(SetupLine::Conf(text)),
-            Err(_) => Err(StepFault::Memory),
-        };
-    }
-    if line.starts_with(b"access ") {
-        return read_access(alloc, &line[7..]);
-    }
-    single_line(line).ok_or(StepFault::Bad)
 }

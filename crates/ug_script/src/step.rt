@@ -3,7 +3,7 @@ use ug_acl::Grants;
 use ug_core::Event;
 use ug_store::Planned;
 use ug_sysfs::{Failing, Move, Scheduled};
-use ug_types::{Principal, Rule, Text};
+use ug_types::{NoMemory, Principal, Rule, Text};
 
 /// What a user or a group may do: usbguard-daemon.conf(5), IPC access control.
 #[derive(Drop)]
@@ -59,4 +59,16 @@ pub enum StepFault {
     Bad,
     /// There was no memory for what it holds.
     Memory,
+}
+
+impl From<NoMemory> for StepFault {
+    ghost use Rattle.std.specs.Prelude.{◌≡◌};
+    ghost use Rattle.ug_script.specs.declared.step.StepFault.{StepFault};
+    ghost use Rattle.ug_script.specs.declared.step.StepFault.TheVariants.{Memory};
+
+    ghost from_gives = { λ _ fault. fault ≡ Memory };
+
+    fn from(_e: NoMemory) -> StepFault {
+        StepFault::Memory
+    }
 }
