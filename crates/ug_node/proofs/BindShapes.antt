@@ -128,15 +128,15 @@ pub count_more : (ms ns : List Made) → count_calls (ms ++ ns) ≡ count_calls 
 count_more [] ns = omega arith
 count_more (m ∷ ms) ns = let e = count_more ms ns in omega (arith, e)
 
-reads_more : {name : List ℕ} {ms ns : List Made} → Reads name ms → Reads name ns → Reads name (ms ++ ns)
+pub reads_more : {name : List ℕ} {ms ns : List Made} → Reads name ms → Reads name ns → Reads name (ms ++ ns)
 reads_more No_more b = b
 reads_more (Then_read of at t ms may came a) b = Then_read of at t _ may came (reads_more a b)
 
 -- what follows a file that was read, and one that stops
-abbrev Goes_on : {X : Type 0} → List ℕ → Attr → (Result File Stop → Prog X) → (Bool → List Made → X → Type 0) → Type 0
+abbrev pub Goes_on : {X : Type 0} → List ℕ → Attr → (Result File Stop → Prog X) → (Bool → List Made → X → Type 0) → Type 0
 Goes_on of at f P = (t : Told ReadOut) → Came t.answer at → Ways (f (Ok (file_from t.answer))) (λ ok ms r. P ok (answered (Read of at) t ∷ ms) r)
 
-abbrev Breaks_off : {X : Type 0} → List ℕ → Attr → ℕ → (Result File Stop → Prog X) → (Bool → List Made → X → Type 0) → Type 0
+abbrev pub Breaks_off : {X : Type 0} → List ℕ → Attr → ℕ → (Result File Stop → Prog X) → (Bool → List Made → X → Type 0) → Type 0
 Breaks_off of at held f P = (t : Told ReadOut) (why : Stop) (shut : Closing) → Stops at t why → Ways (f (Err why)) (λ ok ms r. P ok (answered (Read of at) t ∷ answered (Close held) shut ∷ ms) r)
 
 read_by : {X : Type 0} (of : List ℕ) (at : Attr) (held : ℕ) (f : Result File Stop → Prog X) (P : Bool → List Made → X → Type 0) → Goes_on of at f P → Breaks_off of at held f P → (r : ReadOut) (call count : ℕ) → Ways (then (after_read at held r (record { call = call; count = count })) f) (λ ok ms x. P ok (answered (Read of at) (told r call count) ∷ ms) x)
@@ -152,10 +152,10 @@ unfolding reading
 then_read of at held f P goes stops = λ t. read_by of at held f P goes stops t.answer t.number t.count
 
 -- the first of these files were read, and the reading of the next one stops
-abbrev Cuts : {X : Type 0} → List (List ℕ × Attr) → List ℕ → List ℕ → ℕ → (Bool → List Made → Result X Stop → Type 0) → Type 0
+abbrev pub Cuts : {X : Type 0} → List (List ℕ × Attr) → List ℕ → List ℕ → ℕ → (Bool → List Made → Result X Stop → Type 0) → Type 0
 Cuts files name of held P = (ms : List Made) (at : Attr) (t : Told ReadOut) (why : Stop) (shut : Closing) (left : List (List ℕ × Attr)) → Reads name ms → ReadsFirst files ms ((of, at) ∷ left) → Stops at t why → P true (ms ++ answered (Read of at) t ∷ answered (Close held) shut ∷ []) (Err why)
 
-own_read : (name : List ℕ) (held : ℕ) (files : List (List ℕ × Attr)) (P : Bool → List Made → Result Attrs Stop → Type 0) → ((d p s c : Told ReadOut) → Reads name (reads_own name d p s c []) → ReadsFirst (own_first name files) (reads_own name d p s c []) files → P true (reads_own name d p s c []) (Ok (own_from d.answer p.answer s.answer c.answer))) → Cuts (own_first name files) name name held P → Ways (reading_own name held) P
+pub own_read : (name : List ℕ) (held : ℕ) (files : List (List ℕ × Attr)) (P : Bool → List Made → Result Attrs Stop → Type 0) → ((d p s c : Told ReadOut) → Reads name (reads_own name d p s c []) → ReadsFirst (own_first name files) (reads_own name d p s c []) files → P true (reads_own name d p s c []) (Ok (own_from d.answer p.answer s.answer c.answer))) → Cuts (own_first name files) name name held P → Ways (reading_own name held) P
 unfolding reading_own
 own_read name held files P all cut =
     let is : IsReadable name name = inl refl in
@@ -171,7 +171,7 @@ own_read name held files P all cut =
     (λ t why shut e. cut _ Attr.Product t why shut _ (Then_read name Attr.Descriptors d _ is hd No_more) (One_read name Attr.Descriptors d _ _ _ hd (None_read _)) e))
     (λ t why shut e. cut _ Attr.Descriptors t why shut _ No_more (None_read _) e)
 
-parent_read : (name parent : List ℕ) (held : ℕ) → IsReadable name parent → (P : Bool → List Made → Result Attrs Stop → Type 0) → ((d p s : Told ReadOut) → Reads name (reads_parents parent d p s) → ReadsFirst (parent_files (Some parent)) (reads_parents parent d p s) [] → P true (reads_parents parent d p s) (Ok (parents_from d.answer p.answer s.answer))) → Cuts (parent_files (Some parent)) name parent held P → Ways (reading_parent parent held) P
+pub parent_read : (name parent : List ℕ) (held : ℕ) → IsReadable name parent → (P : Bool → List Made → Result Attrs Stop → Type 0) → ((d p s : Told ReadOut) → Reads name (reads_parents parent d p s) → ReadsFirst (parent_files (Some parent)) (reads_parents parent d p s) [] → P true (reads_parents parent d p s) (Ok (parents_from d.answer p.answer s.answer))) → Cuts (parent_files (Some parent)) name parent held P → Ways (reading_parent parent held) P
 unfolding reading_parent
 parent_read name parent held is P all cut =
     then_read parent Attr.Descriptors held (after_parent_descriptors parent held) P (λ d hd.

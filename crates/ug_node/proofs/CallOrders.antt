@@ -17,7 +17,7 @@ use Rattle.ug_node.specs.declared.files.Stop.{Stop}
 use Rattle.ug_node.specs.declared.identity.Binding.{Binding}
 use Rattle.ug_node.proofs.BindShapes.{told, Came, Stops, No_descriptors, parent_files, files_of, ReadsFirst, None_read, One_read, Binds_by, Cut, Probed_gone, Probe_failed, Bound_by, binds_by}
 
-abbrev read_act : List ℕ × Attr → Act
+abbrev pub read_act : List ℕ × Attr → Act
 read_act file = To_read file.0 file.1
 
 came_leads : (r : ReadOut) (at : Attr) → Came r at → read_leads r at ≡ true
@@ -28,7 +28,7 @@ came_leads ReadOut.TooLong at c = refl
 came_leads ReadOut.Failed at c = absurd c
 came_leads ReadOut.Memory at c = absurd c
 
-reads_go : {files left : List (List ℕ × Attr)} {ms : List Made} (rest : List Made → Type 0) (ns : List Made)
+pub reads_go : {files left : List (List ℕ × Attr)} {ms : List Made} (rest : List Made → Type 0) (ns : List Made)
     → ReadsFirst files ms left → GoBy (map read_act left) rest ns → GoBy (map read_act files) rest (ms ++ ns)
 reads_go rest ns (None_read files) h = h
 reads_go rest ns (One_read of at t ms files left came r) h =
@@ -64,7 +64,7 @@ stop_behind alive Stop.Vanished ns c = c
 stop_behind alive (Stop.Fault failed) ns c = c
 stop_behind alive Stop.Memory ns c = c
 
-stops_end : {at : Attr} {t : Told ReadOut} {why : Stop} → Stops at t why → read_leads t.answer at ≡ false
+pub stops_end : {at : Attr} {t : Told ReadOut} {why : Stop} → Stops at t why → read_leads t.answer at ≡ false
 stops_end (No_descriptors call count) = refl
 stops_end x = refl
 

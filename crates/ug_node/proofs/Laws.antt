@@ -28,7 +28,7 @@ use Rattle.ug_node.specs.declared.files.Stop.{Stop}
 use Rattle.ug_node.specs.declared.identity.Bound.{Bound}
 use Rattle.ug_node.specs.declared.identity.Binding.{Binding}
 use Rattle.ug_node.specs.Bind.{binding_of, binding}
-use Rattle.ug_node.specs.Bound.{attrs_of, parent_attrs_of, IsParentRead, IsBound, BindSays, IsBinding, Binds, IsFault, TellsFault}
+use Rattle.ug_node.specs.Bound.{attrs_of, parent_attrs_of, IsParentRead, IsBoundBy, IsBound, BindSays, IsBinding, Binds, IsFault, TellsFault}
 use Rattle.ug_node.proofs.BindShapes.{told, IsReadable, Came, Reads, No_more, Then_read, Stops, No_descriptors, Read_failed, parents_from, Files, Alone, Below, Binds_by, No_such, Open_failed, Cut, Probed_gone, Probe_failed, Bound_by, binds_by, Holds_by, Not_there, Not_opened, Held_on, Died, Unasked, holds_by}
 use Rattle.ug_kernel.specs.declared.calls.FailedCall.{FailedCall}
 use Rattle.ug_kernel.proofs.Rises.{Counting}
@@ -40,11 +40,11 @@ use Rattle.ug_node.specs.Removal.{holding, TellsHoldFault, IsAuthorizedFile, Hol
 
 -- nothing is written
 
-reads_unwritten : {name : List ℕ} {ms : List Made} → Reads name ms → Unwritten ms
+pub reads_unwritten : {name : List ℕ} {ms : List Made} → Reads name ms → Unwritten ms
 reads_unwritten No_more = tt
 reads_unwritten (Then_read of at t ms may came r) = (tt, reads_unwritten r)
 
-binds_unwritten : {name : List ℕ} {ms : List Made} {r : Binding} → Binds_by name ms r → Unwritten ms
+pub binds_unwritten : {name : List ℕ} {ms : List Made} {r : Binding} → Binds_by name ms r → Unwritten ms
 binds_unwritten (Cut file call count ms of at t shut why r left n first may stops e) = (tt, unwritten_more ms _ (reads_unwritten n) (tt, (tt, tt)))
 binds_unwritten (Probed_gone file call count number total ms shut n first) = (tt, unwritten_more ms _ (reads_unwritten n) (tt, (tt, tt)))
 binds_unwritten (Probe_failed file call count number total ms shut n first) = (tt, unwritten_more ms _ (reads_unwritten n) (tt, (tt, tt)))
@@ -65,16 +65,16 @@ came_says of a ReadOut.Memory k l c h = absurd c
 came_says of a x k l c h = h
 
 -- each reading of a device's name tells that device's file
-abbrev TellsOf : Device → (call : Call) → Answer call → Type 0
+abbrev pub TellsOf : Device → (call : Call) → Answer call → Type 0
 TellsOf d (Read of a) t = of ≡ d.name → t.answer ≡ read_of a d
 TellsOf d call answer = Unit {0}
 
-abbrev TellOf : Device → List Made → Type 0
+abbrev pub TellOf : Device → List Made → Type 0
 TellOf d [] = Unit {0}
 TellOf d (m ∷ ms) = TellsOf d m.call m.answer × TellOf d ms
 
 -- of one that was there before them, and is live behind them
-reads_tell : {name : List ℕ} {ms : List Made} (i : ℕ) (d e f : Device) (k l : Kernel) → Reads name ms → Along calls k ms l → slice_get k.devices i ≡ Some d → Live l.devices i e → Stays e f → TellOf f ms
+pub reads_tell : {name : List ℕ} {ms : List Made} (i : ℕ) (d e f : Device) (k l : Kernel) → Reads name ms → Along calls k ms l → slice_get k.devices i ≡ Some d → Live l.devices i e → Stays e f → TellOf f ms
 reads_tell i d e f k l No_more a at live s = tt
 reads_tell i d e f k l (Then_read of by t ms may came r) a at live s =
     let grow = called_grows (Read of by) t k a.0 a.1 in
@@ -132,7 +132,7 @@ parents_are {name} {ms} i d u v l (Below parent x p s c y z w above) r a sound q
 -- the held file
 
 -- the held file was opened, and nothing was written since
-record IsOpenSince (name : List ℕ) (k : Kernel) (held : ℕ) (m : Kernel) : Type 0 where
+pub record IsOpenSince (name : List ℕ) (k : Kernel) (held : ℕ) (m : Kernel) : Type 0 where
   pub before : Kernel
   pub opening : Kernel
   pub start : Moves k before
@@ -140,7 +140,7 @@ record IsOpenSince (name : List ℕ) (k : Kernel) (held : ℕ) (m : Kernel) : Ty
   pub quiet : Quiet opening m
   pub sound : IsKernel before
 
-open_since : (name : List ℕ) (file : Held) (call count : ℕ) (k m l : Kernel) → Called (Open name Authorized) (told (Opened.Token file) call count) k m → Quiet m l → IsOpenSince name k file.0 l
+pub open_since : (name : List ℕ) (file : Held) (call count : ℕ) (k m l : Kernel) → Called (Open name Authorized) (told (Opened.Token file) call count) k m → Quiet m l → IsOpenSince name k file.0 l
 open_since name file call count k m l c q = record { before = c.before; opening = c.after; start = c.moves_before; opens = c.effect; quiet = quiet_trans c.after m l (moves_quiet c.after m c.moves_after) q; sound = c.sound_before }
 
 pub opened_file : (name : List ℕ) (control : Control) (held : ℕ) (k m : Kernel) (o : IsOpened name control held k m) → slice_get m.held held ≡ Some (record { device = o.i; control = control })
@@ -166,13 +166,13 @@ opened_only name k held w l h g j d lives named =
 
 -- how it ends
 
-bound_law : {name : List ℕ} {ms : List Made} (k u v l : Kernel) (b : Bound) (h : IsOpenSince name k b.held.0 u) → Reads name ms → Files name ms b.attrs b.parent → IsKernel u → Along calls u ms v → IsAlive b.held.0 b.on v → Quiet v l → IsBound name k l b
-bound_law {name} {ms} k u v l b h reads files sound a alive q =
-    let quiet = along_quiet ms u v (reads_unwritten reads) a in
+-- by what its attributes and its parent's are
+pub bound_with : (Parents : Kernel → Option ℕ → Option Attrs → Type 0) (name : List ℕ) (k u v l : Kernel) (b : Bound) (h : IsOpenSince name k b.held.0 u) → Quiet u v → ((d e f : Device) → slice_get u.devices h.opens.i ≡ Some d → Live v.devices h.opens.i e → Stays e f → name ≡ f.name → b.attrs ≡ attrs_of f) → ((d : Device) → Lived u.devices v.devices h.opens.i d → d.name ≡ name → Parents l d.parent b.parent) → IsAlive b.held.0 b.on v → Quiet v l → IsBoundBy Parents name k l b
+bound_with Parents name k u v l b h quiet own parents alive q =
     let now : IsOpenSince name k b.held.0 v = record { before = h.before; opening = h.opening; start = h.start; opens = h.opens; quiet = quiet_trans h.opening u v h.quiet quiet; sound = h.sound } in
-    let own : HeldFile = record { device = h.opens.i; control = Authorized } in
+    let held : HeldFile = record { device = h.opens.i; control = Authorized } in
     let file = file_now name k b.held.0 v now in
-    let is : alive.i ≡ h.opens.i = sym alive.holds.is ∙ ap (λ (f : HeldFile). f.device) (some_same (slice_get v.held b.held.0) alive.holds.file own alive.holds.at file) in
+    let is : alive.i ≡ h.opens.i = sym alive.holds.is ∙ ap (λ (f : HeldFile). f.device) (some_same (slice_get v.held b.held.0) alive.holds.file held alive.holds.at file) in
     let live : Live v.devices h.opens.i alive.d = subst (λ i. Live v.devices i alive.d) is alive.live in
     let was = device_now name k b.held.0 u h in
     let first = live_before u v h.opens.i was.0 alive.d (quiet_grows u v quiet) was.1 live in
@@ -183,17 +183,24 @@ bound_law {name} {ms} k u v l b h reads files sound a alive q =
       i = h.opens.i;
       d = e.0;
       device = e.1;
-      file = q.held b.held.0 own file;
+      file = q.held b.held.0 held file;
       fresh = slice_get_past k.held b.held.0 new;
       named = named;
-      own = own_is e.0 (sym named) files (reads_tell h.opens.i was.0 alive.d e.0 u v reads a was.1 live e.2.stays);
-      parents = subst (λ p. IsParentRead l p b.parent) (sym (e.2.stays.parent ∙ first.1.parent)) (parents_are h.opens.i was.0 u v l files reads a sound q (record { entry = first.0; exit = (alive.d, live) }) was.2);
+      own = own was.0 alive.d e.0 was.1 live e.2.stays (sym named);
+      parents = subst (λ p. Parents l p b.parent) (sym (e.2.stays.parent ∙ first.1.parent)) (parents was.0 (record { entry = first.0; exit = (alive.d, live) }) was.2);
       value = e.2.on ∙ alive.value;
       lived = record { before = h.before; opening = h.opening; probing = v; start = h.start; opened = h.opens; is = refl; reads = now.quiet; alive = alive; end = q };
       only = opened_only name k b.held.0 v l now (quiet_grows v l q);
     }
 
-gone_law : (name : List ℕ) (k : Kernel) (held : ℕ) (w l : Kernel) → IsOpenSince name k held w → Grows w l → IsGoneAt held w → NoneLived name k l
+bound_law : {name : List ℕ} {ms : List Made} (k u v l : Kernel) (b : Bound) (h : IsOpenSince name k b.held.0 u) → Reads name ms → Files name ms b.attrs b.parent → IsKernel u → Along calls u ms v → IsAlive b.held.0 b.on v → Quiet v l → IsBound name k l b
+bound_law {name} {ms} k u v l b h reads files sound a alive q =
+    bound_with IsParentRead name k u v l b h (along_quiet ms u v (reads_unwritten reads) a)
+    (λ d e f at live s named. own_is f named files (reads_tell h.opens.i d e f u v reads a at live s))
+    (λ d lives named. parents_are h.opens.i d u v l files reads a sound q lives named)
+    alive q
+
+pub gone_law : (name : List ℕ) (k : Kernel) (held : ℕ) (w l : Kernel) → IsOpenSince name k held w → Grows w l → IsGoneAt held w → NoneLived name k l
 gone_law name k held w l h g gone j d lives named =
     let is = opened_only name k held w l h g j d lives named in
     let y = device_now name k held w h in
@@ -217,13 +224,13 @@ absent_none name of k l (inr above) s t g h = λ i d lives named.
     let x = parent_lived k l name of i d d.parent s t g lives named above refl in
     within_no (nat_le (length x.1.descriptors) 131072) x.1.descriptors (h x.0 x.1 x.3 x.4)
 
-stop_says : {name of : List ℕ} {at : Attr} {t : Told ReadOut} {why : Stop} (k u w l : Kernel) → IsReadable name of → Stops at t why → IsKernel u → Called (Read of at) t u w → Grows k u → Grows w l → BindSays name k l (binding_of why)
+pub stop_says : {name of : List ℕ} {at : Attr} {t : Told ReadOut} {why : Stop} (k u w l : Kernel) → IsReadable name of → Stops at t why → IsKernel u → Called (Read of at) t u w → Grows k u → Grows w l → BindSays name k l (binding_of why)
 stop_says {name} {of} k u w l may (No_descriptors call count) s c g j =
     let b = called_grows (Read of Attr.Descriptors) (told ReadOut.Absent call count) u w c in
     none_wider name k u w l g b j (absent_none name of u w may s.devices c.sound.devices b c.says)
 stop_says k u w l may x s c g j = tt
 
-binds_say : {name : List ℕ} {ms : List Made} {r : Binding} (k l : Kernel) → Binds_by name ms r → Along calls k ms l → BindSays name k l r
+pub binds_say : {name : List ℕ} {ms : List Made} {r : Binding} (k l : Kernel) → Binds_by name ms r → Along calls k ms l → BindSays name k l r
 binds_say {name} k l (No_such call count) a =
     let none = subst (λ v. NoneHas Authorized name k v) (sym a.2) a.1.says in
     λ i d lives named. none i d lives named refl
@@ -260,11 +267,11 @@ told_binds gives told did name parent s r t above runs = λ l e.
 -- the numbers of a failed answer: those of the last call that is counted, which failed
 
 -- a call that failed
-fault_so : {X : Type 0} (failed : X → Bool) (t : Told X) (v w : Tally) → failed t.answer ≡ true → Counted failed t v.calls v.faults w.calls w.faults → IsFault v.faults w.calls w.faults (failure_of t)
+pub fault_so : {X : Type 0} (failed : X → Bool) (t : Told X) (v w : Tally) → failed t.answer ≡ true → Counted failed t v.calls v.faults w.calls w.faults → IsFault v.faults w.calls w.faults (failure_of t)
 fault_so failed t v w e h = record { number = h.number; total = h.count; rises = λ few. h.rises e few }
 
 -- one behind others, with the closing of a file behind it
-ends_closed : (front : List Made) (m : Made) (held : ℕ) (shut : Closing) (failed : FailedCall) (v w : Tally) → ((x y : Tally) → counts x m.call m.answer y → IsFault x.faults y.calls y.faults failed) → Along counts v (front ++ m ∷ answered (Close held) shut ∷ []) w → IsFault v.faults w.calls w.faults failed
+pub ends_closed : (front : List Made) (m : Made) (held : ℕ) (shut : Closing) (failed : FailedCall) (v w : Tally) → ((x y : Tally) → counts x m.call m.answer y → IsFault x.faults y.calls y.faults failed) → Along counts v (front ++ m ∷ answered (Close held) shut ∷ []) w → IsFault v.faults w.calls w.faults failed
 ends_closed front m held shut failed v w fails a =
     let cut = along_split counts front (m ∷ answered (Close held) shut ∷ []) v w a in
     let x = cut.0 in
@@ -278,11 +285,11 @@ ends_closed front m held shut failed v w fails a =
     let first = counts_never_fall m.call m.answer x y cut.2.1 in
     record { number = h.number ∙ sym calls; total = h.total ∙ sym faults; rises = λ few. grind (arith, h.rises, few, low, first, faults) }
 
-stop_tells : {at : Attr} {t : Told ReadOut} {why : Stop} (front : List Made) (of : List ℕ) (held : ℕ) (shut : Closing) (v w : Tally) → Stops at t why → Along counts v (front ++ answered (Read of at) t ∷ answered (Close held) shut ∷ []) w → TellsFault v.faults w.calls w.faults (binding_of why)
+pub stop_tells : {at : Attr} {t : Told ReadOut} {why : Stop} (front : List Made) (of : List ℕ) (held : ℕ) (shut : Closing) (v w : Tally) → Stops at t why → Along counts v (front ++ answered (Read of at) t ∷ answered (Close held) shut ∷ []) w → TellsFault v.faults w.calls w.faults (binding_of why)
 stop_tells front of held shut v w (Read_failed at call count) a = ends_closed front (answered (Read of at) (told ReadOut.Failed call count)) held shut (record { call = call; count = count }) v w (λ x y c. fault_so failed_read (told ReadOut.Failed call count) x y refl c) a
 stop_tells front of held shut v w x a = tt
 
-binds_tell : {name : List ℕ} {ms : List Made} {r : Binding} (v w : Tally) → Binds_by name ms r → Along counts v ms w → TellsFault v.faults w.calls w.faults r
+pub binds_tell : {name : List ℕ} {ms : List Made} {r : Binding} (v w : Tally) → Binds_by name ms r → Along counts v ms w → TellsFault v.faults w.calls w.faults r
 binds_tell v w (Open_failed call count) a = subst (λ (x : Tally). IsFault v.faults x.calls x.faults (record { call = call; count = count })) (sym a.2) (fault_so failed_open (told Opened.Failed call count) v a.0 refl a.1)
 binds_tell {name} v w (Cut file call count ms of at t shut why r left n first may stops e) a = subst (λ (x : Binding). TellsFault v.faults w.calls w.faults x) (sym e) (stop_tells (answered (Open name Authorized) (told (Opened.Token file) call count) ∷ ms) of file.0 shut v w stops a)
 binds_tell {name} v w (Probe_failed file call count number total ms shut n first) a = ends_closed (answered (Open name Authorized) (told (Opened.Token file) call count) ∷ ms) (answered (Ask_alive file.0) (told Probe.Failed number total)) file.0 shut (record { call = number; count = total }) v w (λ x y c. fault_so failed_probe (told Probe.Failed number total) x y refl c) a
@@ -315,12 +322,12 @@ holds_unwritten x = (tt, tt)
 
 -- the device of the held file
 
-file_later : (k l : Kernel) (name : List ℕ) (held i : ℕ) → Grows k l → IsAuthorizedFile k name held i → IsAuthorizedFile l name held i
+pub file_later : (k l : Kernel) (name : List ℕ) (held i : ℕ) → Grows k l → IsAuthorizedFile k name held i → IsAuthorizedFile l name held i
 file_later k l name held i g f =
     let x = g.devices i f.d f.device in
     record { d = x.0; file = g.held held (record { device = i; control = Authorized }) f.file; device = x.1; named = x.2.name ∙ f.named }
 
-holds_is : (k : Kernel) (name : List ℕ) (held i j : ℕ) (d : Device) → IsAuthorizedFile k name held i → Holds k held j d → j ≡ i
+pub holds_is : (k : Kernel) (name : List ℕ) (held i j : ℕ) (d : Device) → IsAuthorizedFile k name held i → Holds k held j d → j ≡ i
 holds_is k name held i j d f h =
     let own : HeldFile = record { device = i; control = Authorized } in
     sym h.is ∙ ap (λ (v : HeldFile). v.device) (some_same (slice_get k.held held) h.file own h.at f.file)

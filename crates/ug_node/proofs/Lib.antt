@@ -1,3 +1,4 @@
 pub mod BindShapes
 pub mod CallOrders
 pub mod Laws
+pub mod UnderShapes

@@ -26,12 +26,15 @@ abbrev pub closing : ℕ → Binding → Prog Binding
 closing held answer = Ask (Close held) (λ closed. Return answer)
 
 abbrev pub after_probe : ℕ → Attrs → Option Attrs → Probe → FailedCall → Prog Binding
-after_probe held attrs parent (probe.Alive on) failed = Return (bound.Bound (record { held = record { 0 = held }; attrs = attrs; parent = parent; on = on }))
+after_probe held attrs parent (probe.Alive on) failed =
+    Return (bound.Bound
+    (record { held = record { 0 = held }; attrs = attrs; parent = parent; on = on }))
 after_probe held attrs parent probe.Gone failed = closing held bound.Vanished
 after_probe held attrs parent probe.Failed failed = closing held (bound.Failed failed)
 
 abbrev pub probing : ℕ → Attrs → Option Attrs → Prog Binding
-probing held attrs parent = Ask (Ask_alive held) (λ t. after_probe held attrs parent t.answer (failure_of t))
+probing held attrs parent =
+    Ask (Ask_alive held) (λ t. after_probe held attrs parent t.answer (failure_of t))
 
 abbrev pub after_parent : ℕ → Attrs → Result Attrs Stop → Prog Binding
 after_parent held attrs (Ok parent) = probing held attrs (Some parent)
@@ -46,11 +49,42 @@ after_own held parent (Ok attrs) = to_parent held attrs parent
 after_own held parent (Err why) = Return (binding_of why)
 
 abbrev pub after_open : List ℕ → Option (List ℕ) → Opened → FailedCall → Prog Binding
-after_open name parent (opened.Token held) failed = then (reading_own name held.0) (after_own held.0 parent)
+after_open name parent (opened.Token held) failed =
+    then (reading_own name held.0) (after_own held.0 parent)
 after_open name parent opened.Absent failed = Return bound.Absent
 after_open name parent opened.Failed failed = Return (bound.Failed failed)
 after_open name parent opened.Memory failed = Return bound.Memory
 
 -- a name, with its parent's
 unfoldable pub binding : List ℕ → Option (List ℕ) → Prog Binding
-binding name parent = Ask (Open name Authorized) (λ t. after_open name parent t.answer (failure_of t))
+binding name parent =
+    Ask (Open name Authorized) (λ t. after_open name parent t.answer (failure_of t))
+
+-- The parent's files are read only where its held file isn't found alive. A failure of that probe
+-- isn't told.
+abbrev pub after_asking : ℕ → Attrs → List ℕ → Probe → Prog Binding
+after_asking held attrs parent (probe.Alive on) = probing held attrs None
+after_asking held attrs parent probe.Gone =
+    then (reading_parent parent held) (after_parent held attrs)
+after_asking held attrs parent probe.Failed =
+    then (reading_parent parent held) (after_parent held attrs)
+
+abbrev pub asking_parent : ℕ → Attrs → List ℕ → ℕ → Prog Binding
+asking_parent held attrs parent kept =
+    Ask (Ask_alive kept) (λ t. after_asking held attrs parent t.answer)
+
+abbrev pub after_own_under : ℕ → List ℕ → ℕ → Result Attrs Stop → Prog Binding
+after_own_under held parent kept (Ok attrs) = asking_parent held attrs parent kept
+after_own_under held parent kept (Err why) = Return (binding_of why)
+
+abbrev pub after_open_under : List ℕ → List ℕ → ℕ → Opened → FailedCall → Prog Binding
+after_open_under name parent kept (opened.Token held) failed =
+    then (reading_own name held.0) (after_own_under held.0 parent kept)
+after_open_under name parent kept opened.Absent failed = Return bound.Absent
+after_open_under name parent kept opened.Failed failed = Return (bound.Failed failed)
+after_open_under name parent kept opened.Memory failed = Return bound.Memory
+
+-- a name whose parent's `authorized` file is held
+unfoldable pub binding_under : List ℕ → List ℕ → ℕ → Prog Binding
+binding_under name parent kept =
+    Ask (Open name Authorized) (λ t. after_open_under name parent kept t.answer (failure_of t))

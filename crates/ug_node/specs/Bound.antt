@@ -30,7 +30,9 @@ attrs_of d = record {
   product = bytes_of (read_of attr.Product d);
   serial = bytes_of (read_of attr.Serial d);
   connect = bytes_of (read_of attr.Connect d);
-  too_long = is_too_long (read_of attr.Descriptors d) || is_too_long (read_of attr.Product d) || is_too_long (read_of attr.Serial d) || is_too_long (read_of attr.Connect d);
+  too_long =
+      is_too_long (read_of attr.Descriptors d) || is_too_long (read_of attr.Product d)
+      || is_too_long (read_of attr.Serial d) || is_too_long (read_of attr.Connect d);
 }
 
 -- the files of a parent that its children's records need
@@ -40,15 +42,19 @@ parent_attrs_of d = record {
   product = bytes_of (read_of attr.Product d);
   serial = bytes_of (read_of attr.Serial d);
   connect = [];
-  too_long = is_too_long (read_of attr.Descriptors d) || is_too_long (read_of attr.Product d) || is_too_long (read_of attr.Serial d);
+  too_long =
+      is_too_long (read_of attr.Descriptors d) || is_too_long (read_of attr.Product d)
+      || is_too_long (read_of attr.Serial d);
 }
 
 -- these are the files of the parent of that identity, and none where there is no parent
 abbrev pub IsParentRead : Kernel → Option ℕ → Option Attrs → Type 0
 IsParentRead l None attrs = attrs ≡ None
-IsParentRead l (Some p) attrs = (e : Device) × (slice_get l.devices p ≡ Some e) × (attrs ≡ Some (parent_attrs_of e))
+IsParentRead l (Some p) attrs =
+    (e : Device) × (slice_get l.devices p ≡ Some e) × (attrs ≡ Some (parent_attrs_of e))
 
--- the device of that identity lived from the opening of the held file to the probe of it, and had that value
+-- the device of that identity lived from the opening of the held file to the probe of it, and had
+-- that value
 pub record LivedUntilProbe (name : List ℕ) (k l : Kernel) (held i : ℕ) (on : Bool) : Type 0 where
   pub before : Kernel
   pub opening : Kernel
@@ -60,9 +66,12 @@ pub record LivedUntilProbe (name : List ℕ) (k l : Kernel) (held i : ℕ) (on :
   pub alive : IsAlive held on probing
   pub end : Quiet probing l
 
--- the held file is a new one, of a device of that name; the attributes, the parent's and the value are that device's;
--- and it lived until it was probed, after all was read; no other device of the name lived through the binding
-pub record IsBound (name : List ℕ) (k l : Kernel) (b : Bound) : Type 0 where
+-- the held file is a new one, of a device of that name; the attributes, the parent's and the value
+-- are that device's; and it lived until it was probed, after all was read; no other device of the
+-- name lived through the binding
+pub record IsBoundBy (Parents : Kernel → Option ℕ → Option Attrs → Type 0) (name : List ℕ)
+    (k l : Kernel)
+    (b : Bound) : Type 0 where
   pub i : ℕ
   pub d : Device
   pub device : slice_get l.devices i ≡ Some d
@@ -70,28 +79,44 @@ pub record IsBound (name : List ℕ) (k l : Kernel) (b : Bound) : Type 0 where
   pub fresh : slice_get k.held b.held.0 ≡ None
   pub named : d.name ≡ name
   pub own : b.attrs ≡ attrs_of d
-  pub parents : IsParentRead l d.parent b.parent
+  pub parents : Parents l d.parent b.parent
   pub value : d.on ≡ b.on
   pub lived : LivedUntilProbe name k l b.held.0 i b.on
   pub only : (j : ℕ) (e : Device) → Lived k.devices l.devices j e → e.name ≡ name → j ≡ i
 
 -- what an answer says of the kernel from the binding's start to its end
-abbrev pub BindSays : List ℕ → Kernel → Kernel → Binding → Type 0
-BindSays name k l (bound.Bound b) = IsBound name k l b
-BindSays name k l bound.Absent = NoneLived name k l
-BindSays name k l bound.Vanished = NoneLived name k l
-BindSays name k l (bound.Failed failed) = Unit {0}
-BindSays name k l bound.Memory = Unit {0}
+abbrev pub SaysBy : (Kernel → Option ℕ → Option Attrs → Type 0) → List ℕ → Kernel → Kernel → Binding
+    → Type 0
+SaysBy Parents name k l (bound.Bound b) = IsBoundBy Parents name k l b
+SaysBy Parents name k l bound.Absent = NoneLived name k l
+SaysBy Parents name k l bound.Vanished = NoneLived name k l
+SaysBy Parents name k l (bound.Failed failed) = Unit {0}
+SaysBy Parents name k l bound.Memory = Unit {0}
 
 -- a binding writes nothing, and its answer says that
-pub record IsBinding (name : List ℕ) (k l : Kernel) (answer : Binding) : Type 0 where
+pub record IsBindingBy (Parents : Kernel → Option ℕ → Option Attrs → Type 0) (name : List ℕ)
+    (k l : Kernel)
+    (answer : Binding) : Type 0 where
   pub sound : IsKernel l
   pub quiet : Quiet k l
-  pub says : BindSays name k l answer
+  pub says : SaysBy Parents name k l answer
 
--- where a kernel is told at the end, one was told at the start, and where that was sound this was a binding
+-- where the parent's files were read
+abbrev pub IsBound : List ℕ → Kernel → Kernel → Bound → Type 0
+IsBound name k l b = IsBoundBy IsParentRead name k l b
+
+abbrev pub BindSays : List ℕ → Kernel → Kernel → Binding → Type 0
+BindSays name k l answer = SaysBy IsParentRead name k l answer
+
+abbrev pub IsBinding : List ℕ → Kernel → Kernel → Binding → Type 0
+IsBinding name k l answer = IsBindingBy IsParentRead name k l answer
+
+-- where a kernel is told at the end, one was told at the start, and where that was sound this was a
+-- binding
 abbrev pub Binds : {S : Type 0} → (S → Option Kernel) → S → List ℕ → Binding → S → Type 0
-Binds told s name answer t = (l : Kernel) → told t ≡ Some l → (k : Kernel) × (told s ≡ Some k) × (IsKernel k → IsBinding name k l answer)
+Binds told s name answer t =
+    (l : Kernel) → told t ≡ Some l
+    → (k : Kernel) × (told s ≡ Some k) × (IsKernel k → IsBinding name k l answer)
 
 -- the numbers of a fault: those of the last call and of all faults, and it is a new one
 pub record IsFault (faults calls_after faults_after : ℕ) (failed : FailedCall) : Type 0 where
@@ -101,5 +126,6 @@ pub record IsFault (faults calls_after faults_after : ℕ) (failed : FailedCall)
 
 -- a failed answer has the numbers of a fault
 abbrev pub TellsFault : ℕ → ℕ → ℕ → Binding → Type 0
-TellsFault faults calls_after faults_after (bound.Failed failed) = IsFault faults calls_after faults_after failed
+TellsFault faults calls_after faults_after (bound.Failed failed) =
+    IsFault faults calls_after faults_after failed
 TellsFault faults calls_after faults_after answer = Unit {0}

@@ -124,15 +124,19 @@ parent_acts (Some parent) =
     ∷ To_read parent attr.Serial
     ∷ []
 
--- before its probe
-abbrev pub bind_acts : List ℕ → List Act
-bind_acts name =
+-- a device's own files, before what is read else
+abbrev pub own_acts : List ℕ → List Act → List Act
+own_acts name rest =
     To_open name Authorized
     ∷ To_read name attr.Descriptors
     ∷ To_read name attr.Product
     ∷ To_read name attr.Serial
     ∷ To_read name attr.Connect
-    ∷ parent_acts (parent_of name)
+    ∷ rest
+
+-- before its probe
+abbrev pub bind_acts : List ℕ → List Act
+bind_acts name = own_acts name (parent_acts (parent_of name))
 
 -- it is bound with the value that was found, and nothing is called behind that
 abbrev pub IsBoundOn : Binding → Bool → List Made → Type 0
@@ -142,10 +146,42 @@ IsBoundOn bound.Vanished on calls = ⊥
 IsBoundOn (bound.Failed failed) on calls = ⊥
 IsBoundOn bound.Memory on calls = ⊥
 
--- The calls of a binding: the acts before its probe, in their order, and the probe; where that finds
--- the device alive, it is bound.
+-- The calls of a binding: the acts before its probe, in their order, and the probe; where that
+-- finds the device alive, it is bound.
 pub record BindsInOrder {S : Type 0} (gives : S → (call : Call) → Answer call → S → Type 0) (s : S)
     (name : List ℕ) (r : Binding) (t : S) : Type 0 where
   pub made : List Made
   pub along : Along gives s made t
   pub order : GoBy (bind_acts name) (GoByProbe (IsBoundOn r) OnlyCloses) made
+
+-- where the parent is held
+
+-- The parent's files are read just where its held file isn't found alive; then comes the last
+-- probe.
+abbrev pub BehindAsked : List ℕ → Binding → Probe → List Made → Type 0
+BehindAsked name r (probe.Alive on) calls = GoByProbe (IsBoundOn r) OnlyCloses calls
+BehindAsked name r probe.Gone calls =
+    GoBy (parent_acts (parent_of name)) (GoByProbe (IsBoundOn r) OnlyCloses) calls
+BehindAsked name r probe.Failed calls =
+    GoBy (parent_acts (parent_of name)) (GoByProbe (IsBoundOn r) OnlyCloses) calls
+
+-- the first call is the probe of that file
+abbrev pub ByAsked : List ℕ → ℕ → Binding → (call : Call) → Answer call → List Made → Type 0
+ByAsked name kept r (Ask_alive held) answer calls =
+    (held ≡ kept) × BehindAsked name r answer.answer calls
+ByAsked name kept r Names answer calls = ⊥
+ByAsked name kept r (Open of control) answer calls = ⊥
+ByAsked name kept r (Read of attr) answer calls = ⊥
+ByAsked name kept r (Put held what) answer calls = ⊥
+ByAsked name kept r (Close held) answer calls = ⊥
+
+abbrev pub GoByAsked : List ℕ → ℕ → Binding → List Made → Type 0
+GoByAsked name kept r [] = ⊥
+GoByAsked name kept r (m ∷ calls) = ByAsked name kept r m.call m.answer calls
+
+pub record BindsUnderInOrder {S : Type 0} (gives : S → (call : Call) → Answer call → S → Type 0)
+    (s : S)
+    (name : List ℕ) (kept : ℕ) (r : Binding) (t : S) : Type 0 where
+  pub made : List Made
+  pub along : Along gives s made t
+  pub order : GoBy (own_acts name []) (GoByAsked name kept r) made

@@ -39,7 +39,14 @@ unfoldable pub reading : List ℕ → Attr → ℕ → Prog (Result File Stop)
 reading name attr held = Ask (Read name attr) (λ t. after_read attr held t.answer (failure_of t))
 
 abbrev pub own_of : File → File → File → File → Attrs
-own_of d p s c = record { descriptors = d.bytes; product = p.bytes; serial = s.bytes; connect = c.bytes; too_long = d.too_long || p.too_long || s.too_long || c.too_long }
+own_of d p s c =
+    record {
+      descriptors = d.bytes;
+      product = p.bytes;
+      serial = s.bytes;
+      connect = c.bytes;
+      too_long = d.too_long || p.too_long || s.too_long || c.too_long;
+    }
 
 abbrev pub after_connect : File → File → File → Result File Stop → Prog (Result Attrs Stop)
 after_connect d p s (Ok c) = Return (Ok (own_of d p s c))
@@ -54,7 +61,8 @@ after_product name held d (Ok p) = then (reading name attr.Serial held) (after_s
 after_product name held d (Err why) = Return (Err why)
 
 abbrev pub after_descriptors : List ℕ → ℕ → Result File Stop → Prog (Result Attrs Stop)
-after_descriptors name held (Ok d) = then (reading name attr.Product held) (after_product name held d)
+after_descriptors name held (Ok d) =
+    then (reading name attr.Product held) (after_product name held d)
 after_descriptors name held (Err why) = Return (Err why)
 
 -- descriptors, product, serial, connect
@@ -62,20 +70,30 @@ unfoldable pub reading_own : List ℕ → ℕ → Prog (Result Attrs Stop)
 reading_own name held = then (reading name attr.Descriptors held) (after_descriptors name held)
 
 abbrev pub parent_of_files : File → File → File → Attrs
-parent_of_files d p s = record { descriptors = d.bytes; product = p.bytes; serial = s.bytes; connect = []; too_long = d.too_long || p.too_long || s.too_long }
+parent_of_files d p s =
+    record {
+      descriptors = d.bytes;
+      product = p.bytes;
+      serial = s.bytes;
+      connect = [];
+      too_long = d.too_long || p.too_long || s.too_long;
+    }
 
 abbrev pub after_parent_serial : File → File → Result File Stop → Prog (Result Attrs Stop)
 after_parent_serial d p (Ok s) = Return (Ok (parent_of_files d p s))
 after_parent_serial d p (Err why) = Return (Err why)
 
 abbrev pub after_parent_product : List ℕ → ℕ → File → Result File Stop → Prog (Result Attrs Stop)
-after_parent_product name held d (Ok p) = then (reading name attr.Serial held) (after_parent_serial d p)
+after_parent_product name held d (Ok p) =
+    then (reading name attr.Serial held) (after_parent_serial d p)
 after_parent_product name held d (Err why) = Return (Err why)
 
 abbrev pub after_parent_descriptors : List ℕ → ℕ → Result File Stop → Prog (Result Attrs Stop)
-after_parent_descriptors name held (Ok d) = then (reading name attr.Product held) (after_parent_product name held d)
+after_parent_descriptors name held (Ok d) =
+    then (reading name attr.Product held) (after_parent_product name held d)
 after_parent_descriptors name held (Err why) = Return (Err why)
 
 -- the parent's descriptors, product and serial
 unfoldable pub reading_parent : List ℕ → ℕ → Prog (Result Attrs Stop)
-reading_parent name held = then (reading name attr.Descriptors held) (after_parent_descriptors name held)
+reading_parent name held =
+    then (reading name attr.Descriptors held) (after_parent_descriptors name held)

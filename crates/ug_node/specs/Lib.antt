@@ -3,3 +3,4 @@ pub mod Bind
 pub mod Bound
 pub mod CallOrder
 pub mod Removal
+pub mod Under

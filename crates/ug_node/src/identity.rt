@@ -2,7 +2,7 @@
 ghost use Rattle.std.specs.Prelude.{◌≡◌};
 ghost use Rattle.ug_types.specs.Names.{parent_of};
 ghost use Rattle.ug_kernel.specs.Tree.{Runs};
-ghost use Rattle.ug_node.specs.Bind.{binding};
+ghost use Rattle.ug_node.specs.Bind.{binding, probing};
 ghost use Rattle.ug_node.specs.Bound.{Binds, TellsFault};
 ghost use Rattle.ug_node.specs.CallOrder.{BindsInOrder};
 
@@ -54,7 +54,8 @@ pub fn bind<Y: Sysfs>(alloc: Global, sysfs: &mut Y, name: &NodeName) -> Binding
     ensures runs { Runs Y.gives sysfs.old (binding name.now (parent_of name.now)) result sysfs.new }
     ensures law { Binds Y.told sysfs.old name.now result sysfs.new }
     ensures order { BindsInOrder Y.gives sysfs.old name.now result sysfs.new }
-    ensures fault { TellsFault (Y.faults sysfs.old) (Y.calls sysfs.new) (Y.faults sysfs.new) result }
+    ensures fault { TellsFault (Y.faults sysfs.old) (Y.calls sysfs.new)
+        (Y.faults sysfs.new) result }
 {
     bind_below(alloc, sysfs, name, name.parent())
 }
@@ -85,11 +86,23 @@ fn bind_below<Y: Sysfs>(
             Err(stop) => return stop.into(),
         },
     };
+    end_binding(sysfs, held, attrs, parent_attrs)
+}
+
+// Probes the held file, behind all that is read.
+pub(crate) fn end_binding<Y: Sysfs>(
+    sysfs: &mut Y,
+    held: Held,
+    attrs: Attrs,
+    parent: Option<Attrs>,
+) -> Binding
+    ensures { Runs Y.gives sysfs.old (probing held.0 attrs parent) result sysfs.new }
+{
     match sysfs.probe(held) {
         Probe::Alive(on) => Binding::Bound(Bound {
             held,
             attrs,
-            parent: parent_attrs,
+            parent,
             on,
         }),
         Probe::Gone => {

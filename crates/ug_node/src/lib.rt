@@ -6,9 +6,11 @@ mod files;
 mod held;
 mod identity;
 mod removal;
+mod under;
 
 pub use failed::failed_call;
 pub use files::{File, Stop};
 pub use held::{put, reprobe};
 pub use identity::{Binding, Bound, bind};
 pub use removal::{RemoveHold, hold_default, hold_remove};
+pub use under::bind_under;
