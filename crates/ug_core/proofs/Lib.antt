@@ -22,6 +22,7 @@ pub mod OneMore
 pub mod Chained
 pub mod Numbering
 pub mod Readable
+pub mod Listing
 pub mod Started
 pub mod RowOrder
 pub mod RowWalk

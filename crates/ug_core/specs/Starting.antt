@@ -1,11 +1,13 @@
 -- The rules that a daemon starts with.
-use Rattle.std.specs.Prelude.{◌≡◌, ℕ, ◌+◌, ◌<◌, ◌≤◌, Bool, false, List, [], ◌∷◌, length, Option, Result, Ok, Err}
+use Rattle.std.specs.Prelude.{◌≡◌, ℕ, ◌+◌, ◌<◌, ◌≤◌, Bool, false, if◌then◌else◌, nat_lt, List, [], ◌∷◌, ◌++◌, length, Option, Some, None, Result, Ok, Err}
 use Rattle.rand_core.specs.Stream.{Stream}
 use Rattle.ug_types.specs.declared.control.Write.{Write}
 use Rattle.ug_types.specs.declared.rule.Rule.{Rule}
 use Rattle.ug_types.specs.declared.text_fault.FileFault.{FileFault}
 use Rattle.ug_types.specs.declared.text_fault.FileFault.TheVariants as file
+use Rattle.ug_types.specs.declared.text_fault.TextFault.{TextFault}
 use Rattle.ug_rule.specs.Files.{file_read}
+use Rattle.ug_rule.specs.TextLines.{rule_on_line}
 use Rattle.ug_print.specs.declared.rule_texts.RulesTextFault.{RulesTextFault}
 use Rattle.ug_print.specs.declared.rule_texts.RulesTextFault.TheVariants as printed
 use Rattle.ug_print.specs.RuleTexts.{rules_text_of}
@@ -51,6 +53,23 @@ pub record HoldsJust (rules : List Rule) (list : Rules) : Type 0 where
   pub next : list.next ≡ length rules + 1
   pub history : StandsFor list.entries list.next []
 
+-- ---- rules that are read right into a list, which takes 65,536: None where there are more
+
+abbrev pub one_listed : Rule → Option (List Rule) → Option (List Rule)
+one_listed rule (Some rules) = if nat_lt (length rules) 65536 then Some (rules ++ rule ∷ []) else None
+one_listed rule None = None
+
+abbrev pub listed : Option (List Rule) → Result (Option Rule) TextFault → Result (Option (List Rule)) TextFault
+listed rules (Ok (Some rule)) = Ok (one_listed rule rules)
+listed rules (Ok None) = Ok rules
+listed rules (Err bad) = Err bad
+
+-- the rules so far with that of the line of a number, if it has one
+abbrev pub listing_line : ℕ → Option (List Rule) → List ℕ → Result (Option (List Rule)) TextFault
+listing_line number rules line = listed rules (rule_on_line number line)
+
+-- ---- what a text gives
+
 -- the text's rules are no more than a list takes, their canonical text fits into a rule file, and the list holds just them
 pub record HasRulesOf (text : List ℕ) (list : Rules) : Type 0 where
   pub rules : List Rule
@@ -58,6 +77,22 @@ pub record HasRulesOf (text : List ℕ) (list : Rules) : Type 0 where
   pub few : length rules ≤ 65536
   pub fits : length (rules_text_of rules) ≤ file_limit
   pub holds : HoldsJust rules list
+
+-- the text's rules are no more than a list takes, and the list holds just them
+pub record ListsText (text : List ℕ) (list : Rules) : Type 0 where
+  pub rules : List Rule
+  pub reads : file_read text ≡ Ok rules
+  pub few : length rules ≤ 65536
+  pub holds : HoldsJust rules list
+
+-- or they are more, or a line is bad
+abbrev pub IsListOf : List ℕ → Result Rules StartFault → Type 0
+IsListOf text (Ok list) = ListsText text list
+IsListOf text (Err (fault.BadRules bad)) = file_read text ≡ Err bad
+IsListOf text (Err fault.TooMany) = (rules : List Rule) × (file_read text ≡ Ok rules) × (65536 < length rules)
+IsListOf text (Err fault.TooLong) = ⊥
+IsListOf text (Err fault.Memory) = Unit {0}
+IsListOf text (Err (fault.Disk count)) = ⊥
 
 -- the text's rules are no more than a list takes, but their canonical text doesn't fit into a rule file
 pub record IsTooLong (text : List ℕ) : Type 0 where

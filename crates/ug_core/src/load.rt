@@ -19,6 +19,6 @@ pub fn load_rules<D: RuleDisk>(alloc: Global, disk: &mut D) -> Result<(Store, Ru
     ensures unsaved { IfOk result (λ r. r.0 ≡ false) }
 {
     let (store, text) = Store::recover(alloc, disk)?;
-    let rules = rules_of_text(alloc, text.as_slice())?;
+    let rules = rules_of_text(alloc, text)?;
     Ok((store, rules))
 }

@@ -3,7 +3,7 @@ ghost use Rattle.std.specs.Prelude.{◌≡◌, ◌<◌, ◌≤◌, ◌++◌, All
 ghost use Rattle.ug_print.specs.Bytes.{RuleOfBytes};
 ghost use Rattle.ug_print.specs.RuleTexts.{rules_limit, rules_text_of};
 ghost use Rattle.ug_rules.specs.RuleEdits.{at_end, in_front, in_place, rules_after};
-ghost use Rattle.ug_rules.specs.RuleFile.{saved_rule};
+ghost use Rattle.ug_rules.specs.RuleFile.{permanent_rules, permanent_text, saved_rule};
 
 use crate::edit::Edit;
 use std::alloc::Global;
@@ -144,4 +144,16 @@ pub fn file_text(
     }
     put_at_end(alloc, &mut text, edit)?;
     Ok(text.into_text())
+}
+
+/// The text of a rule file with the rules of a list that aren't temporary.
+#[tactic(auto, using(crate::proofs::Edited::unedited_rules))]
+pub fn list_text(alloc: Global, list: &RuleList) -> Result<Text, RulesTextFault>
+    ensures text { IfOk result (λ text. text ≡ permanent_text list.now.entries) }
+    ensures bytes { OnOk result (All RuleOfBytes (permanent_rules list.now.entries)) }
+    ensures fits { IfOk result (λ text. length text ≤ rules_limit) }
+    ensures too_long { result ≡ Err RulesTextFault.TooLong
+        → rules_limit < length (permanent_text list.now.entries) }
+{
+    file_text(alloc, list, None)
 }

@@ -9,6 +9,7 @@ mod rows;
 mod rule_list;
 
 pub use edit::Edit;
+pub use file_text::list_text;
 pub use kept_rules::KeptRules;
 pub use laws::made_rule_law;
 pub use rows::print_row;
