@@ -24,6 +24,8 @@ impl Machine<u64> for Echo {
 
     ghost keeps = { λ m w. Unit {0} };
 
+    ghost because = { λ p line fault. Unit {0} };
+
     fn step<K: Sink>(&mut self, _alloc: Global, world: &mut u64, line: &[u8], out: &mut K) -> Ran {
         if line.len() == 3 {
             return Ran::Bad;

@@ -3,4 +3,5 @@ pub mod Feeding
 pub mod Faults
 pub mod Ending
 pub mod Outputs
+pub mod Refusing
 pub mod WholeInputs

@@ -4,6 +4,7 @@ use Rattle.std.proofs.lemmas.List.{append-nil}
 use Rattle.std.specs.Io.KnownBytes.{Appends, Consumes, IsAtEnd}
 use Rattle.ug_lines.specs.Lines.{lines_of}
 use Rattle.ug_console.specs.Fold.{Fault, BadLine, InputTooLong, Outcome, Going, plays, machine_of, whole_text, fault_of}
+use Rattle.ug_console.specs.Refusals.{fault_told}
 use Rattle.ug_console.specs.Runs.{Front, Rejected, Cut, Tells, Replays}
 use Rattle.ug_console.specs.Statuses.{status_of, FirstLines, IsCut, OfWhole, OfReadFault, OfLines, OfNoMemory, Answers}
 use Rattle.ug_console.specs.declared.results.Ended.{Ended}
@@ -14,7 +15,7 @@ pub record Left (all : List ℕ) (left : Option (List ℕ)) (taken : List ℕ) :
   pub is : left ≡ Some more
   pub split : all ≡ taken ++ more
 
-left-known : (left0 left : Option (List ℕ)) (all taken : List ℕ) → left0 ≡ Some all → Consumes left0 left taken → Left all left taken
+pub left-known : (left0 left : Option (List ℕ)) (all taken : List ℕ) → left0 ≡ Some all → Consumes left0 left taken → Left all left taken
 left-known None left all taken e h = absurd (cc)
 left-known (Some xs) None all taken e h = absurd h
 left-known (Some xs) (Some ys) all taken e h = record { more = ys; is = refl; split = let q : all ≡ xs = cc in q ∙ h }
@@ -127,3 +128,11 @@ written-only TooLong z = absurd (omega (arith, z))
 written-only ReadFault z = absurd (omega (arith, z))
 written-only WriteFault z = refl
 written-only Memory z = absurd (omega (arith, z))
+
+pub refused-only : (e : Ended) → status_of e ≡ 2 → (fault : Fault) × (fault_told e ≡ Some fault)
+refused-only Done z = absurd (omega (arith, z))
+refused-only Bad z = (BadLine, refl)
+refused-only TooLong z = (InputTooLong, refl)
+refused-only ReadFault z = absurd (omega (arith, z))
+refused-only WriteFault z = absurd (omega (arith, z))
+refused-only Memory z = absurd (omega (arith, z))

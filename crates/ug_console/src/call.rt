@@ -1,9 +1,11 @@
 // The call that reads a text and writes what its lines write.
 ghost use Rattle.std.specs.Prelude.{◌≡◌, ◌≢◌, ◌≤◌, ◌+◌, ◌*◌, ◌++◌, ℕ, List, Some, [], ◌∷◌, length, vec_len};
 ghost use Rattle.ug_types.specs.Ends.{Rose};
-ghost use Rattle.ug_console.specs.Fold.{bad_line};
+ghost use Rattle.ug_console.specs.Fold.{Fault, Going, bad_line};
+ghost use Rattle.ug_console.specs.Refusals.{RefusesLines, fault_told};
 ghost use Rattle.ug_console.specs.Runs.{words_of, ended_of, Says, Finishes, Replays};
 ghost use Rattle.ug_console.specs.Statuses.{status_of, Answers};
+ghost use Rattle.ug_lines.specs.Lines.{last_line, lines_of};
 
 use crate::feed::Splitter;
 use crate::machine::{Machine, Ran};
@@ -53,6 +55,10 @@ fn finish<K: Sink, W, M: Machine<W>>(
     ensures told { Finishes M.step_of M.closing splitter.old.line.items splitter.old.lines
         (M.state machine.old, world.old) (K.held out.old) (K.held out.new)
         (M.state machine.new, world.new) result }
+    ensures why { (text : List ℕ) (fault : Fault) → fault_told result ≡ Some fault
+        → RefusesLines M.step_of M.closing M.because
+        (Going splitter.old.lines text (M.state machine.old, world.old))
+        (last_line splitter.old.line.items) fault }
     ensures not_read { result ≢ Ended.ReadFault }
     ensures counted { K.faults out.old ≤ K.faults out.new }
     ensures cause { result ≡ Ended.WriteFault → Rose (K.faults out.old) (K.faults out.new) }
@@ -80,6 +86,10 @@ pub fn replay<S: Source, K: Sink, W, M: Machine<W>>(
     ensures told { Replays M.step_of M.closing (M.state machine.old, world.old) (S.left input.old)
         (S.left input.new) (K.held out.old) (K.held out.new)
         (M.state machine.new, world.new) result }
+    ensures why { (all : List ℕ) → S.left input.old ≡ Some all
+        → (fault : Fault) → fault_told result ≡ Some fault
+        → RefusesLines M.step_of M.closing M.because
+        (Going 0 [] (M.state machine.old, world.old)) (lines_of all) fault }
     ensures read { result ≡ Ended.ReadFault → Rose (S.faults input.old) (S.faults input.new) }
     ensures written { result ≡ Ended.WriteFault → Rose (K.faults out.old) (K.faults out.new) }
 {
@@ -111,6 +121,9 @@ pub fn run<S: Source, K: Sink, W, M: Machine<W>>(
         → K.held out.old ≡ Some base
         → Answers M.step_of M.closing (M.state machine.old, world.old) all base (S.left input.new)
         (K.held out.new) (M.state machine.new, world.new) result }
+    ensures refused { (all : List ℕ) → S.left input.old ≡ Some all → result ≡ 2
+        → (fault : Fault) × RefusesLines M.step_of M.closing M.because
+        (Going 0 [] (M.state machine.old, world.old)) (lines_of all) fault }
     ensures read { result ≡ 4 → Rose (S.faults input.old) (S.faults input.new) }
     ensures written { result ≡ 5 → Rose (K.faults out.old) (K.faults out.new) }
     ensures others { (ended : Ended) × (result ≡ status_of ended) }

@@ -1,9 +1,12 @@
 // The lines of a text, as its bytes come.
-ghost use Rattle.std.specs.Prelude.{◌≡◌, ◌≢◌, ◌<◌, ◌≤◌, ◌+◌, ◌-◌, ◌*◌, ℕ, List, [], ◌∷◌, length, take, vec_len};
+ghost use Rattle.std.specs.Prelude.{◌≡◌, ◌≢◌, ◌<◌, ◌≤◌, ◌+◌, ◌-◌, ◌*◌, ℕ, List, [], ◌∷◌, ◌++◌, Some, length, take, vec_len};
 ghost use Rattle.ug_types.specs.Ends.{Rose};
 ghost use Rattle.ug_lines.specs.Splitting.{IsLine};
 ghost use Rattle.ug_console.specs.Fold as fold;
+ghost use Rattle.ug_console.specs.Fold.{Fault, Going};
+ghost use Rattle.ug_console.specs.Refusals.{RefusesLine, fault_in};
 ghost use Rattle.ug_console.specs.Runs.{Extends, Feeds, Lasts};
+ghost use Rattle.ug_lines.specs.Lines.{last_line, lines_from};
 
 use crate::machine::{Machine, Ran};
 use std::alloc::Global;
@@ -94,6 +97,10 @@ impl Splitter {
             (M.state machine.old, world.old) (K.held out.old) (10 ∷ [])
             result self.new.line.items self.new.lines (M.state machine.new, world.new)
             (K.held out.new) }
+        ensures why { (fault : Fault) → fault_in result ≡ Some fault → (text more : List ℕ)
+            → RefusesLine M.step_of M.because
+            (Going self.old.lines text (M.state machine.old, world.old))
+            (lines_from self.old.line.items ((10 ∷ []) ++ more)) fault }
         ensures kept { result ≡ Ran.Done → M.keeps (M.state machine.new) world.new }
         ensures further { result ≡ Ran.Done → self.new.lines ≡ self.old.lines + 1 }
         ensures counted { K.faults out.old ≤ K.faults out.new }
@@ -128,6 +135,10 @@ impl Splitter {
             (M.state machine.old, world.old) (K.held out.old) part.now
             result self.new.line.items self.new.lines (M.state machine.new, world.new)
             (K.held out.new) }
+        ensures why { (fault : Fault) → fault_in result ≡ Some fault → (text more : List ℕ)
+            → RefusesLine M.step_of M.because
+            (Going self.old.lines text (M.state machine.old, world.old))
+            (lines_from self.old.line.items (part.now ++ more)) fault }
         ensures kept { result ≡ Ran.Done → M.keeps (M.state machine.new) world.new }
         ensures further { result ≡ Ran.Done
             → self.old.lines * 1048578 + vec_len self.old.line + length part.now ≤ self.new.lines *
@@ -159,6 +170,10 @@ impl Splitter {
             (M.state machine.old, world.old) (K.held out.old) piece.now
             result self.new.line.items self.new.lines (M.state machine.new, world.new)
             (K.held out.new) }
+        ensures why { (fault : Fault) → fault_in result ≡ Some fault → (text more : List ℕ)
+            → RefusesLine M.step_of M.because
+            (Going self.old.lines text (M.state machine.old, world.old))
+            (lines_from self.old.line.items (piece.now ++ more)) fault }
         ensures kept { result ≡ Ran.Done → M.keeps (M.state machine.new) world.new }
         ensures further { result ≡ Ran.Done
             → self.old.lines * 1048578 + vec_len self.old.line + length piece.now ≤ self.new.lines *
@@ -191,6 +206,10 @@ impl Splitter {
         ensures told { Lasts M.step_of self.old.line.items self.old.lines
             (M.state machine.old, world.old) (K.held out.old)
             result self.new.lines (M.state machine.new, world.new) (K.held out.new) }
+        ensures why { (fault : Fault) → fault_in result ≡ Some fault → (text : List ℕ)
+            → RefusesLine M.step_of M.because
+            (Going self.old.lines text (M.state machine.old, world.old))
+            (last_line self.old.line.items) fault }
         ensures counted { K.faults out.old ≤ K.faults out.new }
         ensures cause { result ≡ Ran.SinkFailed → Rose (K.faults out.old) (K.faults out.new) }
     {

@@ -1,7 +1,8 @@
 // A machine that takes lines, and writes text.
-ghost use Rattle.std.specs.Prelude.{◌≡◌, ◌≤◌, ℕ, List, Option};
+ghost use Rattle.std.specs.Prelude.{◌≡◌, ◌≤◌, ℕ, List, Option, Some};
 ghost use Rattle.ug_types.specs.Ends.{Rose};
-ghost use Rattle.ug_console.specs.Fold.{Outcome};
+ghost use Rattle.ug_console.specs.Fold.{Fault, Outcome};
+ghost use Rattle.ug_console.specs.Refusals.{fault_in};
 ghost use Rattle.ug_console.specs.Runs.{Steps, Closes};
 
 use std::alloc::Global;
@@ -37,12 +38,17 @@ pub trait Machine<W> {
     /// What joins a machine and its world before each line.
     ghost keeps: { State → W → Type 0 };
 
+    /// What speaks against a line that is refused, whatever it comes to by `step_of`.
+    ghost because: { State × W → List ℕ → Fault → Type 0 };
+
     /// Takes a line, and writes its text.
     fn step<K: Sink>(&mut self, alloc: Global, world: &mut W, line: &[u8], out: &mut K) -> Ran
         requires { keeps (state self.old) world.old }
         ensures ran { Steps (step_of (state self.old, world.old) line.now)
             (state self.new, world.new) (K.held out.old) (K.held out.new) result }
         ensures kept { result ≡ Ran.Done → keeps (state self.new) world.new }
+        ensures why { (fault : Fault) → fault_in result ≡ Some fault
+            → because (state self.old, world.old) line.now fault }
         ensures counted { K.faults out.old ≤ K.faults out.new }
         ensures cause { result ≡ Ran.SinkFailed → Rose (K.faults out.old) (K.faults out.new) };
 

@@ -32,3 +32,4 @@ pub mod LineReads
 pub mod Turns
 pub mod Schedules
 pub mod MoveLines
+pub mod Against

@@ -19,7 +19,9 @@ use Rattle.ug_core.specs.Event.{DaemonState, handling, ready}
 use Rattle.ug_core.specs.Storing.{stored_with, storing}
 use Rattle.ug_core.specs.declared.daemon.Event.{Event}
 use Rattle.ug_core.specs.declared.daemon.Event.TheVariants.{Sweep, Order}
-use Rattle.ug_script.specs.Replay.{answered_by, answered_from, event_from, halted, tried_by}
+use Rattle.ug_script.specs.Laws.{AtEachCall, BehindEach, EachInOrder}
+use Rattle.ug_script.specs.Replay.{answered_by, answered_from, disk_of, event_from, halted, tried_by}
+use Rattle.ug_script.specs.Script.{Script, daemon_in}
 use Rattle.ug_script.proofs.Halts.{halted_kernel, halted_told}
 use Rattle.ug_script.proofs.Lawful.{HoldsOf, start_of, told_at}
 
@@ -62,3 +64,30 @@ event_on_entries event d w o h g =
     let start : IsGood (start_of d w o) = halted_good (tried_by d o).1 (begun w) (h.told, h.sound, g) in
     let good : IsGood p.world = play_good (handling a.daemon) (halted a.disk a.world) (halted_good a.disk a.world (answered_good event (ready event (tried_by d o).0 d) (start_of d w o) (tried_by d o).1 start)) in
     moves_on_entries p.world.kernel (over p.world).kernel (happened_moves p.world.moves p.world.kernel) good.2
+
+-- ---- behind each call
+
+each_good : {R : Type 0} (p : Prog R) (w : World) → IsGood w → BehindEach HasOnEntries p w
+each_good (Return value) w g = g.2
+each_good (Ask call next) w g =
+    let c = called_at w call g.0 g.1 in
+    (g.2, each_good (next (answer_of w call).0) (answer_of w call).1 (told_unless w call g.0, c.sound, called_on_entries call (answer_of w call).0 w.kernel (answer_of w call).1.kernel c g.2))
+each_good (Room next) w g = each_good (next true) w g
+
+order_good : (event : Event) (d : DaemonState) (w : World) (o : DiskWorld) → IsGood w → EachInOrder HasOnEntries event d w o
+order_good (Sweep moment) d w o g = g.2
+order_good (Order moment who line) d w o g =
+    let c = play (asking d who line) w in
+    let b = play_disk (storing d c.0.change) o in
+    (each_good (asking d who line) w g, each_good (acting who (stored_with b.0 c.0.change d) (deed_after b.0 c.0.deed)) c.1 (play_good (asking d who line) w g))
+
+pub each_on_entries : (event : Event) (s : Script) (w : World) → HoldsOf (daemon_in s) w → HasOnEntries w.kernel → AtEachCall HasOnEntries event s w
+each_on_entries event s w h g =
+    let d : DaemonState = daemon_in s in
+    let o : DiskWorld = disk_of s in
+    let a = answered_from event d w o in
+    let start : IsGood (start_of d w o) = halted_good (tried_by d o).1 (begun w) (h.told, h.sound, g) in (
+      order_good event (ready event (tried_by d o).0 d) (start_of d w o) (tried_by d o).1 start,
+      each_good (handling a.daemon) (halted a.disk a.world) (halted_good a.disk a.world (answered_good event (ready event (tried_by d o).0 d) (start_of d w o) (tried_by d o).1 start)),
+      event_on_entries event d w o h g,
+    )

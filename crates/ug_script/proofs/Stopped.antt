@@ -32,7 +32,9 @@ use Rattle.ug_core.specs.declared.storing.Stored.TheVariants as stored
 use Rattle.ug_script.specs.Laws.{IsLawfulEvent}
 use Rattle.ug_script.specs.Replay.{answered_by, answered_from, disk_of, event_from, halted, tried_by}
 use Rattle.ug_script.specs.Script.{Script, daemon_in, disk_in}
+use Rattle.ug_script.proofs.FirstStop.{event_runs_on, event_stops}
 use Rattle.ug_script.proofs.Halts.{halted_kernel}
+use Rattle.ug_script.proofs.OnEntries.{each_on_entries}
 use Rattle.ug_script.proofs.Lawful.{HoldsOf, answers, event_sure, handled, names_once, start_of, tells_event}
 
 -- ---- a kernel that is halted
@@ -200,4 +202,7 @@ lawful_event event s w h out = record {
   once = names_once event (daemon_in s) w (disk_of s) h;
   room = event_sure event (daemon_in s) w (disk_of s) out;
   unwritten = λ e. event_unwritten event (daemon_in s) w (disk_of s) h e;
+  stop = λ e. event_stops s.planned event (daemon_in s) w (disk_in s) out e;
+  running = λ e. event_runs_on s.planned event (daemon_in s) w (disk_in s) out e;
+  on_entries = λ g. each_on_entries event s w h g;
 }

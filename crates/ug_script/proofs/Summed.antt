@@ -13,12 +13,12 @@ use Rattle.ug_script.proofs.Counted.{totals_behind}
 use Rattle.ug_script.proofs.WholeLines.{IsWhole, WritesWhole, both_whole, none_whole, step_whole}
 
 -- the numbers stand in the place of the journal
-abbrev summed : Stage (Option Script × World) → Stage (Summary × World)
+abbrev pub summed : Stage (Option Script × World) → Stage (Summary × World)
 summed (Going n text p) = Going n [] ((p.0, totals_of text), p.1)
 summed (Halted fault n text p) = Halted fault n [] ((p.0, totals_of text), p.1)
 
 -- wherever the lines of a script lead, they are those of the journal that a replay would have written
-abbrev SumsUp : World → Type 0
+abbrev pub SumsUp : World → Type 0
 SumsUp first = (lines : List (List ℕ))
     → plays summary_step (Going 0 [] ((None, no_totals), first)) lines ≡ summed (plays script_step (Going 0 [] (None, first)) lines)
 
@@ -50,7 +50,7 @@ all_sum stage (line ∷ lines) whole =
 no_lines : totals_of [] ≡ no_totals
 no_lines = ap (λ (lines : List (List ℕ)). with_lines lines no_totals) (nothing [] refl)
 
-sums_up : (first : World) → SumsUp first
+pub sums_up : (first : World) → SumsUp first
 sums_up first lines =
     ap (λ (t : Totals). plays summary_step (Going 0 [] ((None, t), first)) lines) (sym no_lines)
     ∙ all_sum (Going 0 [] (None, first)) lines none_whole

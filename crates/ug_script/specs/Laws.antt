@@ -1,20 +1,30 @@
 -- What holds wherever a script has come to.
-use Rattle.std.specs.Prelude.{◌≡◌, ℕ, true, false, List, [], Option, Some, None}
+use Rattle.std.specs.Prelude.{◌≡◌, ◌<◌, ◌≤◌, ℕ, true, false, List, [], Option, Some, None}
 use Rattle.ug_types.specs.Elements.{AllDistinct}
 use Rattle.ug_kernel.specs.Defaults.{HasOnEntries}
-use Rattle.ug_kernel.specs.Kernel.{IsKernel}
-use Rattle.ug_sysfs.specs.World.{World, Gives, begun}
+use Rattle.ug_kernel.specs.Kernel.{IsKernel, Kernel}
+use Rattle.ug_kernel.specs.Tree.{Prog, Return, Ask, Room}
+use Rattle.ug_sysfs.specs.World.{World, Gives, answer_of, begun, over}
 use Rattle.ug_table.specs.Laws.{Stand}
 use Rattle.ug_table.specs.Parts.{unsettled_names}
-use Rattle.ug_play.specs.Play.{tells_memory}
-use Rattle.ug_core.specs.Event.{DaemonState, has_numbers, ready}
+use Rattle.ug_play.specs.Play.{play, tells_memory}
+use Rattle.ug_core.specs.Answering.{acting, asking, deed_after}
+use Rattle.ug_core.specs.Event.{DaemonState, handling, has_numbers, ready}
 use Rattle.ug_core.specs.Laws.{AnswersEvent, Handled, TellsEvent}
+use Rattle.ug_core.specs.Storing.{stored_with, storing}
+use Rattle.ug_core.specs.declared.choosing.Choice.{Choice}
+use Rattle.ug_core.specs.declared.storing.Stored.{Stored}
+use Rattle.ug_types.specs.Principals.{Named}
 use Rattle.ug_core.specs.declared.daemon.Event.{Event}
+use Rattle.ug_core.specs.declared.daemon.Event.TheVariants.{Sweep, Order}
 use Rattle.ug_types.specs.declared.saved.Saved.{Saved}
 use Rattle.ug_store.specs.Disk.{IsImage}
+use Rattle.ug_store.specs.PlayDisk.{play_disk}
+use Rattle.ug_store.specs.Scripted.{DiskWorld, plan_at, stops_by}
+use Rattle.ug_store.specs.declared.mishap.Planned.{Planned}
 use Rattle.ug_console.specs.Fold.{Going, plays}
 use Rattle.ug_script.specs.Script.{Script, daemon_in, disk_in}
-use Rattle.ug_script.specs.Replay.{answered_of, disk_of, event_of, script_step, tried_by}
+use Rattle.ug_script.specs.Replay.{answered_of, disk_of, event_of, halted, script_step, stop_in, tried_by}
 
 abbrev pub faults_of : World → ℕ
 faults_of w = w.faults
@@ -30,11 +40,64 @@ tried_of s = (tried_by (daemon_in s) (disk_of s)).0
 abbrev pub ready_of : Event → Script → DaemonState
 ready_of event s = ready event (tried_of s) (daemon_in s)
 
+-- The first of so many calls of the disk for which the last line stops the machine in it: the call
+-- in which it stops.
+pub record IsFirstStop (plan : List Planned) (calls call : ℕ) : Type 0 where
+  pub first : 1 ≤ call
+  pub among : call ≤ calls
+  pub planned : stops_by (plan_at call None plan) ≡ true
+  pub none : (earlier : ℕ) → 1 ≤ earlier → earlier < call
+      → stops_by (plan_at earlier None plan) ≡ false
+
+-- for none of them it does
+abbrev pub HasNoStop : List Planned → ℕ → Type 0
+HasNoStop plan calls =
+    (call : ℕ) → 1 ≤ call → call ≤ calls → stops_by (plan_at call None plan) ≡ false
+
+-- the kernel before the first call that a tree makes of that world, and behind each call, is so
+abbrev pub BehindEach : {R : Type 0} → (Kernel → Type 0) → Prog R → World → Type 0
+BehindEach holds (Return value) w = holds w.kernel
+BehindEach holds (Ask call next) w =
+    holds w.kernel × BehindEach holds (next (answer_of w call).0) (answer_of w call).1
+BehindEach holds (Room next) w = BehindEach holds (next true) w
+
+-- what is done in an order, where this was chosen and that became of the save of its change
+abbrev pub done_with : Named → DaemonState → Choice → Stored → Prog DaemonState
+done_with who d chosen became =
+    acting who (stored_with became chosen.change d) (deed_after became chosen.deed)
+
+abbrev pub EachInDeed : (Kernel → Type 0) → Named → DaemonState → Choice × World → DiskWorld
+    → Type 0
+EachInDeed holds who d chosen o =
+    BehindEach holds
+    (done_with who d chosen.0 (play_disk (storing d chosen.0.change) o).0) chosen.1
+
+-- in the order of an event: before the save of its change, and behind it
+abbrev pub EachInOrder : (Kernel → Type 0) → Event → DaemonState → World → DiskWorld → Type 0
+EachInOrder holds (Sweep moment) d w o = holds w.kernel
+EachInOrder holds (Order moment who line) d w o =
+    BehindEach holds (asking d who line) w
+    × EachInDeed holds who d (play (asking d who line) w) o
+
+-- behind each call of an event, if one comes next: in its order, in its sweep, and at its end. It
+-- is so too where the machine stops
+abbrev pub AtEachCall : (Kernel → Type 0) → Event → Script → World → Type 0
+AtEachCall holds event s w =
+    EachInOrder holds event (ready_of event s)
+    (halted (tried_by (daemon_in s) (disk_of s)).1 (begun w))
+    (tried_by (daemon_in s) (disk_of s)).1
+    × BehindEach holds (handling (answered_of event s w).daemon)
+    (halted (answered_of event s w).disk (answered_of event s w).world)
+    × holds (over (event_of event s w).world).kernel
+
 -- An event, if one comes next. Its order is refused and changes nothing but that a save may have failed, or was given by one who may and
 -- does that alone which it asks for, once its change is saved. The sweep behind it is fair and leaves each device settled or named. The
 -- calls of the kernel are those of the order, the listing and one part for each name; unless the machine stops in a call of the disk, each
 -- that failed is told with its number and its count, and no other is; no name is told twice as unsettled; and none of the entries tells want
 -- of memory, as a script refuses none. Where the machine stops, no device is written to in this event.
+-- The machine stops in the first call of the disk for which lines stop it, which is the one that
+-- `stopped` tells, and it does where there is one. A device that was born while its controller's
+-- default was off is on only after an On entry, behind each call, if so it was before.
 pub record IsLawfulEvent (event : Event) (s : Script) (w : World) : Type 0 where
   pub answers : AnswersEvent event w.kernel (ready_of event s) (answered_of event s w).became (answered_of event s w).world.kernel (answered_of event s w).daemon
   pub handled : Handled (answered_of event s w).world.kernel (answered_of event s w).daemon (event_of event s w).world.kernel (event_of event s w).daemon
@@ -42,6 +105,12 @@ pub record IsLawfulEvent (event : Event) (s : Script) (w : World) : Type 0 where
   pub once : AllDistinct (unsettled_names (event_of event s w).daemon.sweep.entries)
   pub room : tells_memory (event_of event s w).daemon.sweep.entries ≡ false
   pub unwritten : (event_of event s w).disk.stopped ≡ true → (event_of event s w).world.kernel.log ≡ w.kernel.log
+  pub stop : (event_of event s w).disk.stopped ≡ true
+      → IsFirstStop s.planned (event_of event s w).disk.calls
+      (stop_in s.planned (event_of event s w))
+  pub running : (event_of event s w).disk.stopped ≡ false
+      → HasNoStop s.planned (event_of event s w).disk.calls
+  pub on_entries : HasOnEntries w.kernel → AtEachCall HasOnEntries event s w
 
 -- The kernel is sound, and a device that was born while its controller's default was off is on only after an On entry, if it was so in the first world; and each standing of the daemon, or of the one that an event would start, is of one of its devices; and so is an
 -- event, if one comes next. The disk is told, and a crash may leave the rule file as it is. And where the first world had no fault, the

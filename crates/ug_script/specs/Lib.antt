@@ -14,3 +14,4 @@ pub mod Journal
 pub mod Example
 pub mod RuleFiles
 pub mod Schedules
+pub mod Against

@@ -41,6 +41,8 @@ impl Machine<SimKernel> for Generator {
 
     ghost keeps = { λ m w. Unit {0} };
 
+    ghost because = { λ p line fault. Unit {0} };
+
     fn step<K: Sink>(
         &mut self,
         alloc: Global,

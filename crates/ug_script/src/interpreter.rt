@@ -1,10 +1,11 @@
 // The machine that takes a script's lines.
-ghost use Rattle.std.specs.Prelude.{◌≡◌, ◌≤◌, ℕ, List, Option, None, Some};
+ghost use Rattle.std.specs.Prelude.{◌≡◌, ◌≤◌, ◌⊎◌, ℕ, List, Option, None, Some};
 ghost use Rattle.ug_console.specs.Fold.{of_first};
 ghost use Rattle.ug_console.specs.Runs.{Closes, Steps};
 ghost use Rattle.ug_types.specs.Ends.{Rose};
 ghost use Rattle.ug_script.specs.Script.{Script};
 ghost use Rattle.ug_sysfs.specs.World.{World};
+ghost use Rattle.ug_script.specs.Against.{LacksNumbers, SpeaksAgainst};
 ghost use Rattle.ug_script.specs.Generating.{generate_end, generate_step};
 ghost use Rattle.ug_script.specs.Grammar.{step_of_line};
 ghost use Rattle.ug_script.specs.Replay.{Begins, StartsAgain, done_line, first_step, has_begun, interpreter_state, script_step, script_end};
@@ -153,6 +154,8 @@ impl Machine<SimKernel> for Interpreter {
     ghost closing = { of_first script_end };
 
     ghost keeps = { λ m w. Unit {0} };
+
+    ghost because = { λ p line fault. SpeaksAgainst p line fault ⊎ LacksNumbers p line };
 
     fn step<K: Sink>(
         &mut self,

@@ -12,6 +12,7 @@ ghost use Rattle.ug_kernel.specs.Tree.{calls};
 ghost use Rattle.ug_sysfs.specs.World.{World};
 ghost use Rattle.ug_audit.specs.declared.entry.Entry.TheVariants as entry;
 ghost use Rattle.ug_audit.specs.declared.entry.Fault.TheVariants as fault;
+ghost use Rattle.ug_script.specs.Against.{AreRefused};
 ghost use Rattle.ug_script.specs.Example.{first_played, event_at, event_with, plugged_in, replaced, failing, first_with_none, born_later, tenth_fails};
 ghost use Rattle.ug_sysfs.specs.declared.script.Move.{Move};
 ghost use Rattle.ug_sysfs.specs.declared.script.Move.TheVariants as move;
@@ -103,6 +104,11 @@ pub fn schedule_law()
 pub fn script_law()
     ensures lawful { (w : World) → w.ran_out ≡ false → IsKernel w.kernel → StaysLawful w }
     ensures recorded { (w : World) → w.ran_out ≡ false → IsKernel w.kernel → StaysRecorded w }
+{}
+
+/// Each line against which something speaks is refused, and for that fault.
+pub fn refusal_law()
+    ensures { AreRefused }
 {}
 
 /// That a device which was born while its controller's default was off is on only after an On entry holds where there is no device, and

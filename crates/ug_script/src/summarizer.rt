@@ -1,8 +1,11 @@
 // The machine that counts a script's journal in place of writing it.
-ghost use Rattle.std.specs.Prelude.{◌≡◌, ℕ, List, Some, None};
+ghost use Rattle.std.specs.Prelude.{◌≡◌, ◌⊎◌, ℕ, List, Some, None, false};
 ghost use Rattle.ug_types.specs.Ends.{Rose};
 ghost use Rattle.ug_console.specs.Statuses.{Answers, status_of};
 ghost use Rattle.ug_console.specs.declared.results.Ended.{Ended};
+ghost use Rattle.ug_kernel.specs.Kernel.{IsKernel};
+ghost use Rattle.ug_lines.specs.Lines.{lines_of};
+ghost use Rattle.ug_script.specs.Against.{LacksNumbers, RefusesScript, SpeaksAgainst};
 ghost use Rattle.ug_script.specs.Summing.{Summary, TellsSummary, no_totals, summary_end, summary_of, summary_step};
 
 use crate::interpreter::Interpreter;
@@ -41,6 +44,9 @@ impl Machine<SimKernel> for Summarizer {
     ghost closing = { summary_end };
 
     ghost keeps = { λ m w. Unit {0} };
+
+    ghost because = { λ p line fault.
+        SpeaksAgainst (p.0.0, p.1) line fault ⊎ LacksNumbers (p.0.0, p.1) line };
 
     fn step<K: Sink>(
         &mut self,
@@ -87,6 +93,9 @@ pub fn summarize<S: Source, K: Sink>(
         all base (S.left input.new) (K.held out.new) (summary, kernel.new) result }
     ensures told { (all base : List ℕ) → S.left input.old ≡ Some all → K.held out.old ≡ Some base
         → TellsSummary kernel.old all base (K.held out.new) result }
+    ensures why { (all : List ℕ) → S.left input.old ≡ Some all
+        → kernel.old.ran_out ≡ false → IsKernel kernel.old.kernel → kernel.old.faults ≡ 0
+        → result ≡ 2 → RefusesScript kernel.old (lines_of all) }
     ensures ended { (ended : Ended) × (result ≡ status_of ended) }
     ensures read { result ≡ 4 → Rose (S.faults input.old) (S.faults input.new) }
     ensures written { result ≡ 5 → Rose (K.faults out.old) (K.faults out.new) }

@@ -57,6 +57,11 @@ lines_unread step closing m all base held status (inr (is, (front, rest, split, 
   memory = λ e. absurd (omega (arith, e, is));
 }
 
+-- it isn't the status of a refused line
+pub memory_unrefused : (before held : Option (List ℕ)) (status : ℕ) → IsOutOfMemory before held status → status ≡ 2 → ⊥
+memory_unrefused before held status (inl k) e = omega (arith, e, k.0)
+memory_unrefused before held status (inr k) e = omega (arith, e, k.0)
+
 -- of an input that is read whole
 pub input_unread : (statuses : Ended → ℕ) (most : ℕ) (good bad : List ℕ → List ℕ → Type 0) (all base : List ℕ) (held : Option (List ℕ)) (status : ℕ)
     → statuses Memory ≡ 6 → statuses WriteFault ≡ 5

@@ -6,6 +6,8 @@ ghost use Rattle.ug_console.specs.Statuses.{Answers, status_of};
 ghost use Rattle.ug_console.specs.declared.results.Ended.{Ended};
 ghost use Rattle.ug_arguments.specs.Commands.{command_in};
 ghost use Rattle.ug_arguments.specs.declared.command.Command.TheVariants as command;
+ghost use Rattle.ug_lines.specs.Lines.{lines_of};
+ghost use Rattle.ug_script.specs.Against.{RefusesScript};
 ghost use Rattle.ug_script.specs.Script.{Script};
 ghost use Rattle.ug_script.specs.Replay.{script_step, script_end};
 ghost use Rattle.ug_script.specs.Summing.{Summary, TellsSummary, no_totals, summary_end, summary_step};
@@ -33,6 +35,8 @@ pub fn replay_over<S: Source, K: Sink>(
     requires { kernel.old ≡ new_world }
     ensures replayed { (all base : List ℕ) → S.left input.old ≡ Some all → K.held out.old ≡ Some base
         → (script : Option Script) × Answers script_step (of_first script_end) (None, new_world) all base (S.left input.new) (K.held out.new) (script, kernel.new) result }
+    ensures why { (all : List ℕ) → S.left input.old ≡ Some all → result ≡ 2
+        → RefusesScript new_world (lines_of all) }
     ensures ended { (ended : Ended) × (result ≡ status_of ended) }
     ensures read { result ≡ 4 → Rose (S.faults input.old) (S.faults input.new) }
     ensures written { result ≡ 5 → Rose (K.faults out.old) (K.faults out.new) }
@@ -56,6 +60,8 @@ fn replay_or_summarize<S: Source, K: Sink>(
         → (numbers : Summary) × Answers summary_step summary_end ((None, no_totals), new_world) all base (S.left input.new) (K.held out.new) (numbers, kernel.new) result }
     ensures summary { summary ≡ true → (all base : List ℕ) → S.left input.old ≡ Some all → K.held out.old ≡ Some base
         → TellsSummary new_world all base (K.held out.new) result }
+    ensures why { (all : List ℕ) → S.left input.old ≡ Some all → result ≡ 2
+        → RefusesScript new_world (lines_of all) }
     ensures ended { (ended : Ended) × (result ≡ status_of ended) }
     ensures read { result ≡ 4 → Rose (S.faults input.old) (S.faults input.new) }
     ensures written { result ≡ 5 → Rose (K.faults out.old) (K.faults out.new) }
@@ -89,7 +95,8 @@ fn read_replay(alloc: Global, words: &[&str]) -> Result<bool, WordsFault>
 /// Runs the script that the input holds over a new kernel, and writes its journal, or with `--summary` one line with numbers of it. The
 /// words are those of the command line behind the program's name. The status is 0; 1 where they aren't those of `replay`; 2 where a
 /// line isn't in the grammar or a limit is passed; 4 for a read fault; 5 for a write fault; 6 for want of memory. With 1, 2, 4 and 6
-/// the last line tells so.
+/// the last line tells so. With 2 it is the line itself, its place or a limit that speaks against it, or the rules of the `rule` lines fit no
+/// file: never what an order, or a stop of the machine, has left of the rule file.
 pub fn run_replay<S: Source, K: Sink>(
     alloc: Global,
     words: &[&str],
@@ -112,6 +119,10 @@ pub fn run_replay<S: Source, K: Sink>(
         → TellsSummary new_world all base (K.held out.new) result }
     ensures laws { StaysLawful new_world }
     ensures recorded { StaysRecorded new_world }
+    ensures why { (summary : Bool)
+        → command_in (map (λ word. word.now) words.now) ≡ Some (replay_of summary)
+        → (all : List ℕ) → S.left input.old ≡ Some all → result ≡ 2
+        → RefusesScript new_world (lines_of all) }
     ensures ended { (summary : Bool) → command_in (map (λ word. word.now) words.now) ≡ Some (replay_of summary)
         → (ended : Ended) × (result ≡ status_of ended) }
     ensures read { result ≡ 4 → Rose (S.faults input.old) (S.faults input.new) }

@@ -1,12 +1,15 @@
 use Rattle.std.proofs.Common.{ℕ, subst, sym, ◌∙◌}
 use Rattle.ug_console.specs.Statuses.{Answers}
-use Rattle.ug_console.proofs.Outputs.{answers, read-only, written-only}
+use Rattle.ug_console.proofs.Outputs.{answers, read-only, refused-only, written-only}
 use Rattle.ug_console.proofs.call.run.Goals as goal
 
 pub returns-clause-answers : goal.returns-clause-answers
 returns-clause-answers g c = λ all base a b.
     subst (λ (s : ℕ). Answers g.M.Machine.step_of g.M.Machine.closing (g.M.Machine.state c.args.machine.now, c.args.world.now) all base (g.S.Source.left c.replay.new.input) (g.K.Sink.held c.replay.new.out) (g.M.Machine.state c.replay.new.machine, c.replay.new.world) s) (sym c.status.ensures)
     (answers g.M.Machine.step_of g.M.Machine.closing (g.M.Machine.state c.args.machine.now, c.args.world.now) (g.S.Source.left c.args.input.now) (g.S.Source.left c.replay.new.input) (g.K.Sink.held c.args.out.now) (g.K.Sink.held c.replay.new.out) (g.M.Machine.state c.replay.new.machine, c.replay.new.world) c.replay.result c.replay.ensures.told all base a b)
+
+pub returns-clause-refused : goal.returns-clause-refused
+returns-clause-refused g c = λ all is e. let fault = refused-only c.replay.result (sym c.status.ensures ∙ e) in (fault.0, c.replay.ensures.why all is fault.0 fault.1)
 
 pub returns-clause-read : goal.returns-clause-read
 returns-clause-read g c = λ e. c.replay.ensures.read (read-only c.replay.result (sym c.status.ensures ∙ e))

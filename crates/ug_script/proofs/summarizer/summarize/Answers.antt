@@ -1,4 +1,6 @@
 use Rattle.ug_script.specs.Summing.{summary_of}
+use Rattle.ug_script.proofs.Against.{summary_refused}
+use Rattle.ug_script.proofs.Journals.{stays_lawful}
 use Rattle.ug_script.proofs.Summed.{summary_told}
 use Rattle.ug_script.proofs.summarizer.summarize.Goals as goal
 
@@ -8,3 +10,8 @@ returns-clause-answers g c = λ all base a b. (summary_of c.run.new.machine, rw 
 pub returns-clause-told : goal.returns-clause-told
 returns-clause-told g c = λ all base a b.
     summary_told c.args.kernel.now all base _ _ _ _ (rw c.new-summarizer.ensures at (c.run.ensures.answers all base a b))
+
+pub returns-clause-why : goal.returns-clause-why
+returns-clause-why g c = λ all is run sound none e.
+    let k = c.run.ensures.refused all is e in
+    summary_refused c.args.kernel.now _ k.0 (stays_lawful c.args.kernel.now run sound) none (rw c.new-summarizer.ensures at k.1)

@@ -1,4 +1,14 @@
+use Rattle.std.proofs.Common.{◌≡◌, false, refl, subst}
+use Rattle.ug_kernel.specs.Kernel.{IsKernel}
+use Rattle.ug_lines.specs.Lines.{lines_of}
+use Rattle.ug_sysfs.specs.Sound.{new_sound}
+use Rattle.ug_sysfs.specs.World.{World}
+use Rattle.ug_script.specs.Against.{RefusesScript}
 use Rattle.ug_tool.proofs.replay.replay_or_summarize.Goals as goal
 
 pub returns-in-true-clause-summarized : goal.returns-in-true-clause-summarized
 returns-in-true-clause-summarized g c = λ is all base a b. rw c.requires at (c.summarize.ensures.answers all base a b)
+
+pub returns-in-true-clause-why : goal.returns-in-true-clause-why
+returns-in-true-clause-why g c = λ all is.
+    subst (λ (w : World). w.ran_out ≡ false → IsKernel w.kernel → w.faults ≡ 0 → c.summarize.result ≡ 2 → RefusesScript w (lines_of all)) c.requires (c.summarize.ensures.why all is) refl new_sound refl

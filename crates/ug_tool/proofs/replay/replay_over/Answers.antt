@@ -1,5 +1,15 @@
 use Rattle.ug_script.specs.Replay.{interpreter_state}
+use Rattle.std.proofs.Common.{refl}
+use Rattle.ug_sysfs.specs.Sound.{new_sound}
+use Rattle.ug_script.proofs.Against.{script_refused}
+use Rattle.ug_script.proofs.Journals.{stays_lawful}
+use Rattle.ug_tool.specs.Replay.{new_world}
 use Rattle.ug_tool.proofs.replay.replay_over.Goals as goal
 
 pub returns-clause-replayed : goal.returns-clause-replayed
 returns-clause-replayed g c = λ all base a b. (interpreter_state c.run.new.machine, rw c.new-interpreter.ensures at (rw c.requires at (c.run.ensures.answers all base a b)))
+
+pub returns-clause-why : goal.returns-clause-why
+returns-clause-why g c = λ all is e.
+    let k = c.run.ensures.refused all is e in
+    script_refused new_world _ k.0 (stays_lawful new_world refl new_sound) refl (rw c.new-interpreter.ensures at (rw c.requires at k.1))

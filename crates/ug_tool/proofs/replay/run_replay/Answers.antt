@@ -5,7 +5,7 @@ use Rattle.ug_script.specs.Summing.{no_totals, summary_end, summary_step}
 use Rattle.ug_sysfs.specs.Sound.{new_sound}
 use Rattle.ug_script.proofs.Journals.{stays_lawful, stays_recorded}
 use Rattle.ug_tool.specs.Replay.{new_world}
-use Rattle.ug_tool.proofs.Memory.{lines_unread, memory_summary, only_memory}
+use Rattle.ug_tool.proofs.Memory.{lines_unread, memory_summary, memory_unrefused, only_memory}
 use Rattle.ug_tool.proofs.replay.run_replay.Goals as goal
 
 pub returns-in-Ok-clause-laws : goal.returns-in-Ok-clause-laws
@@ -34,3 +34,10 @@ pub returns-in-Err-clause-summary : goal.returns-in-Err-clause-summary
 returns-in-Err-clause-summary g c = λ e all base a b.
     let short = c.refuse.ensures.memory (only_memory c.in-Err.fault (λ is. c.in-Err.ensures.bad is true) e) in
     memory_summary new_world all base (g.K.Sink.held c.refuse.new.out) c.refuse.result (rw b at short)
+
+pub returns-in-Ok-clause-why : goal.returns-in-Ok-clause-why
+returns-in-Ok-clause-why g c = λ summary e all is two. c.replay_or_summarize.ensures.why all is two
+
+pub returns-in-Err-clause-why : goal.returns-in-Err-clause-why
+returns-in-Err-clause-why g c = λ summary e all is two.
+    absurd (memory_unrefused _ _ c.refuse.result (c.refuse.ensures.memory (only_memory c.in-Err.fault (λ bad. c.in-Err.ensures.bad bad summary) e)) two)

@@ -2,6 +2,7 @@ use Rattle.std.proofs.Common.{arith, ◌≡◌, ◌-◌, ℕ, List, length, take
 use Rattle.std.proofs.lemmas.List.{take_all}
 use Rattle.ug_console.proofs.Faults.{rose-after}
 use Rattle.ug_console.proofs.Feeding.{Feeds-none, Feeds-next, Feeds-stop}
+use Rattle.ug_console.proofs.Refusing.{refusing-stop}
 use Rattle.ug_console.proofs.feed.Splitter.feed.Goals as goal
 
 pub loop-at-init : goal.loop-at-init
@@ -37,6 +38,10 @@ returns-in_default g c =
           c.loop-at.self.line.items c.loop-at.self.lines (g.M.Machine.state c.loop-at.machine, c.loop-at.world) (g.K.Sink.held c.loop-at.out) c.take.result
           c.take.new.self.line.items c.take.new.self.lines (g.M.Machine.state c.take.new.machine, c.take.new.world) (g.K.Sink.held c.take.new.out)
           (ap (λ (bytes : List ℕ). take c.part_end-end.result bytes) rest) c.in_default.not-Done c.loop-at.invariant.fed c.take.ensures.fed;
+      why = refusing-stop g.M.Machine.step_of g.M.Machine.because c.args.self.now.line.items c.args.self.now.lines (g.M.Machine.state c.args.machine.now, c.args.world.now) (g.K.Sink.held c.args.out.now) c.args.piece.now c.loop-at.at c.part_end-end.result
+          (take c.part_end-end.result (take (length c.args.piece.now - c.loop-at.at) (drop c.loop-at.at c.args.piece.now)))
+          c.loop-at.self.line.items c.loop-at.self.lines (g.M.Machine.state c.loop-at.machine, c.loop-at.world) (g.K.Sink.held c.loop-at.out) c.take.result
+          (ap (λ (bytes : List ℕ). take c.part_end-end.result bytes) rest) c.loop-at.invariant.fed c.take.ensures.why;
       kept = λ e. absurd (c.in_default.not-Done e);
       further = λ e. absurd (c.in_default.not-Done e);
       counted = omega (arith, c.take.ensures.counted);

@@ -2,6 +2,7 @@ use Rattle.std.proofs.Common.{arith, ◌-◌, ℕ, List, [], ◌∷◌, length, 
 use Rattle.ug_console.specs.Runs.{Feeds}
 use Rattle.ug_lines.proofs.Splitting.{part-line, part-ended}
 use Rattle.ug_console.proofs.Feeding.{fed-run, Feeds-then, Feeds-more}
+use Rattle.ug_console.proofs.Refusing.{Refusing, refusing-more, refusing-run, refusing-then}
 use Rattle.ug_console.specs.declared.machine.Ran.TheVariants.{Done}
 use Rattle.ug_console.proofs.feed.Splitter.take.Goals as goal
 
@@ -9,6 +10,11 @@ pub returns-then-part-end-ne10-clause-fed : goal.returns-then-part-end-ne10-clau
 returns-then-part-end-ne10-clause-fed g c =
     fed-run g.M.Machine.step_of c.args.self.now.line.items c.extend.new.self.line.items c.args.self.now.lines c.extend.new.self.lines (g.M.Machine.state c.args.machine.now, c.args.world.now) (g.K.Sink.held c.args.out.now) c.args.part.now c.extend.result
     (part-line c.args.part.now c.requires.some c.requires.front c.if-part-end-ne10.true) c.extend.ensures.lines c.extend.ensures.extended
+
+pub returns-then-part-end-ne10-clause-why : goal.returns-then-part-end-ne10-clause-why
+returns-then-part-end-ne10-clause-why g c =
+    refusing-run g.M.Machine.step_of g.M.Machine.because c.args.self.now.line.items c.extend.new.self.line.items c.args.self.now.lines (g.M.Machine.state c.args.machine.now, c.args.world.now) c.args.part.now c.extend.result
+    (part-line c.args.part.now c.requires.some c.requires.front c.if-part-end-ne10.true) c.extend.ensures.extended
 
 pub returns-in-Done-clause-fed : goal.returns-in-Done-clause-fed
 returns-in-Done-clause-fed g c =
@@ -21,6 +27,16 @@ returns-in-Done-clause-fed g c =
     (fed-run g.M.Machine.step_of c.args.self.now.line.items c.extend-2.new.self.line.items c.args.self.now.lines c.extend-2.new.self.lines (g.M.Machine.state c.args.machine.now, c.args.world.now) (g.K.Sink.held c.args.out.now) run Done c.requires.front c.in-Done.ensures.lines c.in-Done.ensures.extended)
     c.end_line.ensures.fed)
 
+pub returns-in-Done-clause-why : goal.returns-in-Done-clause-why
+returns-in-Done-clause-why g c =
+    let run : List ℕ = take (length c.args.part.now - 1) c.args.part.now in
+    subst (λ (bytes : List ℕ). Refusing g.M.Machine.step_of g.M.Machine.because c.args.self.now.line.items c.args.self.now.lines (g.M.Machine.state c.args.machine.now, c.args.world.now) bytes c.end_line.result)
+    (sym (part-ended c.args.part.now c.requires.some c.if-part-end-ne10.false))
+    (refusing-then g.M.Machine.step_of g.M.Machine.because c.args.self.now.line.items c.args.self.now.lines (g.M.Machine.state c.args.machine.now, c.args.world.now) (g.K.Sink.held c.args.out.now) run
+    c.extend-2.new.self.line.items c.extend-2.new.self.lines (g.M.Machine.state c.args.machine.now, c.args.world.now) (g.K.Sink.held c.args.out.now) (10 ∷ []) c.end_line.result
+    (fed-run g.M.Machine.step_of c.args.self.now.line.items c.extend-2.new.self.line.items c.args.self.now.lines c.extend-2.new.self.lines (g.M.Machine.state c.args.machine.now, c.args.world.now) (g.K.Sink.held c.args.out.now) run Done c.requires.front c.in-Done.ensures.lines c.in-Done.ensures.extended)
+    c.end_line.ensures.why)
+
 pub returns-in_default : goal.returns-in_default
 returns-in_default g c =
     let run : List ℕ = take (length c.args.part.now - 1) c.args.part.now in
@@ -30,6 +46,10 @@ returns-in_default g c =
           (Feeds-more g.M.Machine.step_of c.args.self.now.line.items c.args.self.now.lines (g.M.Machine.state c.args.machine.now, c.args.world.now) (g.K.Sink.held c.args.out.now) run (10 ∷ [])
           c.extend-2.result c.extend-2.new.self.line.items c.extend-2.new.self.lines (g.M.Machine.state c.args.machine.now, c.args.world.now) (g.K.Sink.held c.args.out.now) c.in_default.not-Done
           (fed-run g.M.Machine.step_of c.args.self.now.line.items c.extend-2.new.self.line.items c.args.self.now.lines c.extend-2.new.self.lines (g.M.Machine.state c.args.machine.now, c.args.world.now) (g.K.Sink.held c.args.out.now) run c.extend-2.result c.requires.front c.extend-2.ensures.lines c.extend-2.ensures.extended));
+      why = subst (λ (bytes : List ℕ). Refusing g.M.Machine.step_of g.M.Machine.because c.args.self.now.line.items c.args.self.now.lines (g.M.Machine.state c.args.machine.now, c.args.world.now) bytes c.extend-2.result)
+          (sym (part-ended c.args.part.now c.requires.some c.if-part-end-ne10.false))
+          (refusing-more g.M.Machine.step_of g.M.Machine.because c.args.self.now.line.items c.args.self.now.lines (g.M.Machine.state c.args.machine.now, c.args.world.now) run (10 ∷ []) c.extend-2.result
+          (refusing-run g.M.Machine.step_of g.M.Machine.because c.args.self.now.line.items c.extend-2.new.self.line.items c.args.self.now.lines (g.M.Machine.state c.args.machine.now, c.args.world.now) run c.extend-2.result c.requires.front c.extend-2.ensures.extended));
       kept = λ e. absurd (c.in_default.not-Done e);
       further = λ e. absurd (c.in_default.not-Done e);
       counted = omega arith;

@@ -1,0 +1,48 @@
+-- Why a line isn't taken, in the words of the machine that refuses it.
+use Rattle.std.specs.Prelude.{ℕ, ◌≡◌, Bool, true, List, ◌∷◌, ◌++◌, Option, Some, None}
+use Rattle.ug_console.specs.Fold.{Fault, BadLine, InputTooLong, Outcome, Stage, Going, is_within, plays}
+use Rattle.ug_console.specs.declared.machine.Ran.{Ran}
+use Rattle.ug_console.specs.declared.machine.Ran.TheVariants as ran
+use Rattle.ug_console.specs.declared.results.Ended.{Ended}
+use Rattle.ug_console.specs.declared.results.Ended.TheVariants as ended
+
+-- the fault for which a step refused its line, and that of a whole call
+abbrev pub fault_in : Ran → Option Fault
+fault_in ran.Done = None
+fault_in ran.Bad = Some BadLine
+fault_in ran.TooLong = Some InputTooLong
+fault_in ran.SinkFailed = None
+fault_in ran.Memory = None
+
+abbrev pub fault_told : Ended → Option Fault
+fault_told ended.Done = None
+fault_told ended.Bad = Some BadLine
+fault_told ended.TooLong = Some InputTooLong
+fault_told ended.ReadFault = None
+fault_told ended.WriteFault = None
+fault_told ended.Memory = None
+
+-- Of these lines the first that isn't taken is past a limit, or this speaks against it. Those
+-- before it are taken, one after another, and lead to the machine that refuses it.
+pub record RefusesLine {M : Type 0} (step : M → List ℕ → Outcome M)
+    (because : M → List ℕ → Fault → Type 0) (start : Stage M) (lines : List (List ℕ))
+    (fault : Fault) : Type 0 where
+  pub earlier : List (List ℕ)
+  pub line : List ℕ
+  pub later : List (List ℕ)
+  pub among : lines ≡ earlier ++ line ∷ later
+  pub count : ℕ
+  pub text : List ℕ
+  pub machine : M
+  pub played : plays step start earlier ≡ Going count text machine
+  pub why : is_within count line ≡ true → because machine line fault
+
+-- so it is, or each line is taken, and more are wanted
+pub data RefusesLines {M : Type 0} (step : M → List ℕ → Outcome M)
+    (closing : M → Option (List ℕ)) (because : M → List ℕ → Fault → Type 0) (start : Stage M)
+    (lines : List (List ℕ)) (fault : Fault) : Type 0 where
+  AtLine : RefusesLine step because start lines fault
+      → RefusesLines step closing because start lines fault
+  AtEnd : (count : ℕ) (text : List ℕ) (machine : M)
+      → plays step start lines ≡ Going count text machine → closing machine ≡ None
+      → RefusesLines step closing because start lines fault
