@@ -18,7 +18,7 @@ use Rattle.ug_client.proofs.Front.{mark_begun}
 use Rattle.ug_client.proofs.Skipping.{begun_awaits}
 
 pub empty_awaits : IsAwaiting []
-empty_awaits = begun_awaits [] (mark_begun [] refl refl)
+empty_awaits = begun_awaits [] (mark_begun [] refl refl (λ k. k))
 
 pub kept_consumes : (a b c : Option (List ℕ)) (bytes : List ℕ) → Keeps a b → Consumes b c bytes → Consumes a c bytes
 kept_consumes None b c bytes h k = tt

@@ -1,6 +1,7 @@
 pub mod Calls
 pub mod Ending
 pub mod Front
+pub mod NoticeLines
 pub mod OneAnswer
 pub mod Received
 pub mod Shown

@@ -1,8 +1,5 @@
 -- Notices that were shown.
-use Rattle.std.proofs.Common.{◌≡◌, ℕ, ◌+◌, ◌-◌, ◌<◌, ◌≤◌, List, [], ◌∷◌, ◌++◌, length, take, drop, nat_eq, true, false, Option, refl, sym, ap, subst, ◌∙◌, append_assoc, length-append, length-take, length-drop, arith}
-use Rattle.std.specs.Prelude.{codes}
-use Rattle.std.specs.Cmp.Lexicographic.{pointwise}
-use Rattle.std.proofs.lemmas.Bool.{false≢true}
+use Rattle.std.proofs.Common.{◌≡◌, ℕ, ◌+◌, ◌-◌, ◌<◌, ◌≤◌, List, [], ◌∷◌, ◌++◌, length, take, drop, Option, refl, sym, ap, subst, ◌∙◌, append_assoc, length-append, length-take, length-drop, arith}
 use Rattle.std.proofs.lemmas.List.{take-append-drop}
 use Rattle.std.proofs.Math.Seq.{drop-drop, take-append_seam}
 use Rattle.std.proofs.KnownBytes.{Appends-nil, Appends-trans}
@@ -15,12 +12,8 @@ use Rattle.ug_proto.specs.Replies.{ended_lines}
 use Rattle.ug_client.specs.Answers.{IsNotice}
 use Rattle.ug_client.specs.Watching.{IsShort, AreShort, IsNoNotice, Other, Overlong, IsShortThen, Shows, ShowsPart}
 
-marked_front : (line rest : List ℕ) → IsNotice line → pointwise nat_eq (codes "! ") (take 2 (line ++ rest)) ≡ true
-marked_front line rest n = ap (λ (l : List ℕ). pointwise nat_eq (codes "! ") (take 2 (l ++ rest))) n.is
-
-pub other_line : (bytes : List ℕ) (n : ℕ) → pointwise nat_eq (codes "! ") (take 2 bytes) ≡ false → ¬ Has (take n bytes) 10 → bytes ≡ take n bytes ++ 10 ∷ drop (n + 1) bytes → IsNoNotice bytes
-other_line bytes n m h w = Other (take n bytes) (drop (n + 1) bytes) w h
-    (λ i. false≢true (sym m ∙ (ap (λ (b : List ℕ). pointwise nat_eq (codes "! ") (take 2 b)) w ∙ marked_front (take n bytes) (10 ∷ drop (n + 1) bytes) i)))
+pub other_line : (bytes : List ℕ) (n : ℕ) → ¬ IsNotice (take n bytes) → ¬ Has (take n bytes) 10 → bytes ≡ take n bytes ++ 10 ∷ drop (n + 1) bytes → IsNoNotice bytes
+other_line bytes n other h w = Other (take n bytes) (drop (n + 1) bytes) w h other
 
 front_without : (a b : List ℕ) → ¬ Has (a ++ b) 10 → ¬ Has a 10
 front_without a b h = λ k. h (has_left a b 10 k)

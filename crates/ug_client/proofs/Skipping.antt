@@ -1,6 +1,6 @@
 -- Replies behind notices.
 use Rattle.std.proofs.Common.{◌≡◌, ◌≢◌, ℕ, ◌+◌, ◌<◌, ◌≤◌, ◌⊎◌, inl, inr, List, [], ◌∷◌, ◌++◌, length, take, drop, get_or, refl, sym, ap, subst, ◌∙◌, append_assoc, length-append, length-drop, arith}
-use Rattle.std.specs.Prelude.{Option, Some, None, Result, Ok, Err}
+use Rattle.std.specs.Prelude.{codes, Option, Some, None, Result, Ok, Err}
 use Rattle.std.proofs.lemmas.List.{append-nil, take-append-drop}
 use Rattle.std.proofs.Math.Seq.{take-append_seam, drop-drop}
 use Rattle.ug_types.specs.Elements.{Has}
@@ -13,8 +13,9 @@ use Rattle.ug_proto.specs.Replies.{ended_lines, reply_text, IsReply}
 use Rattle.ug_proto.specs.ReplyReading.{BeginsWithReply, IsReplyBegun, IsNoReply, ReadsReply}
 use Rattle.ug_proto.proofs.OneReply.{one_reply, refused_first}
 use Rattle.ug_proto.proofs.Scans.{cut}
-use Rattle.ug_client.specs.Answers.{IsNotice, AreNotices, Replied, IsAwaiting, IsNoAnswer, Answers}
-use Rattle.ug_client.specs.Notices.{IsNoticeThen, IsNoticeBegun, BeginsOtherwise, IsBehindNotices}
+use Rattle.ug_client.specs.Answers.{IsNotice, IsNoticeBegun, AreNotices, EndsInNoticeBegun, MayBeReplied, Replied, IsAwaiting, IsNoAnswer, Answers}
+use Rattle.ug_client.proofs.Front.{notice_on_line}
+use Rattle.ug_client.specs.Notices.{IsNoticeThen, BeginsOtherwise, IsBehindNotices}
 
 lines_first : (lines : List (List ℕ)) (more : List ℕ) → get_or (reply_text (Lines lines) ++ more) 0 0 ≡ 111
 unfolding reply_text
@@ -49,7 +50,7 @@ behind_one : (line rest : List ℕ) (reply : Reply) (behind : List ℕ) (notices
     → line ++ 10 ∷ rest ≡ ended_lines notices ++ (reply_text reply ++ behind) → Replied rest reply behind
 behind_one line rest reply behind [] n each can w = absurd (no_reply_first (line ++ 10 ∷ rest) behind reply (omega (arith, notice_first line (10 ∷ rest) n)) w)
 behind_one line rest reply behind (l ∷ ls) n each can w =
-    let c = cut 10 line l rest (ended_lines ls ++ (reply_text reply ++ behind)) n.one_line each.0.one_line (w ∙ append_assoc l (10 ∷ ended_lines ls) (reply_text reply ++ behind)) in
+    let c = cut 10 line l rest (ended_lines ls ++ (reply_text reply ++ behind)) (notice_on_line line n) (notice_on_line l each.0) (w ∙ append_assoc l (10 ∷ ended_lines ls) (reply_text reply ++ behind)) in
     record { notices = ls; each = each.1; can = can; whole = c.1 }
 
 pub behind_notice : (line rest : List ℕ) (reply : Reply) (behind : List ℕ) → IsNotice line → Replied (line ++ 10 ∷ rest) reply behind → Replied rest reply behind
@@ -59,9 +60,10 @@ behind_notice line rest reply behind n r = behind_one line rest reply behind r.n
 one_awaits : (line rest : List ℕ) → IsNotice line → IsAwaiting rest → IsAwaiting (line ++ 10 ∷ rest)
 one_awaits line rest n a = record {
   none = λ reply behind r. a.none reply behind (behind_notice line rest reply behind n r);
-  more = a.more;
-  reply = a.reply;
-  can = subst (λ (l : List ℕ). Replied l a.reply []) (sym (append_assoc line (10 ∷ rest) a.more)) (one_notice line (rest ++ a.more) a.reply [] n a.can);
+  opened = elim a.opened as (λ _. MayBeReplied (line ++ 10 ∷ rest) ⊎ EndsInNoticeBegun (line ++ 10 ∷ rest)) [
+    | inl m ↦ inl (record { more = m.more; reply = m.reply; can = subst (λ (l : List ℕ). Replied l m.reply []) (sym (append_assoc line (10 ∷ rest) m.more)) (one_notice line (rest ++ m.more) m.reply [] n m.can) })
+    | inr m ↦ inr (record { notices = line ∷ m.notices; each = (n, m.each); rest = m.rest; whole = ap (λ (l : List ℕ). line ++ 10 ∷ l) m.whole ∙ sym (append_assoc line (10 ∷ ended_lines m.notices) m.rest); begun = m.begun })
+  ];
 }
 
 one_never : (line rest : List ℕ) → IsNotice line → IsNoAnswer rest → IsNoAnswer (line ++ 10 ∷ rest)
@@ -83,25 +85,19 @@ pub notices_never : (ls : List (List ℕ)) (rest : List ℕ) → AreNotices ls �
 notices_never [] rest each a = a
 notices_never (l ∷ ls) rest each a = subst IsNoAnswer (sym (joins l ls rest)) (one_never l (ended_lines ls ++ rest) each.0 (notices_never ls rest each.1 a))
 
--- a notice that isn't ended
-nothing_done : IsReply (Lines [])
-nothing_done = (tt, omega arith)
+-- a line that isn't ended and may become a notice
+begun_first : (bytes more words : List ℕ) → bytes ++ more ≡ codes "! " ++ words → get_or bytes 0 0 ≤ 33
+begun_first [] more words n = omega arith
+begun_first (b ∷ bytes) more words n = omega (arith, ap (λ (l : List ℕ). get_or l 0 0) n)
 
-begun_first : (bytes more : List ℕ) → IsNotice (bytes ++ more) → get_or bytes 0 0 ≤ 33
-begun_first [] more n = omega arith
-begun_first (b ∷ bytes) more n = omega (arith, ap (λ (l : List ℕ). get_or l 0 0) n.is)
-
-begun_unanswered : (bytes more : List ℕ) (reply : Reply) (behind : List ℕ) (notices : List (List ℕ)) → ¬ Has bytes 10 → IsNotice (bytes ++ more) → bytes ≡ ended_lines notices ++ (reply_text reply ++ behind) → ⊥
-begun_unanswered bytes more reply behind [] h n w = no_reply_first bytes behind reply (begun_first bytes more n) w
-begun_unanswered bytes more reply behind (l ∷ ls) h n w = h (subst (λ (b : List ℕ). Has b 10) (sym (w ∙ joins l ls (reply_text reply ++ behind))) (has_right l (10 ∷ (ended_lines ls ++ (reply_text reply ++ behind))) 10 (inl refl)))
+begun_unanswered : (bytes more words : List ℕ) (reply : Reply) (behind : List ℕ) (notices : List (List ℕ)) → ¬ Has bytes 10 → bytes ++ more ≡ codes "! " ++ words → bytes ≡ ended_lines notices ++ (reply_text reply ++ behind) → ⊥
+begun_unanswered bytes more words reply behind [] h n w = no_reply_first bytes behind reply (begun_first bytes more words n) w
+begun_unanswered bytes more words reply behind (l ∷ ls) h n w = h (subst (λ (b : List ℕ). Has b 10) (sym (w ∙ joins l ls (reply_text reply ++ behind))) (has_right l (10 ∷ (ended_lines ls ++ (reply_text reply ++ behind))) 10 (inl refl)))
 
 pub begun_awaits : (bytes : List ℕ) → IsNoticeBegun bytes → IsAwaiting bytes
 begun_awaits bytes b = record {
-  none = λ reply behind r. begun_unanswered bytes b.more reply behind r.notices b.one_line b.notice r.whole;
-  more = b.more ++ 10 ∷ reply_text (Lines []);
-  reply = Lines [];
-  can = subst (λ (l : List ℕ). Replied l (Lines []) []) (append_assoc bytes b.more (10 ∷ reply_text (Lines [])))
-      (one_notice (bytes ++ b.more) (reply_text (Lines [])) (Lines []) [] b.notice (record { notices = []; each = tt; can = nothing_done; whole = sym (append-nil (reply_text (Lines []))) }));
+  none = λ reply behind r. begun_unanswered bytes b.more b.words reply behind r.notices b.one_line b.marked r.whole;
+  opened = inr (record { notices = []; each = tt; rest = bytes; whole = refl; begun = b });
 }
 
 -- where no notice stands in front
@@ -127,9 +123,7 @@ reply_awaits bytes o b = record {
       let w : bytes ++ [] ≡ reply_text reply ++ behind = other_notices bytes [] (reply_text reply ++ behind) r.notices o r.each (append-nil bytes ∙ r.whole) in
       let whole : reply_text reply ++ (behind ++ b.more) ≡ reply_text b.it = sym (append_assoc (reply_text reply) behind b.more) ∙ ap (λ (l : List ℕ). l ++ b.more) (sym w ∙ append-nil bytes) ∙ b.whole in
       b.some (some_more behind b.more (one_reply reply b.it (behind ++ b.more) r.can b.can whole).1);
-  more = b.more;
-  reply = b.it;
-  can = record { notices = []; each = tt; can = b.can; whole = b.whole ∙ sym (append-nil (reply_text b.it)) };
+  opened = inl (record { more = b.more; reply = b.it; can = record { notices = []; each = tt; can = b.can; whole = b.whole ∙ sym (append-nil (reply_text b.it)) } });
 }
 
 -- one text ends within the other, or behind it

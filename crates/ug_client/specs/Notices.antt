@@ -1,7 +1,6 @@
 -- What stands in front of the bytes of a link.
 use Rattle.std.specs.Prelude.{◌≡◌, ℕ, ◌≤◌, List, ◌∷◌, ◌++◌, length, drop}
-use Rattle.ug_types.specs.Elements.{Has}
-use Rattle.ug_client.specs.Answers.{IsNotice, AreNotices}
+use Rattle.ug_client.specs.Answers.{AreNotices, IsNotice, IsNoticeBegun}
 use Rattle.ug_proto.specs.Replies.{ended_lines}
 use Rattle.ug_client.specs.declared.notice.Front.{Front}
 use Rattle.ug_client.specs.declared.notice.Front.TheVariants as front
@@ -11,12 +10,6 @@ pub record IsNoticeThen (bytes rest : List ℕ) : Type 0 where
   pub line : List ℕ
   pub notice : IsNotice line
   pub whole : bytes ≡ line ++ 10 ∷ rest
-
--- the bytes begin a notice that isn't ended
-pub record IsNoticeBegun (bytes : List ℕ) : Type 0 where
-  pub one_line : ¬ Has bytes 10
-  pub more : List ℕ
-  pub notice : IsNotice (bytes ++ more)
 
 -- however the bytes go on, no notice stands in front
 abbrev pub BeginsOtherwise : List ℕ → Type 0

@@ -7,6 +7,7 @@ mod call;
 mod laws;
 mod lines;
 mod notice;
+mod notice_line;
 mod receive;
 mod send;
 mod stream;

@@ -5,6 +5,7 @@ ghost use Rattle.ug_client.specs.Watching.{IsNext, ShowsBy};
 
 use crate::asked::Asked;
 use crate::notice::line_length;
+use crate::notice_line::is_notice;
 use ug_types::{Put, Sink};
 
 /// The greatest length of a line.
@@ -38,7 +39,7 @@ fn next_line(text: &[u8]) -> Next
             if n > MAX_LINE {
                 return Next::Other;
             }
-            if text.starts_with(b"! ") {
+            if is_notice(&text[..n]) {
                 return Next::Notice(n + 1);
             }
             Next::Other

@@ -3,12 +3,14 @@ ghost use Rattle.std.specs.Prelude.{◌≡◌, ◌<◌, ◌+◌, ◌++◌, ◌�
 ghost use Rattle.ug_types.specs.Elements.{Has};
 ghost use Rattle.ug_client.specs.Notices.{IsInFront};
 
+use crate::notice_line::is_notice;
+
 /// What stands in front of a text.
 #[derive(Clone, Copy)]
 pub enum Front {
     /// A notice, of so many bytes with its newline.
     Notice(usize),
-    /// The beginning of a notice, or nothing.
+    /// The beginning of a line that may become a notice, or nothing.
     Begun,
     Other,
 }
@@ -28,18 +30,31 @@ pub fn line_length(text: &[u8]) -> Option<usize>
     None
 }
 
-/// What stands in front.
-pub fn front_of(text: &[u8]) -> Front
+/// What stands in front where no line ends.
+fn front_of_begun(text: &[u8]) -> Front
+    requires { ¬ Has text.now 10 }
     ensures { IsInFront text.now result }
 {
     if text.starts_with(b"! ") {
-        return match line_length(text) {
-            Some(n) => Front::Notice(n + 1),
-            None => Front::Begun,
-        };
+        return Front::Begun;
     }
     if b"! ".starts_with(text) {
         return Front::Begun;
     }
     Front::Other
+}
+
+/// What stands in front.
+pub fn front_of(text: &[u8]) -> Front
+    ensures { IsInFront text.now result }
+{
+    match line_length(text) {
+        Some(n) => {
+            if is_notice(&text[..n]) {
+                return Front::Notice(n + 1);
+            }
+            Front::Other
+        }
+        None => front_of_begun(text),
+    }
 }

@@ -1,6 +1,7 @@
 use Rattle.std.proofs.Common.{ℕ, ◌≤◌, List, length, drop, subst, arith, length-drop, Ok, None}
 use Rattle.ug_types.proofs.Known.{to_end}
-use Rattle.ug_client.specs.Notices.{IsNoticeThen, IsNoticeBegun, BeginsOtherwise}
+use Rattle.ug_client.specs.Answers.{IsNoticeBegun}
+use Rattle.ug_client.specs.Notices.{IsNoticeThen, BeginsOtherwise}
 use Rattle.ug_client.proofs.Skipping.{none_skipped, one_skipped, begun_awaits, behind_notices}
 use Rattle.ug_client.proofs.answer.read_answer.Goals as goal
 

@@ -1,0 +1,255 @@
+// Lines of the journal that are sent as notices.
+ghost use Rattle.std.specs.Prelude.{◌≡◌, ◌↔◌, IsTrue, IfSome, IfNone, Some, None};
+ghost use Rattle.ug_client.specs.Answers.{IsNotice, IsNoticedLine};
+ghost use Rattle.ug_client.specs.NoticeLines as lines;
+
+use ug_decimals::parse_decimal;
+use ug_types::{NodeName, ParameterName, Principal, Target};
+
+/// The first word, where a space stands behind it, and what stands behind that.
+fn cut_word(text: &[u8]) -> Option<(&[u8], &[u8])>
+    ensures some { IfSome result (λ p. lines.cut_word text.now ≡ Some (p.0.now, p.1.now)) }
+    ensures none { IfNone result (lines.cut_word text.now ≡ None) }
+{
+    for (i, byte) in text.iter().enumerate() {
+        if *byte == b' ' {
+            return Some((&text[..i], &text[i + 1..]));
+        }
+    }
+    None
+}
+
+fn is_number(word: &[u8]) -> bool
+    ensures { result ≡ lines.is_number word.now }
+{
+    parse_decimal(word).is_some()
+}
+
+fn is_byte(word: &[u8]) -> bool
+    ensures { result ≡ lines.is_byte word.now }
+{
+    match parse_decimal(word) {
+        Some(number) => number < 256,
+        None => false,
+    }
+}
+
+fn is_name(word: &[u8]) -> bool
+    ensures { result ≡ lines.is_name_word word.now }
+{
+    NodeName::parse(word).is_ok()
+}
+
+fn is_name_or_star(word: &[u8]) -> bool
+    ensures { result ≡ lines.is_name_or_star word.now }
+{
+    word == b"*".as_slice() || is_name(word)
+}
+
+fn is_write(word: &[u8]) -> bool
+    ensures { result ≡ lines.is_write word.now }
+{
+    word == b"on".as_slice()
+        || word == b"off".as_slice()
+        || word == b"remove".as_slice()
+        || word == b"default-off".as_slice()
+        || word == b"default-on".as_slice()
+}
+
+fn is_outcome(word: &[u8]) -> bool
+    ensures { result ≡ lines.is_outcome word.now }
+{
+    word == b"done".as_slice() || word == b"gone".as_slice() || word == b"failed".as_slice()
+}
+
+// A kind and a place.
+fn is_malformed(text: &[u8]) -> bool
+    ensures { result ≡ lines.is_malformed text.now }
+{
+    match cut_word(text) {
+        Some((kind, place)) => is_byte(kind) && is_number(place),
+        None => false,
+    }
+}
+
+fn is_cause_alone(text: &[u8]) -> bool
+    ensures { result ≡ lines.is_cause_alone text.now }
+{
+    text == b"implicit".as_slice()
+        || text == b"present".as_slice()
+        || text == b"keep".as_slice()
+        || text == b"inserted".as_slice()
+}
+
+fn is_cause(text: &[u8]) -> bool
+    ensures { result ≡ lines.is_cause text.now }
+{
+    match cut_word(text) {
+        Some((word, rest)) => {
+            if word == b"rule".as_slice() {
+                return is_number(rest);
+            }
+            if word == b"order".as_slice() {
+                return Principal::parse(rest).is_some();
+            }
+            if word == b"malformed".as_slice() {
+                return is_malformed(rest);
+            }
+            false
+        }
+        None => is_cause_alone(text),
+    }
+}
+
+fn are_numbers(text: &[u8]) -> bool
+    ensures { result ≡ lines.are_numbers text.now }
+{
+    match cut_word(text) {
+        Some((call, count)) => is_number(call) && is_number(count),
+        None => false,
+    }
+}
+
+fn is_fault(text: &[u8]) -> bool
+    ensures { result ≡ lines.is_fault text.now }
+{
+    match cut_word(text) {
+        Some((word, rest)) => word == b"fault".as_slice() && are_numbers(rest),
+        None => text == b"memory".as_slice(),
+    }
+}
+
+// A verdict and its cause.
+fn is_verdict(text: &[u8]) -> bool
+    ensures { result ≡ lines.is_verdict text.now }
+{
+    match cut_word(text) {
+        Some((verdict, cause)) => Target::named(verdict).is_some() && is_cause(cause),
+        None => false,
+    }
+}
+
+fn is_named_verdict(text: &[u8]) -> bool
+    ensures { result ≡ lines.is_named_verdict text.now }
+{
+    match cut_word(text) {
+        Some((name, rest)) => is_name(name) && is_verdict(rest),
+        None => false,
+    }
+}
+
+fn is_judged(text: &[u8]) -> bool
+    ensures { result ≡ lines.is_judged text.now }
+{
+    match cut_word(text) {
+        Some((number, rest)) => is_number(number) && is_named_verdict(rest),
+        None => false,
+    }
+}
+
+// A write and what it came to.
+fn is_written(text: &[u8]) -> bool
+    ensures { result ≡ lines.is_written text.now }
+{
+    match cut_word(text) {
+        Some((write, outcome)) => is_write(write) && is_outcome(outcome),
+        None => false,
+    }
+}
+
+fn is_named_write(text: &[u8]) -> bool
+    ensures { result ≡ lines.is_named_write text.now }
+{
+    match cut_word(text) {
+        Some((name, rest)) => is_name(name) && is_written(rest),
+        None => false,
+    }
+}
+
+fn is_wrote(text: &[u8]) -> bool
+    ensures { result ≡ lines.is_wrote text.now }
+{
+    match cut_word(text) {
+        Some((number, rest)) => is_number(number) && is_named_write(rest),
+        None => false,
+    }
+}
+
+fn is_gone(text: &[u8]) -> bool
+    ensures { result ≡ lines.is_gone text.now }
+{
+    match cut_word(text) {
+        Some((number, name)) => is_number(number) && is_name(name),
+        None => false,
+    }
+}
+
+fn is_unsettled(text: &[u8]) -> bool
+    ensures { result ≡ lines.is_unsettled text.now }
+{
+    match cut_word(text) {
+        Some((name, fault)) => is_name_or_star(name) && is_fault(fault),
+        None => false,
+    }
+}
+
+fn is_parameter(text: &[u8]) -> bool
+    ensures { result ≡ lines.is_parameter text.now }
+{
+    match cut_word(text) {
+        Some((name, value)) => match ParameterName::named(name) {
+            Some(name) => name.with_value(value).is_some(),
+            None => false,
+        },
+        None => false,
+    }
+}
+
+// What stands behind the first word, by that word.
+fn is_behind(word: &[u8], rest: &[u8]) -> bool
+    ensures { result ≡ lines.is_behind word.now rest.now }
+{
+    if word == b"judged".as_slice() {
+        return is_judged(rest);
+    }
+    if word == b"wrote".as_slice() {
+        return is_wrote(rest);
+    }
+    if word == b"gone".as_slice() {
+        return is_gone(rest);
+    }
+    if word == b"unsettled".as_slice() {
+        return is_unsettled(rest);
+    }
+    if word == b"parameter".as_slice() {
+        return is_parameter(rest);
+    }
+    false
+}
+
+#[tactic(auto, unfolding(crate::specs::NoticeLines::is_entry_text))]
+fn is_entry(text: &[u8]) -> bool
+    ensures { result ≡ lines.is_entry_text text.now }
+{
+    match cut_word(text) {
+        Some((word, rest)) => is_behind(word, rest),
+        None => false,
+    }
+}
+
+/// Whether the text is the line of an entry that clients are told.
+fn is_noticed(text: &[u8]) -> bool
+    ensures { IsTrue result ↔ IsNoticedLine text.now }
+{
+    is_entry(text)
+}
+
+/// Whether the line is a notice: `! ` and the line of an entry that clients are told.
+pub fn is_notice(line: &[u8]) -> bool
+    ensures { IsTrue result ↔ IsNotice line.now }
+{
+    if line.starts_with(b"! ") {
+        return is_noticed(&line[2..]);
+    }
+    false
+}
