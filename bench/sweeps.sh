@@ -1,0 +1,34 @@
+#!/bin/sh
+# Times one sweep and three over 4,096, 16,384 and 65,536 live devices, and prints processor time and peak memory: the first sweep judges
+# each device, the later ones probe it. It wants the built program (bin/build-usbguard builds it), awk, and GNU time as /usr/bin/time.
+set -eu
+. "$(dirname "$0")/program.sh"
+
+hub=12010002090001406b1d020006060302010109021900010100e0000904000001090000000705810304000c
+key=120100020000004050101100000100000001
+
+# a controller, 255 devices at it, 255 at each of these, and more behind the first of all
+script() {
+    awk -v devices="$1" -v sweeps="$2" -v hub=$hub -v key=$key '
+        function plug(name) { if (left-- > 0) print "plug " name " 0 " key " - - -" }
+        BEGIN {
+            left = devices - 1
+            print "usbguard-replay 1"; print "rule allow 1050:0011"; print "plug usb1 1 " hub " - - -"
+            for (top = 1; top <= 255; top++) {
+                plug("1-" top)
+                for (n = 1; n <= 255; n++) plug("1-" top "." n)
+            }
+            for (n = 1; n <= 255; n++) plug("1-1.1." n)
+            for (i = 1; i <= sweeps; i++) print "sweep " i
+        }'
+}
+
+for devices in 4096 16384 65536; do
+    for sweeps in 1 3; do
+        script $devices $sweeps >"$folder/script"
+        /usr/bin/time -f '%U %M' -o "$folder/time" "$program" replay <"$folder/script" >"$folder/out"
+        awk -v devices=$devices -v sweeps=$sweeps -v judged="$(grep -c '^judged' "$folder/out")" '{
+            printf "%5d devices, %d judged, %d sweeps: %6.2f s of the processor, %6.1f MB\n", devices, judged, sweeps, $1, $2 / 1000
+        }' "$folder/time"
+    done
+done
