@@ -1,9 +1,9 @@
 // Laws of texts and records.
-ghost use Rattle.std.specs.Prelude.{◌≡◌, ℕ, List, [], ◌∷◌, ◌++◌, Bool, true, false, Option};
+ghost use Rattle.std.specs.Prelude.{◌≡◌, ℕ, List, [], ◌∷◌, ◌++◌, Bool, true, false, Option, Some, None};
 ghost use Rattle.ug_types.specs.declared.record.Attrs.{Attrs};
 ghost use Rattle.ug_descr.specs.declared.descriptors.Descr.{Descr};
 ghost use Rattle.ug_descr.specs.Grammar.{Good as WellFormed, Bad};
-ghost use Rattle.ug_record.specs.Records.{text_of as file_text, judged_of, parent_hash_of, hash_under, record_under};
+ghost use Rattle.ug_record.specs.Records.{text_of as file_text, judged_of, judged_under, parent_hash_of, child_hash_of, hash_under, record_with};
 
 use ug_types::Judged;
 
@@ -21,19 +21,31 @@ pub fn judged_by_descriptors()
         → attrs.too_long ≡ true → judged_of name attrs parent ≡ Judged.Malformed 8 0 }
     ensures good { (name : List ℕ) (attrs : Attrs) (parent : Option Attrs) (descr : Descr)
         → attrs.too_long ≡ false → WellFormed attrs.descriptors descr
-        → judged_of name attrs parent ≡ Judged.Good (record_under name attrs parent descr) }
+        → judged_of name attrs parent
+        ≡ Judged.Good (record_with name attrs (parent_hash_of parent) descr) }
     ensures bad { (name : List ℕ) (attrs : Attrs) (parent : Option Attrs) (kind place : ℕ)
         → attrs.too_long ≡ false → Bad attrs.descriptors kind place
         → judged_of name attrs parent ≡ Judged.Malformed kind place }
 {}
 
-/// The parent's hash is that of its own files, and empty where it is malformed or one of its files was too long.
-pub fn parent_hash_by_descriptors()
-    ensures too_long { (parent : Attrs) → parent.too_long ≡ true
-        → parent_hash_of (Some parent) ≡ [] }
-    ensures good { (parent : Attrs) (descr : Descr) → parent.too_long ≡ false
-        → WellFormed parent.descriptors descr
-        → parent_hash_of (Some parent) ≡ hash_under parent descr }
-    ensures bad { (parent : Attrs) (kind place : ℕ) → parent.too_long ≡ false
-        → Bad parent.descriptors kind place → parent_hash_of (Some parent) ≡ [] }
+/// The hash that a device's children see is that of its own files, and empty where it is malformed or one of the files
+/// that it is made of was too long.
+pub fn child_hash_by_descriptors()
+    ensures too_long { (attrs : Attrs) → child_hash_of attrs true ≡ [] }
+    ensures good { (attrs : Attrs) (descr : Descr) → WellFormed attrs.descriptors descr
+        → child_hash_of attrs false ≡ hash_under attrs descr }
+    ensures bad { (attrs : Attrs) (kind place : ℕ) → Bad attrs.descriptors kind place
+        → child_hash_of attrs false ≡ [] }
+{}
+
+/// A record under the hash that the parent's own four files give is the one with the three that are read of a parent.
+pub fn judged_under_child_hash()
+    ensures no_parent { (name : List ℕ) (attrs : Attrs)
+        → judged_under name attrs [] ≡ judged_of name attrs None }
+    ensures parent { (name : List ℕ) (attrs own parent : Attrs)
+        → own.descriptors ≡ parent.descriptors
+        → own.product ≡ parent.product
+        → own.serial ≡ parent.serial
+        → judged_under name attrs (child_hash_of own parent.too_long)
+        ≡ judged_of name attrs (Some parent) }
 {}

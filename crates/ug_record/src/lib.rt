@@ -6,5 +6,7 @@ mod laws;
 mod records;
 
 pub use files::text_of;
-pub use laws::{judged_by_descriptors, one_newline_goes, parent_hash_by_descriptors};
-pub use records::record_of;
+pub use laws::{
+    child_hash_by_descriptors, judged_by_descriptors, judged_under_child_hash, one_newline_goes,
+};
+pub use records::{child_hash, record_of, record_under};

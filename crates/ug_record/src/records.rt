@@ -1,6 +1,6 @@
-// The record of a device.
+// The record of a device, and the hash that its children see.
 ghost use Rattle.std.specs.Prelude.{◌≡◌, IfOk, option_copied};
-ghost use Rattle.ug_record.specs.Records.{judged_of, parent_hash_of, record_under, hash_under};
+ghost use Rattle.ug_record.specs.Records.{child_hash_of, hash_under, judged_of, judged_under, record_with};
 
 use crate::files::{text_of, without_newline};
 use std::alloc::Global;
@@ -10,7 +10,7 @@ use ug_types::{Attrs, DeviceRecord, Judged, NoMemory, NodeName, Text};
 
 /// What is known of a device by its node name, from its files and those of its parent. A parent that is malformed or
 /// has a file that was too long makes the parent hash empty, and isn't a fault of the device.
-#[tactic(auto, unfolding(crate::specs::Records::judged_of))]
+#[tactic(auto, unfolding(crate::specs::Records::judged_of, crate::specs::Records::parent_hash_of))]
 pub fn record_of(
     alloc: Global,
     name: &NodeName,
@@ -20,15 +20,46 @@ pub fn record_of(
     ensures { IfOk result
         (λ judged. judged ≡ judged_of name.now attrs.now (option_copied parent.entry)) }
 {
+    let Some(parent) = parent else {
+        return record_under(alloc, name, attrs, b"");
+    };
+    let parent_hash = child_hash(alloc, parent, parent.too_long)?;
+    record_under(alloc, name, attrs, parent_hash.bytes())
+}
+
+/// The same from its own files and its parent's hash, which is empty for a root hub.
+pub fn record_under(
+    alloc: Global,
+    name: &NodeName,
+    attrs: &Attrs,
+    parent_hash: &[u8],
+) -> Result<Judged, NoMemory>
+    ensures { IfOk result (λ judged. judged ≡ judged_under name.now attrs.now parent_hash.now) }
+{
     if attrs.too_long {
         return Ok(Judged::Malformed { kind: 8, place: 0 });
     }
     match decode(alloc, attrs.descriptors.bytes()) {
         Ok(descr) => {
-            let record = record_from(alloc, name, attrs, parent, &descr)?;
+            let record = record_from(alloc, name, attrs, parent_hash, &descr)?;
             Ok(Judged::Good(record))
         }
         Err(DescrFault::Malformed { kind, place }) => Ok(Judged::Malformed { kind, place }),
+        Err(DescrFault::Memory) => Err(NoMemory),
+    }
+}
+
+/// The hash that a device's children see as their parent's. `core_long` tells whether a file that it is made of was too
+/// long: the descriptors, the product or the serial number.
+pub fn child_hash(alloc: Global, attrs: &Attrs, core_long: bool) -> Result<Text, NoMemory>
+    ensures { IfOk result (λ hash. hash ≡ child_hash_of attrs.now core_long) }
+{
+    if core_long {
+        return Ok(Text::new(alloc));
+    }
+    match decode(alloc, attrs.descriptors.bytes()) {
+        Ok(descr) => Text::of(alloc, hash_from(attrs, &descr).as_slice()),
+        Err(DescrFault::Malformed { .. }) => Ok(Text::new(alloc)),
         Err(DescrFault::Memory) => Err(NoMemory),
     }
 }
@@ -37,17 +68,17 @@ fn record_from(
     alloc: Global,
     name: &NodeName,
     attrs: &Attrs,
-    parent: Option<&Attrs>,
+    parent_hash: &[u8],
     descr: &Descr,
 ) -> Result<DeviceRecord, NoMemory>
     ensures { IfOk result
-        (λ made. made ≡ record_under name.now attrs.now (option_copied parent.entry) descr.now) }
+        (λ made. made ≡ record_with name.now attrs.now parent_hash.now descr.now) }
 {
     let name_text = text_of(alloc, attrs.product.bytes())?;
     let serial = text_of(alloc, attrs.serial.bytes())?;
     let connect = text_of(alloc, attrs.connect.bytes())?;
     let interfaces = ifaces(alloc, descr)?;
-    let parent_hash = parent_hash_from(alloc, parent)?;
+    let parent_hash = Text::of(alloc, parent_hash)?;
     Ok(DeviceRecord {
         vendor: descr.vendor,
         product: descr.product,
@@ -71,21 +102,4 @@ fn hash_from(attrs: &Attrs, descr: &Descr) -> [u8; 44]
         without_newline(attrs.serial.bytes()),
         attrs.descriptors.bytes(),
     )
-}
-
-#[tactic(auto, unfolding(crate::specs::Records::parent_hash_of))]
-fn parent_hash_from(alloc: Global, parent: Option<&Attrs>) -> Result<Text, NoMemory>
-    ensures { IfOk result (λ text. text ≡ parent_hash_of (option_copied parent.entry)) }
-{
-    let Some(parent) = parent else {
-        return Ok(Text::new(alloc));
-    };
-    if parent.too_long {
-        return Ok(Text::new(alloc));
-    }
-    match decode(alloc, parent.descriptors.bytes()) {
-        Ok(descr) => Text::of(alloc, hash_from(parent, &descr).as_slice()),
-        Err(DescrFault::Malformed { .. }) => Ok(Text::new(alloc)),
-        Err(DescrFault::Memory) => Err(NoMemory),
-    }
 }
