@@ -17,6 +17,7 @@ use Rattle.ug_node.specs.Bind.{binding_of, after_probe, probing, after_parent, t
 use Rattle.ug_node.specs.Bound.{bytes_of, is_too_long}
 use Rattle.ug_node.specs.Removal.{after_hold_probe, after_hold_open, holding}
 use Rattle.ug_node.specs.declared.files.File.{File}
+use Rattle.ug_node.specs.declared.files.OwnFiles.{OwnFiles}
 use Rattle.ug_node.specs.declared.files.Stop.{Stop}
 use Rattle.ug_node.specs.declared.identity.Bound.{Bound}
 use Rattle.ug_node.specs.declared.identity.Binding.{Binding}
@@ -69,7 +70,7 @@ pub data Stops : Attr → Told ReadOut → Stop → Type 0 where
 abbrev pub file_from : ReadOut → File
 file_from answer = record { bytes = bytes_of answer; too_long = is_too_long answer }
 
-abbrev pub own_from : ReadOut → ReadOut → ReadOut → ReadOut → Attrs
+abbrev pub own_from : ReadOut → ReadOut → ReadOut → ReadOut → OwnFiles
 own_from d p s c = own_of (file_from d) (file_from p) (file_from s) (file_from c)
 
 abbrev pub parents_from : ReadOut → ReadOut → ReadOut → Attrs
@@ -83,9 +84,13 @@ abbrev pub reads_parents : List ℕ → Told ReadOut → Told ReadOut → Told R
 reads_parents parent d p s = answered (Read parent Attr.Descriptors) d ∷ answered (Read parent Attr.Product) p ∷ answered (Read parent Attr.Serial) s ∷ []
 
 -- what was read is the attributes, and the parent's where the name has a parent's
-pub data Files (name : List ℕ) : List Made → Attrs → Option Attrs → Type 0 where
+pub data Files (name : List ℕ) : List Made → OwnFiles → Option Attrs → Type 0 where
   Alone : (d p s c : Told ReadOut) → parent_of name ≡ None → Files name (reads_own name d p s c []) (own_from d.answer p.answer s.answer c.answer) None
   Below : (parent : List ℕ) (d p s c x y z : Told ReadOut) → parent_of name ≡ Some parent → Files name (reads_own name d p s c (reads_parents parent x y z)) (own_from d.answer p.answer s.answer c.answer) (Some (parents_from x.answer y.answer z.answer))
+
+-- what a bound device tells of its own files
+abbrev pub own_files : Bound → OwnFiles
+own_files b = record { attrs = b.attrs; core_long = b.core_long }
 
 -- the calls of a binding
 pub data Binds_by (name : List ℕ) : List Made → Binding → Type 0 where
@@ -95,7 +100,7 @@ pub data Binds_by (name : List ℕ) : List Made → Binding → Type 0 where
   Cut : (file : Held) (call count : ℕ) (ms : List Made) (of : List ℕ) (at : Attr) (t : Told ReadOut) (shut : Closing) (why : Stop) (r : Binding) (left : List (List ℕ × Attr)) → Reads name ms → ReadsFirst (files_of name) ms ((of, at) ∷ left) → IsReadable name of → Stops at t why → r ≡ binding_of why → Binds_by name (answered (Open name Authorized) (told (Opened.Token file) call count) ∷ (ms ++ answered (Read of at) t ∷ answered (Close file.0) shut ∷ [])) r
   Probed_gone : (file : Held) (call count number total : ℕ) (ms : List Made) (shut : Closing) → Reads name ms → ReadsFirst (files_of name) ms [] → Binds_by name (answered (Open name Authorized) (told (Opened.Token file) call count) ∷ (ms ++ answered (Ask_alive file.0) (told Probe.Gone number total) ∷ answered (Close file.0) shut ∷ [])) Binding.Vanished
   Probe_failed : (file : Held) (call count number total : ℕ) (ms : List Made) (shut : Closing) → Reads name ms → ReadsFirst (files_of name) ms [] → Binds_by name (answered (Open name Authorized) (told (Opened.Token file) call count) ∷ (ms ++ answered (Ask_alive file.0) (told Probe.Failed number total) ∷ answered (Close file.0) shut ∷ [])) (Binding.Failed (record { call = number; count = total }))
-  Bound_by : (call count number total : ℕ) (ms : List Made) (b : Bound) → Reads name ms → ReadsFirst (files_of name) ms [] → Files name ms b.attrs b.parent → Binds_by name (answered (Open name Authorized) (told (Opened.Token b.held) call count) ∷ (ms ++ answered (Ask_alive b.held.0) (told (Probe.Alive b.on) number total) ∷ [])) (Binding.Bound b)
+  Bound_by : (call count number total : ℕ) (ms : List Made) (b : Bound) → Reads name ms → ReadsFirst (files_of name) ms [] → Files name ms (own_files b) b.parent → Binds_by name (answered (Open name Authorized) (told (Opened.Token b.held) call count) ∷ (ms ++ answered (Ask_alive b.held.0) (told (Probe.Alive b.on) number total) ∷ [])) (Binding.Bound b)
 
 -- and those that open a second file
 pub data Holds_by (control : Control) (name : List ℕ) (held : ℕ) : List Made → RemoveHold → Type 0 where
@@ -155,7 +160,7 @@ then_read of at held f P goes stops = λ t. read_by of at held f P goes stops t.
 abbrev pub Cuts : {X : Type 0} → List (List ℕ × Attr) → List ℕ → List ℕ → ℕ → (Bool → List Made → Result X Stop → Type 0) → Type 0
 Cuts files name of held P = (ms : List Made) (at : Attr) (t : Told ReadOut) (why : Stop) (shut : Closing) (left : List (List ℕ × Attr)) → Reads name ms → ReadsFirst files ms ((of, at) ∷ left) → Stops at t why → P true (ms ++ answered (Read of at) t ∷ answered (Close held) shut ∷ []) (Err why)
 
-pub own_read : (name : List ℕ) (held : ℕ) (files : List (List ℕ × Attr)) (P : Bool → List Made → Result Attrs Stop → Type 0) → ((d p s c : Told ReadOut) → Reads name (reads_own name d p s c []) → ReadsFirst (own_first name files) (reads_own name d p s c []) files → P true (reads_own name d p s c []) (Ok (own_from d.answer p.answer s.answer c.answer))) → Cuts (own_first name files) name name held P → Ways (reading_own name held) P
+pub own_read : (name : List ℕ) (held : ℕ) (files : List (List ℕ × Attr)) (P : Bool → List Made → Result OwnFiles Stop → Type 0) → ((d p s c : Told ReadOut) → Reads name (reads_own name d p s c []) → ReadsFirst (own_first name files) (reads_own name d p s c []) files → P true (reads_own name d p s c []) (Ok (own_from d.answer p.answer s.answer c.answer))) → Cuts (own_first name files) name name held P → Ways (reading_own name held) P
 unfolding reading_own
 own_read name held files P all cut =
     let is : IsReadable name name = inl refl in
@@ -191,11 +196,11 @@ binds_by name = λ t. opened_by t.answer t.number t.count
     After : Held → ℕ → ℕ → List Made → Binding → Type 0
     After file call count ms r = Binds_by name (answered (Open name Authorized) (told (Opened.Token file) call count) ∷ ms) r
 
-    probed : (file : Held) (call count : ℕ) (attrs : Attrs) (parent : Option Attrs) (ms : List Made) → Reads name ms → ReadsFirst (files_of name) ms [] → Files name ms attrs parent → Ways (probing file.0 attrs parent) (Sure (λ ns r. After file call count (ms ++ ns) r))
-    probed file call count attrs parent ms a first are = λ t. by t.answer t.number t.count
+    probed : (file : Held) (call count : ℕ) (own : OwnFiles) (parent : Option Attrs) (ms : List Made) → Reads name ms → ReadsFirst (files_of name) ms [] → Files name ms own parent → Ways (probing file.0 own parent) (Sure (λ ns r. After file call count (ms ++ ns) r))
+    probed file call count own parent ms a first are = λ t. by t.answer t.number t.count
       where
-        by : (r : Probe) (number total : ℕ) → Ways (after_probe file.0 attrs parent r (record { call = number; count = total })) (Sure (λ ns x. After file call count (ms ++ answered (Ask_alive file.0) (told r number total) ∷ ns) x))
-        by (Probe.Alive on) number total = (refl, Bound_by call count number total ms (record { held = record { 0 = file.0 }; attrs = attrs; parent = parent; on = on }) a first are)
+        by : (r : Probe) (number total : ℕ) → Ways (after_probe file.0 own parent r (record { call = number; count = total })) (Sure (λ ns x. After file call count (ms ++ answered (Ask_alive file.0) (told r number total) ∷ ns) x))
+        by (Probe.Alive on) number total = (refl, Bound_by call count number total ms (record { held = record { 0 = file.0 }; attrs = own.attrs; core_long = own.core_long; parent = parent; on = on }) a first are)
         by Probe.Gone number total = λ shut. (refl, Probed_gone file call count number total ms shut a first)
         by Probe.Failed number total = λ shut. (refl, Probe_failed file call count number total ms shut a first)
 

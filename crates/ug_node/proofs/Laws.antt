@@ -24,12 +24,13 @@ use Rattle.ug_kernel.proofs.Held.{live_before, lived_cut}
 use Rattle.ug_kernel.proofs.Sounds.{openable_has}
 use Rattle.ug_kernel.proofs.Told.{told_run}
 use Rattle.ug_kernel.proofs.Ways.{Sure, ways_run, along_split, along_sound, along_grows, Unwritten, unwritten_more, along_quiet}
+use Rattle.ug_node.specs.declared.files.OwnFiles.{OwnFiles}
 use Rattle.ug_node.specs.declared.files.Stop.{Stop}
 use Rattle.ug_node.specs.declared.identity.Bound.{Bound}
 use Rattle.ug_node.specs.declared.identity.Binding.{Binding}
 use Rattle.ug_node.specs.Bind.{binding_of, binding}
-use Rattle.ug_node.specs.Bound.{attrs_of, parent_attrs_of, IsParentRead, IsBoundBy, IsBound, BindSays, IsBinding, Binds, IsFault, TellsFault}
-use Rattle.ug_node.proofs.BindShapes.{told, IsReadable, Came, Reads, No_more, Then_read, Stops, No_descriptors, Read_failed, parents_from, Files, Alone, Below, Binds_by, No_such, Open_failed, Cut, Probed_gone, Probe_failed, Bound_by, binds_by, Holds_by, Not_there, Not_opened, Held_on, Died, Unasked, holds_by}
+use Rattle.ug_node.specs.Bound.{attrs_of, is_core_long, parent_attrs_of, IsParentRead, IsBoundBy, IsBound, BindSays, IsBinding, Binds, IsFault, TellsFault}
+use Rattle.ug_node.proofs.BindShapes.{told, IsReadable, Came, Reads, No_more, Then_read, Stops, No_descriptors, Read_failed, parents_from, Files, Alone, Below, own_files, Binds_by, No_such, Open_failed, Cut, Probed_gone, Probe_failed, Bound_by, binds_by, Holds_by, Not_there, Not_opened, Held_on, Died, Unasked, holds_by}
 use Rattle.ug_kernel.specs.declared.calls.FailedCall.{FailedCall}
 use Rattle.ug_kernel.proofs.Rises.{Counting}
 use Rattle.ug_kernel.proofs.Counted.{Tally, tally, counts, along_counted, counts_never_fall, along_never_falls}
@@ -86,9 +87,13 @@ reads_tell i d e f k l (Then_read of by t ms may came r) a at live s =
       reads_tell i x.0 e f a.0 l r a.2 x.1 live s,
     )
 
-own_is : {name : List ℕ} {ms : List Made} {attrs : Attrs} {parent : Option Attrs} (f : Device) → name ≡ f.name → Files name ms attrs parent → TellOf f ms → attrs ≡ attrs_of f
-own_is f e (Alone d p s c none) h = cc (h.0 e, h.1.0 e, h.1.1.0 e, h.1.1.1.0 e)
-own_is f e (Below parent d p s c x y z above) h = cc (h.0 e, h.1.0 e, h.1.1.0 e, h.1.1.1.0 e)
+-- these are the device's own
+abbrev pub IsOwn : OwnFiles → Device → Type 0
+IsOwn own f = (own.attrs ≡ attrs_of f) × (own.core_long ≡ is_core_long f)
+
+own_is : {name : List ℕ} {ms : List Made} {own : OwnFiles} {parent : Option Attrs} (f : Device) → name ≡ f.name → Files name ms own parent → TellOf f ms → IsOwn own f
+own_is f e (Alone d p s c none) h = (cc (h.0 e, h.1.0 e, h.1.1.0 e, h.1.1.1.0 e), cc (h.0 e, h.1.0 e, h.1.1.0 e))
+own_is f e (Below parent d p s c x y z above) h = (cc (h.0 e, h.1.0 e, h.1.1.0 e, h.1.1.1.0 e), cc (h.0 e, h.1.0 e, h.1.1.0 e))
 
 -- the parent
 
@@ -117,7 +122,7 @@ no_parent k l name i d (Some j) s live named above e =
     let none : ⊥ = cc in absurd none
 
 -- what was read of the parent's name is the parent's
-parents_are : {name : List ℕ} {ms : List Made} {attrs : Attrs} {parent : Option Attrs} (i : ℕ) (d : Device) (u v l : Kernel) → Files name ms attrs parent → Reads name ms → Along calls u ms v → IsKernel u → Quiet v l → Lived u.devices v.devices i d → d.name ≡ name → IsParentRead l d.parent parent
+parents_are : {name : List ℕ} {ms : List Made} {own : OwnFiles} {parent : Option Attrs} (i : ℕ) (d : Device) (u v l : Kernel) → Files name ms own parent → Reads name ms → Along calls u ms v → IsKernel u → Quiet v l → Lived u.devices v.devices i d → d.name ≡ name → IsParentRead l d.parent parent
 parents_are {name} i d u v l (Alone x p s c none) r a sound q lives named = no_parent u l name i d d.parent sound.devices lives.entry named none refl
 parents_are {name} {ms} i d u v l (Below parent x p s c y z w above) r a sound q lives named =
     let g = along_grows ms u v a in
@@ -167,7 +172,7 @@ opened_only name k held w l h g j d lives named =
 -- how it ends
 
 -- by what its attributes and its parent's are
-pub bound_with : (Parents : Kernel → Option ℕ → Option Attrs → Type 0) (name : List ℕ) (k u v l : Kernel) (b : Bound) (h : IsOpenSince name k b.held.0 u) → Quiet u v → ((d e f : Device) → slice_get u.devices h.opens.i ≡ Some d → Live v.devices h.opens.i e → Stays e f → name ≡ f.name → b.attrs ≡ attrs_of f) → ((d : Device) → Lived u.devices v.devices h.opens.i d → d.name ≡ name → Parents l d.parent b.parent) → IsAlive b.held.0 b.on v → Quiet v l → IsBoundBy Parents name k l b
+pub bound_with : (Parents : Kernel → Option ℕ → Option Attrs → Type 0) (name : List ℕ) (k u v l : Kernel) (b : Bound) (h : IsOpenSince name k b.held.0 u) → Quiet u v → ((d e f : Device) → slice_get u.devices h.opens.i ≡ Some d → Live v.devices h.opens.i e → Stays e f → name ≡ f.name → IsOwn (own_files b) f) → ((d : Device) → Lived u.devices v.devices h.opens.i d → d.name ≡ name → Parents l d.parent b.parent) → IsAlive b.held.0 b.on v → Quiet v l → IsBoundBy Parents name k l b
 bound_with Parents name k u v l b h quiet own parents alive q =
     let now : IsOpenSince name k b.held.0 v = record { before = h.before; opening = h.opening; start = h.start; opens = h.opens; quiet = quiet_trans h.opening u v h.quiet quiet; sound = h.sound } in
     let held : HeldFile = record { device = h.opens.i; control = Authorized } in
@@ -179,6 +184,7 @@ bound_with Parents name k u v l b h quiet own parents alive q =
     let e = q.devices h.opens.i alive.d live.at in
     let named = e.2.stays.name ∙ first.1.name ∙ was.2 in
     let new : length k.held ≤ b.held.0 = omega (arith, h.opens.next, ap (λ (fs : List HeldFile). length fs) h.start.held) in
+    let files = own was.0 alive.d e.0 was.1 live e.2.stays (sym named) in
     record {
       i = h.opens.i;
       d = e.0;
@@ -186,14 +192,15 @@ bound_with Parents name k u v l b h quiet own parents alive q =
       file = q.held b.held.0 held file;
       fresh = slice_get_past k.held b.held.0 new;
       named = named;
-      own = own was.0 alive.d e.0 was.1 live e.2.stays (sym named);
+      own = files.0;
+      core_long = files.1;
       parents = subst (λ p. Parents l p b.parent) (sym (e.2.stays.parent ∙ first.1.parent)) (parents was.0 (record { entry = first.0; exit = (alive.d, live) }) was.2);
       value = e.2.on ∙ alive.value;
       lived = record { before = h.before; opening = h.opening; probing = v; start = h.start; opened = h.opens; is = refl; reads = now.quiet; alive = alive; end = q };
       only = opened_only name k b.held.0 v l now (quiet_grows v l q);
     }
 
-bound_law : {name : List ℕ} {ms : List Made} (k u v l : Kernel) (b : Bound) (h : IsOpenSince name k b.held.0 u) → Reads name ms → Files name ms b.attrs b.parent → IsKernel u → Along calls u ms v → IsAlive b.held.0 b.on v → Quiet v l → IsBound name k l b
+bound_law : {name : List ℕ} {ms : List Made} (k u v l : Kernel) (b : Bound) (h : IsOpenSince name k b.held.0 u) → Reads name ms → Files name ms (own_files b) b.parent → IsKernel u → Along calls u ms v → IsAlive b.held.0 b.on v → Quiet v l → IsBound name k l b
 bound_law {name} {ms} k u v l b h reads files sound a alive q =
     bound_with IsParentRead name k u v l b h (along_quiet ms u v (reads_unwritten reads) a)
     (λ d e f at live s named. own_is f named files (reads_tell h.opens.i d e f u v reads a at live s))

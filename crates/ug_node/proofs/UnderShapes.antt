@@ -1,5 +1,5 @@
 -- A binding whose name's parent is held, flat; and its law, by cases on its calls.
-use Rattle.std.proofs.Common.{◌≡◌, ℕ, Bool, ◌&&◌, List, [], ◌∷◌, ◌++◌, Option, Some, None, slice_get, inl, inr, refl, sym, ◌∙◌, ap, subst, append-nil, append_assoc}
+use Rattle.std.proofs.Common.{◌≡◌, ℕ, Bool, true, false, ◌&&◌, List, [], ◌∷◌, ◌++◌, Option, Some, None, is_some, slice_get, inl, inr, refl, sym, ◌∙◌, ap, subst, append-nil, append_assoc}
 use Rattle.ug_types.specs.Names.{parent_of}
 use Rattle.ug_types.specs.declared.record.Attrs.{Attrs}
 use Rattle.ug_types.specs.declared.verdict.Held.{Held}
@@ -25,10 +25,11 @@ use Rattle.ug_kernel.proofs.Counted.{Tally, tally, counts, along_counted}
 use Rattle.ug_kernel.proofs.Ways.{Ways, Sure, ways_then, ways_run, along_split, along_sound, along_grows, Unwritten, unwritten_more, along_quiet}
 use Rattle.ug_node.specs.Bind.{binding_of, after_probe, probing, after_parent, after_asking, after_own_under, after_open_under, binding_under}
 use Rattle.ug_node.specs.Bound.{IsParentRead, SaysBy, IsBindingBy, BindSays, IsFault, TellsFault}
-use Rattle.ug_node.specs.CallOrder.{GoBy, GoByProbe, OnlyCloses, parent_acts, IsBoundOn, own_acts, BehindAsked, GoByAsked, BindsUnderInOrder}
+use Rattle.ug_node.specs.CallOrder.{GoBy, GoByProbe, OnlyCloses, parent_acts, IsBoundOn, own_acts, HasParentFiles, BehindAsked, GoByAsked, BindsUnderInOrder}
 use Rattle.ug_node.specs.Files.{reading_own, reading_parent}
 use Rattle.ug_node.specs.Removal.{IsAuthorizedFile}
 use Rattle.ug_node.specs.Under.{IsParentKept, BindsUnder}
+use Rattle.ug_node.specs.declared.files.OwnFiles.{OwnFiles}
 use Rattle.ug_node.specs.declared.files.Stop.{Stop}
 use Rattle.ug_node.specs.declared.identity.Bound.{Bound}
 use Rattle.ug_node.specs.declared.identity.Binding.{Binding}
@@ -37,15 +38,15 @@ use Rattle.ug_node.proofs.CallOrders.{reads_go, stops_end}
 use Rattle.ug_node.proofs.Laws.{reads_unwritten, reads_tell, open_since, bound_with, gone_law, stop_says, binds_say, fault_so, ends_closed, stop_tells, file_later, holds_is}
 
 -- the last probe
-pub data Probed_by (file : Held) (attrs : Attrs) (parent : Option Attrs) : List Made → Binding → Type 0 where
-  Found_alive : (on : Bool) (number total : ℕ) → Probed_by file attrs parent (answered (Ask_alive file.0) (told (Probe.Alive on) number total) ∷ []) (Binding.Bound (record { held = record { 0 = file.0 }; attrs = attrs; parent = parent; on = on }))
-  Found_gone : (number total : ℕ) (shut : Closing) → Probed_by file attrs parent (answered (Ask_alive file.0) (told Probe.Gone number total) ∷ answered (Close file.0) shut ∷ []) Binding.Vanished
-  Found_none : (number total : ℕ) (shut : Closing) → Probed_by file attrs parent (answered (Ask_alive file.0) (told Probe.Failed number total) ∷ answered (Close file.0) shut ∷ []) (Binding.Failed (record { call = number; count = total }))
+pub data Probed_by (file : Held) (own : OwnFiles) (parent : Option Attrs) : List Made → Binding → Type 0 where
+  Found_alive : (on : Bool) (number total : ℕ) → Probed_by file own parent (answered (Ask_alive file.0) (told (Probe.Alive on) number total) ∷ []) (Binding.Bound (record { held = record { 0 = file.0 }; attrs = own.attrs; core_long = own.core_long; parent = parent; on = on }))
+  Found_gone : (number total : ℕ) (shut : Closing) → Probed_by file own parent (answered (Ask_alive file.0) (told Probe.Gone number total) ∷ answered (Close file.0) shut ∷ []) Binding.Vanished
+  Found_none : (number total : ℕ) (shut : Closing) → Probed_by file own parent (answered (Ask_alive file.0) (told Probe.Failed number total) ∷ answered (Close file.0) shut ∷ []) (Binding.Failed (record { call = number; count = total }))
 
 -- the parent's files, and that probe
-pub data Behind_by (name parent : List ℕ) (file : Held) (attrs : Attrs) : List Made → Binding → Type 0 where
-  Cut_behind : (ms : List Made) (at : Attr) (t : Told ReadOut) (shut : Closing) (why : Stop) (r : Binding) (left : List (List ℕ × Attr)) → Reads name ms → ReadsFirst (parent_files (Some parent)) ms ((parent, at) ∷ left) → Stops at t why → r ≡ binding_of why → Behind_by name parent file attrs (ms ++ answered (Read parent at) t ∷ answered (Close file.0) shut ∷ []) r
-  Read_behind : (x y z : Told ReadOut) (ns : List Made) (r : Binding) → Reads name (reads_parents parent x y z) → ReadsFirst (parent_files (Some parent)) (reads_parents parent x y z) [] → Probed_by file attrs (Some (parents_from x.answer y.answer z.answer)) ns r → Behind_by name parent file attrs (reads_parents parent x y z ++ ns) r
+pub data Behind_by (name parent : List ℕ) (file : Held) (own : OwnFiles) : List Made → Binding → Type 0 where
+  Cut_behind : (ms : List Made) (at : Attr) (t : Told ReadOut) (shut : Closing) (why : Stop) (r : Binding) (left : List (List ℕ × Attr)) → Reads name ms → ReadsFirst (parent_files (Some parent)) ms ((parent, at) ∷ left) → Stops at t why → r ≡ binding_of why → Behind_by name parent file own (ms ++ answered (Read parent at) t ∷ answered (Close file.0) shut ∷ []) r
+  Read_behind : (x y z : Told ReadOut) (ns : List Made) (r : Binding) → Reads name (reads_parents parent x y z) → ReadsFirst (parent_files (Some parent)) (reads_parents parent x y z) [] → Probed_by file own (Some (parents_from x.answer y.answer z.answer)) ns r → Behind_by name parent file own (reads_parents parent x y z ++ ns) r
 
 -- a probe that didn't find the device alive
 abbrev pub IsntAlive : Probe → Type 0
@@ -56,8 +57,8 @@ IsntAlive Probe.Failed = Unit {0}
 abbrev OwnRead : List ℕ → Told ReadOut → Told ReadOut → Told ReadOut → Told ReadOut → Type 0
 OwnRead name d p s c = Reads name (reads_own name d p s c []) × ReadsFirst (own_first name []) (reads_own name d p s c []) []
 
-abbrev own_attrs : Told ReadOut → Told ReadOut → Told ReadOut → Told ReadOut → Attrs
-own_attrs d p s c = own_from d.answer p.answer s.answer c.answer
+abbrev own_told : Told ReadOut → Told ReadOut → Told ReadOut → Told ReadOut → OwnFiles
+own_told d p s c = own_from d.answer p.answer s.answer c.answer
 
 -- the calls of a binding under that file
 pub data Under_by (name parent : List ℕ) (kept : ℕ) : List Made → Binding → Type 0 where
@@ -65,8 +66,8 @@ pub data Under_by (name parent : List ℕ) (kept : ℕ) : List Made → Binding 
   Under_unopened : (call count : ℕ) → Under_by name parent kept (answered (Open name Authorized) (told Opened.Failed call count) ∷ []) (Binding.Failed (record { call = call; count = count }))
   Under_short : (call count : ℕ) → Under_by name parent kept (answered (Open name Authorized) (told Opened.Memory call count) ∷ []) Binding.Memory
   Under_cut : (file : Held) (call count : ℕ) (ms : List Made) (at : Attr) (t : Told ReadOut) (shut : Closing) (why : Stop) (r : Binding) (left : List (List ℕ × Attr)) → Reads name ms → ReadsFirst (own_first name []) ms ((name, at) ∷ left) → Stops at t why → r ≡ binding_of why → Under_by name parent kept (answered (Open name Authorized) (told (Opened.Token file) call count) ∷ (ms ++ answered (Read name at) t ∷ answered (Close file.0) shut ∷ [])) r
-  Under_alive : (file : Held) (call count : ℕ) (d p s c : Told ReadOut) (on : Bool) (number total : ℕ) (ns : List Made) (r : Binding) → OwnRead name d p s c → Probed_by file (own_attrs d p s c) None ns r → Under_by name parent kept (answered (Open name Authorized) (told (Opened.Token file) call count) ∷ reads_own name d p s c (answered (Ask_alive kept) (told (Probe.Alive on) number total) ∷ ns)) r
-  Under_other : (file : Held) (call count : ℕ) (d p s c : Told ReadOut) (t : Told Probe) (ns : List Made) (r : Binding) → IsntAlive t.answer → OwnRead name d p s c → Behind_by name parent file (own_attrs d p s c) ns r → Under_by name parent kept (answered (Open name Authorized) (told (Opened.Token file) call count) ∷ reads_own name d p s c (answered (Ask_alive kept) t ∷ ns)) r
+  Under_alive : (file : Held) (call count : ℕ) (d p s c : Told ReadOut) (on : Bool) (number total : ℕ) (ns : List Made) (r : Binding) → OwnRead name d p s c → Probed_by file (own_told d p s c) None ns r → Under_by name parent kept (answered (Open name Authorized) (told (Opened.Token file) call count) ∷ reads_own name d p s c (answered (Ask_alive kept) (told (Probe.Alive on) number total) ∷ ns)) r
+  Under_other : (file : Held) (call count : ℕ) (d p s c : Told ReadOut) (t : Told Probe) (ns : List Made) (r : Binding) → IsntAlive t.answer → OwnRead name d p s c → Behind_by name parent file (own_told d p s c) ns r → Under_by name parent kept (answered (Open name Authorized) (told (Opened.Token file) call count) ∷ reads_own name d p s c (answered (Ask_alive kept) t ∷ ns)) r
 
 -- the walk
 
@@ -74,25 +75,25 @@ pub under_by : (name parent : List ℕ) (kept : ℕ) → parent_of name ≡ Some
 unfolding binding_under
 under_by name parent kept above = λ t. opened_by t.answer t.number t.count
   where
-    probed : (file : Held) (attrs : Attrs) (p : Option Attrs) (Q : List Made → Binding → Type 0) → ((ns : List Made) (r : Binding) → Probed_by file attrs p ns r → Q ns r) → Ways (probing file.0 attrs p) (Sure Q)
-    probed file attrs p Q give = λ t. by t.answer t.number t.count
+    probed : (file : Held) (own : OwnFiles) (p : Option Attrs) (Q : List Made → Binding → Type 0) → ((ns : List Made) (r : Binding) → Probed_by file own p ns r → Q ns r) → Ways (probing file.0 own p) (Sure Q)
+    probed file own p Q give = λ t. by t.answer t.number t.count
       where
-        by : (r : Probe) (number total : ℕ) → Ways (after_probe file.0 attrs p r (record { call = number; count = total })) (Sure (λ ns x. Q (answered (Ask_alive file.0) (told r number total) ∷ ns) x))
+        by : (r : Probe) (number total : ℕ) → Ways (after_probe file.0 own p r (record { call = number; count = total })) (Sure (λ ns x. Q (answered (Ask_alive file.0) (told r number total) ∷ ns) x))
         by (Probe.Alive on) number total = (refl, give _ _ (Found_alive on number total))
         by Probe.Gone number total = λ shut. (refl, give _ _ (Found_gone number total shut))
         by Probe.Failed number total = λ shut. (refl, give _ _ (Found_none number total shut))
 
-    behind : (file : Held) (attrs : Attrs) (Q : List Made → Binding → Type 0) → ((ns : List Made) (r : Binding) → Behind_by name parent file attrs ns r → Q ns r) → Ways (then (reading_parent parent file.0) (after_parent file.0 attrs)) (Sure Q)
-    behind file attrs Q give =
-        ways_then (Sure Q) (reading_parent parent file.0) (after_parent file.0 attrs)
-        (parent_read name parent file.0 (inr above) (λ ok ms q. Ways (after_parent file.0 attrs q) (λ more ns r. Sure Q (ok && more) (ms ++ ns) r))
-        (λ x y z b g. probed file attrs (Some (parents_from x.answer y.answer z.answer)) (λ ns r. Q (reads_parents parent x y z ++ ns) r) (λ ns r h. give _ _ (Read_behind x y z ns r b g h)))
+    behind : (file : Held) (own : OwnFiles) (Q : List Made → Binding → Type 0) → ((ns : List Made) (r : Binding) → Behind_by name parent file own ns r → Q ns r) → Ways (then (reading_parent parent file.0) (after_parent file.0 own)) (Sure Q)
+    behind file own Q give =
+        ways_then (Sure Q) (reading_parent parent file.0) (after_parent file.0 own)
+        (parent_read name parent file.0 (inr above) (λ ok ms q. Ways (after_parent file.0 own q) (λ more ns r. Sure Q (ok && more) (ms ++ ns) r))
+        (λ x y z b g. probed file own (Some (parents_from x.answer y.answer z.answer)) (λ ns r. Q (reads_parents parent x y z ++ ns) r) (λ ns r h. give _ _ (Read_behind x y z ns r b g h)))
         (λ ms at t why shut left b g stops. (refl, subst (λ (v : List Made). Q v (binding_of why)) (sym (append-nil (ms ++ answered (Read parent at) t ∷ answered (Close file.0) shut ∷ []))) (give _ _ (Cut_behind ms at t shut why (binding_of why) left b g stops refl)))))
 
-    asked : (file : Held) (call count : ℕ) (d p s c : Told ReadOut) → OwnRead name d p s c → (r : Probe) (number total : ℕ) → Ways (after_asking file.0 (own_attrs d p s c) parent r) (Sure (λ ns x. Under_by name parent kept (answered (Open name Authorized) (told (Opened.Token file) call count) ∷ reads_own name d p s c (answered (Ask_alive kept) (told r number total) ∷ ns)) x))
-    asked file call count d p s c own (Probe.Alive on) number total = probed file (own_attrs d p s c) None (λ ns x. Under_by name parent kept (answered (Open name Authorized) (told (Opened.Token file) call count) ∷ reads_own name d p s c (answered (Ask_alive kept) (told (Probe.Alive on) number total) ∷ ns)) x) (λ ns r h. Under_alive file call count d p s c on number total ns r own h)
-    asked file call count d p s c own Probe.Gone number total = behind file (own_attrs d p s c) (λ ns x. Under_by name parent kept (answered (Open name Authorized) (told (Opened.Token file) call count) ∷ reads_own name d p s c (answered (Ask_alive kept) (told Probe.Gone number total) ∷ ns)) x) (λ ns r h. Under_other file call count d p s c (told Probe.Gone number total) ns r tt own h)
-    asked file call count d p s c own Probe.Failed number total = behind file (own_attrs d p s c) (λ ns x. Under_by name parent kept (answered (Open name Authorized) (told (Opened.Token file) call count) ∷ reads_own name d p s c (answered (Ask_alive kept) (told Probe.Failed number total) ∷ ns)) x) (λ ns r h. Under_other file call count d p s c (told Probe.Failed number total) ns r tt own h)
+    asked : (file : Held) (call count : ℕ) (d p s c : Told ReadOut) → OwnRead name d p s c → (r : Probe) (number total : ℕ) → Ways (after_asking file.0 (own_told d p s c) parent r) (Sure (λ ns x. Under_by name parent kept (answered (Open name Authorized) (told (Opened.Token file) call count) ∷ reads_own name d p s c (answered (Ask_alive kept) (told r number total) ∷ ns)) x))
+    asked file call count d p s c own (Probe.Alive on) number total = probed file (own_told d p s c) None (λ ns x. Under_by name parent kept (answered (Open name Authorized) (told (Opened.Token file) call count) ∷ reads_own name d p s c (answered (Ask_alive kept) (told (Probe.Alive on) number total) ∷ ns)) x) (λ ns r h. Under_alive file call count d p s c on number total ns r own h)
+    asked file call count d p s c own Probe.Gone number total = behind file (own_told d p s c) (λ ns x. Under_by name parent kept (answered (Open name Authorized) (told (Opened.Token file) call count) ∷ reads_own name d p s c (answered (Ask_alive kept) (told Probe.Gone number total) ∷ ns)) x) (λ ns r h. Under_other file call count d p s c (told Probe.Gone number total) ns r tt own h)
+    asked file call count d p s c own Probe.Failed number total = behind file (own_told d p s c) (λ ns x. Under_by name parent kept (answered (Open name Authorized) (told (Opened.Token file) call count) ∷ reads_own name d p s c (answered (Ask_alive kept) (told Probe.Failed number total) ∷ ns)) x) (λ ns r h. Under_other file call count d p s c (told Probe.Failed number total) ns r tt own h)
 
     After : Held → ℕ → ℕ → List Made → Binding → Type 0
     After file call count ms r = Under_by name parent kept (answered (Open name Authorized) (told (Opened.Token file) call count) ∷ ms) r
@@ -109,12 +110,12 @@ under_by name parent kept above = λ t. opened_by t.answer t.number t.count
 
 -- nothing is written
 
-probed_unwritten : {file : Held} {attrs : Attrs} {parent : Option Attrs} {ms : List Made} {r : Binding} → Probed_by file attrs parent ms r → Unwritten ms
+probed_unwritten : {file : Held} {own : OwnFiles} {parent : Option Attrs} {ms : List Made} {r : Binding} → Probed_by file own parent ms r → Unwritten ms
 probed_unwritten (Found_alive on number total) = (tt, tt)
 probed_unwritten (Found_gone number total shut) = (tt, (tt, tt))
 probed_unwritten (Found_none number total shut) = (tt, (tt, tt))
 
-behind_unwritten : {name parent : List ℕ} {file : Held} {attrs : Attrs} {ms : List Made} {r : Binding} → Behind_by name parent file attrs ms r → Unwritten ms
+behind_unwritten : {name parent : List ℕ} {file : Held} {own : OwnFiles} {ms : List Made} {r : Binding} → Behind_by name parent file own ms r → Unwritten ms
 behind_unwritten (Cut_behind ms at t shut why r left a first stops e) = unwritten_more ms _ (reads_unwritten a) (tt, (tt, tt))
 behind_unwritten (Read_behind x y z ns r a first h) = (tt, (tt, (tt, probed_unwritten h)))
 
@@ -151,18 +152,18 @@ first_with : {fs left : List (List ℕ × Attr)} {ms : List Made} (gs : List (Li
 first_with gs (None_read files) = None_read (files ++ gs)
 first_with gs (One_read of at t ms files left came a) = One_read of at t ms (files ++ gs) (left ++ gs) came (first_with gs a)
 
-binds_behind : {name parent : List ℕ} {file : Held} {ns : List Made} {r : Binding} (call count : ℕ) (d p s c : Told ReadOut) → parent_of name ≡ Some parent → OwnRead name d p s c → Behind_by name parent file (own_attrs d p s c) ns r → Binds_by name (answered (Open name Authorized) (told (Opened.Token file) call count) ∷ reads_own name d p s c ns) r
+binds_behind : {name parent : List ℕ} {file : Held} {ns : List Made} {r : Binding} (call count : ℕ) (d p s c : Told ReadOut) → parent_of name ≡ Some parent → OwnRead name d p s c → Behind_by name parent file (own_told d p s c) ns r → Binds_by name (answered (Open name Authorized) (told (Opened.Token file) call count) ∷ reads_own name d p s c ns) r
 binds_behind {name} {parent} {file} call count d p s c above own h = by h
   where
     first : ReadsFirst (files_of name) (reads_own name d p s c []) (parent_files (Some parent))
     first = subst (λ (o : Option (List ℕ)). ReadsFirst (own_first name (parent_files o)) (reads_own name d p s c []) (parent_files (Some parent))) (sym above) (first_with (parent_files (Some parent)) own.1)
 
-    last : {ns : List Made} {r : Binding} (x y z : Told ReadOut) → Reads name (reads_parents parent x y z) → ReadsFirst (parent_files (Some parent)) (reads_parents parent x y z) [] → Probed_by file (own_attrs d p s c) (Some (parents_from x.answer y.answer z.answer)) ns r → Binds_by name (answered (Open name Authorized) (told (Opened.Token file) call count) ∷ reads_own name d p s c (reads_parents parent x y z ++ ns)) r
-    last x y z b g (Found_alive on number total) = Bound_by call count number total (reads_own name d p s c (reads_parents parent x y z)) (record { held = record { 0 = file.0 }; attrs = own_attrs d p s c; parent = Some (parents_from x.answer y.answer z.answer); on = on }) (reads_more own.0 b) (first_more first g) (Below parent d p s c x y z above)
+    last : {ns : List Made} {r : Binding} (x y z : Told ReadOut) → Reads name (reads_parents parent x y z) → ReadsFirst (parent_files (Some parent)) (reads_parents parent x y z) [] → Probed_by file (own_told d p s c) (Some (parents_from x.answer y.answer z.answer)) ns r → Binds_by name (answered (Open name Authorized) (told (Opened.Token file) call count) ∷ reads_own name d p s c (reads_parents parent x y z ++ ns)) r
+    last x y z b g (Found_alive on number total) = Bound_by call count number total (reads_own name d p s c (reads_parents parent x y z)) (record { held = record { 0 = file.0 }; attrs = (own_told d p s c).attrs; core_long = (own_told d p s c).core_long; parent = Some (parents_from x.answer y.answer z.answer); on = on }) (reads_more own.0 b) (first_more first g) (Below parent d p s c x y z above)
     last x y z b g (Found_gone number total shut) = Probed_gone file call count number total (reads_own name d p s c (reads_parents parent x y z)) shut (reads_more own.0 b) (first_more first g)
     last x y z b g (Found_none number total shut) = Probe_failed file call count number total (reads_own name d p s c (reads_parents parent x y z)) shut (reads_more own.0 b) (first_more first g)
 
-    by : {ns : List Made} {r : Binding} → Behind_by name parent file (own_attrs d p s c) ns r → Binds_by name (answered (Open name Authorized) (told (Opened.Token file) call count) ∷ reads_own name d p s c ns) r
+    by : {ns : List Made} {r : Binding} → Behind_by name parent file (own_told d p s c) ns r → Binds_by name (answered (Open name Authorized) (told (Opened.Token file) call count) ∷ reads_own name d p s c ns) r
     by (Cut_behind ms at t shut why r left b g stops e) = Cut file call count (reads_own name d p s c ms) parent at t shut why r left (reads_more own.0 b) (first_more first g) (inr above) stops e
     by (Read_behind x y z ns r b g h) = last x y z b g h
 
@@ -171,8 +172,8 @@ abbrev HasParent : Binding → Type 0
 HasParent (Binding.Bound b) = (x : Attrs) × (b.parent ≡ Some x)
 HasParent r = Unit {0}
 
-probed_parent : {file : Held} {attrs x : Attrs} {ns : List Made} {r : Binding} → Probed_by file attrs (Some x) ns r → HasParent r
-probed_parent {file} {attrs} {x} (Found_alive on number total) = (x, refl)
+probed_parent : {file : Held} {own : OwnFiles} {x : Attrs} {ns : List Made} {r : Binding} → Probed_by file own (Some x) ns r → HasParent r
+probed_parent {file} {own} {x} (Found_alive on number total) = (x, refl)
 probed_parent (Found_gone number total shut) = tt
 probed_parent (Found_none number total shut) = tt
 
@@ -181,7 +182,7 @@ stop_parent Stop.Vanished = tt
 stop_parent (Stop.Fault failed) = tt
 stop_parent Stop.Memory = tt
 
-behind_parent : {name parent : List ℕ} {file : Held} {attrs : Attrs} {ns : List Made} {r : Binding} → Behind_by name parent file attrs ns r → HasParent r
+behind_parent : {name parent : List ℕ} {file : Held} {own : OwnFiles} {ns : List Made} {r : Binding} → Behind_by name parent file own ns r → HasParent r
 behind_parent (Cut_behind ms at t shut why r left a first stops e) = subst HasParent (sym e) (stop_parent why)
 behind_parent (Read_behind x y z ns r a first h) = probed_parent h
 
@@ -194,6 +195,7 @@ kept_says kept name k l (Binding.Bound b) p h = record {
   fresh = h.fresh;
   named = h.named;
   own = h.own;
+  core_long = h.core_long;
   parents = subst (λ (o : Option Attrs). IsParentKept kept l h.d.parent o) (sym p.1) (subst (λ (o : Option Attrs). IsParentRead l h.d.parent o) p.1 h.parents);
   value = h.value;
   lived = h.lived;
@@ -232,7 +234,7 @@ parent_is name parent kept i j on k u x v l above f to before behind after sound
     let is = kept_parent x name parent i j own alive.d own.parent sound.devices mid.1.1.entry (stays.name ∙ named) above live bears refl in
     (j, sym stays.parent ∙ is, after.held kept (record { device = j; control = Authorized }) now.file)
 
-alive_says : {name : List ℕ} (parent : List ℕ) (kept j : ℕ) (k l : Kernel) (file : Held) (call count : ℕ) (d p s c : Told ReadOut) (on : Bool) (number total : ℕ) {ns : List Made} {r : Binding} → parent_of name ≡ Some parent → IsAuthorizedFile k parent kept j → OwnRead name d p s c → Probed_by file (own_attrs d p s c) None ns r → Along calls k (answered (Open name Authorized) (told (Opened.Token file) call count) ∷ reads_own name d p s c (answered (Ask_alive kept) (told (Probe.Alive on) number total) ∷ ns)) l → SaysBy (IsParentKept kept) name k l r
+alive_says : {name : List ℕ} (parent : List ℕ) (kept j : ℕ) (k l : Kernel) (file : Held) (call count : ℕ) (d p s c : Told ReadOut) (on : Bool) (number total : ℕ) {ns : List Made} {r : Binding} → parent_of name ≡ Some parent → IsAuthorizedFile k parent kept j → OwnRead name d p s c → Probed_by file (own_told d p s c) None ns r → Along calls k (answered (Open name Authorized) (told (Opened.Token file) call count) ∷ reads_own name d p s c (answered (Ask_alive kept) (told (Probe.Alive on) number total) ∷ ns)) l → SaysBy (IsParentKept kept) name k l r
 alive_says {name} parent kept j k l file call count d p s c on number total {ns} {r} above f own h a = by h b.2.2.2.2.2
   where
     u : Kernel
@@ -266,17 +268,17 @@ alive_says {name} parent kept j k l file call count d p s c on number total {ns}
     to : Grows k x
     to = grows_trans k u x (called_grows (Open name Authorized) (told (Opened.Token file) call count) k u a.1) (along_grows ours u x reads)
 
-    by : {ns : List Made} {r : Binding} → Probed_by file (own_attrs d p s c) None ns r → Along calls y ns l → SaysBy (IsParentKept kept) name k l r
+    by : {ns : List Made} {r : Binding} → Probed_by file (own_told d p s c) None ns r → Along calls y ns l → SaysBy (IsParentKept kept) name k l r
     by (Found_alive is n t) rest =
         let last : List Made = answered (Ask_alive file.0) (told (Probe.Alive is) n t) ∷ [] in
         let q = along_quiet last y l (tt, tt) rest in
         let since = open_since name file call count k u u a.1 (quiet_refl u) in
-        bound_with (IsParentKept kept) name k u y l (record { held = record { 0 = file.0 }; attrs = own_attrs d p s c; parent = None; on = is }) since quiet
+        bound_with (IsParentKept kept) name k u y l (record { held = record { 0 = file.0 }; attrs = (own_told d p s c).attrs; core_long = (own_told d p s c).core_long; parent = None; on = is }) since quiet
         (λ g e z at live stays named.
         let m = (along_grows ours u x reads).devices since.opens.i g at in
         let later = live_before x y since.opens.i m.0 e passed m.1 live in
         let tell = reads_tell since.opens.i g m.0 z u x own.0 reads at later.0 (stays_trans m.0 e z later.1 stays) in
-        cc (tell.0 named, tell.1.0 named, tell.1.1.0 named, tell.1.1.1.0 named))
+        (cc (tell.0 named, tell.1.0 named, tell.1.1.0 named, tell.1.1.1.0 named), cc (tell.0 named, tell.1.0 named, tell.1.1.0 named)))
         (λ g lives named. parent_is name parent kept since.opens.i j on k u x y l above f to (along_grows ours u x reads) passed (grows_trans x y l passed (quiet_grows y l q)) (along_sound ours u x a.1.sound reads) asked.says g lives named)
         rest.1.says q
     by (Found_gone n t shut) rest =
@@ -318,12 +320,12 @@ told_under gives told did name parent kept s r t above runs = λ l e.
 
 -- the numbers of a failed answer
 
-probed_tell : {file : Held} {attrs : Attrs} {parent : Option Attrs} {ns : List Made} {r : Binding} (front : List Made) (v w : Tally) → Probed_by file attrs parent ns r → Along counts v (front ++ ns) w → TellsFault v.faults w.calls w.faults r
+probed_tell : {file : Held} {own : OwnFiles} {parent : Option Attrs} {ns : List Made} {r : Binding} (front : List Made) (v w : Tally) → Probed_by file own parent ns r → Along counts v (front ++ ns) w → TellsFault v.faults w.calls w.faults r
 probed_tell front v w (Found_alive on number total) a = tt
 probed_tell front v w (Found_gone number total shut) a = tt
 probed_tell {file} front v w (Found_none number total shut) a = ends_closed front (answered (Ask_alive file.0) (told Probe.Failed number total)) file.0 shut (record { call = number; count = total }) v w (λ x y c. fault_so failed_probe (told Probe.Failed number total) x y refl c) a
 
-behind_tells : {name parent : List ℕ} {file : Held} {attrs : Attrs} {ns : List Made} {r : Binding} (front : List Made) (v w : Tally) → Behind_by name parent file attrs ns r → Along counts v (front ++ ns) w → TellsFault v.faults w.calls w.faults r
+behind_tells : {name parent : List ℕ} {file : Held} {own : OwnFiles} {ns : List Made} {r : Binding} (front : List Made) (v w : Tally) → Behind_by name parent file own ns r → Along counts v (front ++ ns) w → TellsFault v.faults w.calls w.faults r
 behind_tells {name} {parent} {file} front v w (Cut_behind ms at t shut why r left b g stops e) a =
     let flat = sym (append_assoc front ms (answered (Read parent at) t ∷ answered (Close file.0) shut ∷ [])) in
     subst (λ (x : Binding). TellsFault v.faults w.calls w.faults x) (sym e) (stop_tells (front ++ ms) parent file.0 shut v w stops (subst (λ (os : List Made). Along counts v os w) flat a))
@@ -345,26 +347,39 @@ under_fault gives calls faults counted name parent kept s r t above runs =
 
 -- the order of the calls
 
-last_order : {file : Held} {attrs : Attrs} {parent : Option Attrs} {ns : List Made} {r : Binding} → Probed_by file attrs parent ns r → GoByProbe (IsBoundOn r) OnlyCloses ns
+last_order : {file : Held} {own : OwnFiles} {parent : Option Attrs} {ns : List Made} {r : Binding} → Probed_by file own parent ns r → GoByProbe (IsBoundOn r) OnlyCloses ns
 last_order (Found_alive on number total) = (refl, refl)
 last_order (Found_gone number total shut) = (refl, tt)
 last_order (Found_none number total shut) = (refl, tt)
 
-parent_order : {name parent : List ℕ} {file : Held} {attrs : Attrs} {ns : List Made} {r : Binding} → Behind_by name parent file attrs ns r → GoBy (parent_acts (Some parent)) (GoByProbe (IsBoundOn r) OnlyCloses) ns
+parent_order : {name parent : List ℕ} {file : Held} {own : OwnFiles} {ns : List Made} {r : Binding} → Behind_by name parent file own ns r → GoBy (parent_acts (Some parent)) (GoByProbe (IsBoundOn r) OnlyCloses) ns
 parent_order {name} {parent} {file} (Cut_behind ms at t shut why r left a first stops e) = reads_go (GoByProbe (IsBoundOn r) OnlyCloses) (answered (Read parent at) t ∷ answered (Close file.0) shut ∷ []) first (refl, inr (stops_end stops, (refl, tt)))
 parent_order (Read_behind x y z ns r a first h) = reads_go (GoByProbe (IsBoundOn r) OnlyCloses) ns first (last_order h)
 
-isnt_behind : (name : List ℕ) (r : Binding) (p : Probe) (ns : List Made) → IsntAlive p → GoBy (parent_acts (parent_of name)) (GoByProbe (IsBoundOn r) OnlyCloses) ns → BehindAsked name r p ns
+-- whether there are attributes of the parent
+without_files : {file : Held} {own : OwnFiles} {ns : List Made} {r : Binding} → Probed_by file own None ns r → HasParentFiles false r
+without_files (Found_alive on number total) = refl
+without_files (Found_gone number total shut) = tt
+without_files (Found_none number total shut) = tt
+
+with_files : (r : Binding) → HasParent r → HasParentFiles true r
+with_files (Binding.Bound b) h = ap (λ (o : Option Attrs). is_some o) h.1
+with_files Binding.Absent h = tt
+with_files Binding.Vanished h = tt
+with_files (Binding.Failed failed) h = tt
+with_files Binding.Memory h = tt
+
+isnt_behind : (name : List ℕ) (r : Binding) (p : Probe) (ns : List Made) → IsntAlive p → HasParentFiles true r × GoBy (parent_acts (parent_of name)) (GoByProbe (IsBoundOn r) OnlyCloses) ns → BehindAsked name r p ns
 isnt_behind name r (Probe.Alive on) ns isnt h = absurd isnt
 isnt_behind name r Probe.Gone ns isnt h = h
 isnt_behind name r Probe.Failed ns isnt h = h
 
 under_order : {name parent : List ℕ} {kept : ℕ} {ms : List Made} {r : Binding} → parent_of name ≡ Some parent → Under_by name parent kept ms r → GoBy (own_acts name []) (GoByAsked name kept r) ms
 under_order {name} {parent} {kept} above (Under_cut file call count ms at t shut why r left a first stops e) = (refl, inl (refl, reads_go (GoByAsked name kept r) (answered (Read name at) t ∷ answered (Close file.0) shut ∷ []) first (refl, inr (stops_end stops, (refl, tt)))))
-under_order {name} {parent} {kept} above (Under_alive file call count d p s c on number total ns r own h) = (refl, inl (refl, reads_go (GoByAsked name kept r) (answered (Ask_alive kept) (told (Probe.Alive on) number total) ∷ ns) own.1 (refl, last_order h)))
+under_order {name} {parent} {kept} above (Under_alive file call count d p s c on number total ns r own h) = (refl, inl (refl, reads_go (GoByAsked name kept r) (answered (Ask_alive kept) (told (Probe.Alive on) number total) ∷ ns) own.1 (refl, (without_files h, last_order h))))
 under_order {name} {parent} {kept} above (Under_other file call count d p s c t ns r isnt own h) =
     let reads = subst (λ (o : Option (List ℕ)). GoBy (parent_acts o) (GoByProbe (IsBoundOn r) OnlyCloses) ns) (sym above) (parent_order h) in
-    (refl, inl (refl, reads_go (GoByAsked name kept r) (answered (Ask_alive kept) t ∷ ns) own.1 (refl, isnt_behind name r t.answer ns isnt reads)))
+    (refl, inl (refl, reads_go (GoByAsked name kept r) (answered (Ask_alive kept) t ∷ ns) own.1 (refl, isnt_behind name r t.answer ns isnt (with_files r (behind_parent h), reads))))
 under_order above x = (refl, inr (refl, tt))
 
 pub under_in_order : {S : Type 0} (gives : S → (call : Call) → Answer call → S → Type 0) (name parent : List ℕ) (kept : ℕ) (s : S) (r : Binding) (t : S) → parent_of name ≡ Some parent → Runs gives s (binding_under name parent kept) r t → BindsUnderInOrder gives s name kept r t

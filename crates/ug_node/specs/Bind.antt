@@ -11,6 +11,7 @@ use Rattle.ug_kernel.specs.Calls.{Open, Ask_alive, Close}
 use Rattle.ug_kernel.specs.Along.{failure_of}
 use Rattle.ug_kernel.specs.Tree.{Prog, Return, Ask, then}
 use Rattle.ug_node.specs.Files.{reading_own, reading_parent}
+use Rattle.ug_node.specs.declared.files.OwnFiles.{OwnFiles}
 use Rattle.ug_node.specs.declared.files.Stop.{Stop}
 use Rattle.ug_node.specs.declared.files.Stop.TheVariants as stop
 use Rattle.ug_node.specs.declared.identity.Binding.{Binding}
@@ -25,27 +26,32 @@ binding_of stop.Memory = bound.Memory
 abbrev pub closing : ℕ → Binding → Prog Binding
 closing held answer = Ask (Close held) (λ closed. Return answer)
 
-abbrev pub after_probe : ℕ → Attrs → Option Attrs → Probe → FailedCall → Prog Binding
-after_probe held attrs parent (probe.Alive on) failed =
-    Return (bound.Bound
-    (record { held = record { 0 = held }; attrs = attrs; parent = parent; on = on }))
-after_probe held attrs parent probe.Gone failed = closing held bound.Vanished
-after_probe held attrs parent probe.Failed failed = closing held (bound.Failed failed)
+abbrev pub after_probe : ℕ → OwnFiles → Option Attrs → Probe → FailedCall → Prog Binding
+after_probe held own parent (probe.Alive on) failed =
+    Return (bound.Bound (record {
+      held = record { 0 = held };
+      attrs = own.attrs;
+      core_long = own.core_long;
+      parent = parent;
+      on = on;
+    }))
+after_probe held own parent probe.Gone failed = closing held bound.Vanished
+after_probe held own parent probe.Failed failed = closing held (bound.Failed failed)
 
-abbrev pub probing : ℕ → Attrs → Option Attrs → Prog Binding
-probing held attrs parent =
-    Ask (Ask_alive held) (λ t. after_probe held attrs parent t.answer (failure_of t))
+abbrev pub probing : ℕ → OwnFiles → Option Attrs → Prog Binding
+probing held own parent =
+    Ask (Ask_alive held) (λ t. after_probe held own parent t.answer (failure_of t))
 
-abbrev pub after_parent : ℕ → Attrs → Result Attrs Stop → Prog Binding
-after_parent held attrs (Ok parent) = probing held attrs (Some parent)
-after_parent held attrs (Err why) = Return (binding_of why)
+abbrev pub after_parent : ℕ → OwnFiles → Result Attrs Stop → Prog Binding
+after_parent held own (Ok parent) = probing held own (Some parent)
+after_parent held own (Err why) = Return (binding_of why)
 
-abbrev pub to_parent : ℕ → Attrs → Option (List ℕ) → Prog Binding
-to_parent held attrs None = probing held attrs None
-to_parent held attrs (Some parent) = then (reading_parent parent held) (after_parent held attrs)
+abbrev pub to_parent : ℕ → OwnFiles → Option (List ℕ) → Prog Binding
+to_parent held own None = probing held own None
+to_parent held own (Some parent) = then (reading_parent parent held) (after_parent held own)
 
-abbrev pub after_own : ℕ → Option (List ℕ) → Result Attrs Stop → Prog Binding
-after_own held parent (Ok attrs) = to_parent held attrs parent
+abbrev pub after_own : ℕ → Option (List ℕ) → Result OwnFiles Stop → Prog Binding
+after_own held parent (Ok own) = to_parent held own parent
 after_own held parent (Err why) = Return (binding_of why)
 
 abbrev pub after_open : List ℕ → Option (List ℕ) → Opened → FailedCall → Prog Binding
@@ -62,19 +68,19 @@ binding name parent =
 
 -- The parent's files are read only where its held file isn't found alive. A failure of that probe
 -- isn't told.
-abbrev pub after_asking : ℕ → Attrs → List ℕ → Probe → Prog Binding
-after_asking held attrs parent (probe.Alive on) = probing held attrs None
-after_asking held attrs parent probe.Gone =
-    then (reading_parent parent held) (after_parent held attrs)
-after_asking held attrs parent probe.Failed =
-    then (reading_parent parent held) (after_parent held attrs)
+abbrev pub after_asking : ℕ → OwnFiles → List ℕ → Probe → Prog Binding
+after_asking held own parent (probe.Alive on) = probing held own None
+after_asking held own parent probe.Gone =
+    then (reading_parent parent held) (after_parent held own)
+after_asking held own parent probe.Failed =
+    then (reading_parent parent held) (after_parent held own)
 
-abbrev pub asking_parent : ℕ → Attrs → List ℕ → ℕ → Prog Binding
-asking_parent held attrs parent kept =
-    Ask (Ask_alive kept) (λ t. after_asking held attrs parent t.answer)
+abbrev pub asking_parent : ℕ → OwnFiles → List ℕ → ℕ → Prog Binding
+asking_parent held own parent kept =
+    Ask (Ask_alive kept) (λ t. after_asking held own parent t.answer)
 
-abbrev pub after_own_under : ℕ → List ℕ → ℕ → Result Attrs Stop → Prog Binding
-after_own_under held parent kept (Ok attrs) = asking_parent held attrs parent kept
+abbrev pub after_own_under : ℕ → List ℕ → ℕ → Result OwnFiles Stop → Prog Binding
+after_own_under held parent kept (Ok own) = asking_parent held own parent kept
 after_own_under held parent kept (Err why) = Return (binding_of why)
 
 abbrev pub after_open_under : List ℕ → List ℕ → ℕ → Opened → FailedCall → Prog Binding

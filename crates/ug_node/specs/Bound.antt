@@ -23,6 +23,12 @@ abbrev pub is_too_long : ReadOut → Bool
 is_too_long out.TooLong = true
 is_too_long answer = false
 
+-- whether a file is too long that a device's hash is made of
+abbrev pub is_core_long : Device → Bool
+is_core_long d =
+    is_too_long (read_of attr.Descriptors d) || is_too_long (read_of attr.Product d)
+    || is_too_long (read_of attr.Serial d)
+
 -- a device's four files
 abbrev pub attrs_of : Device → Attrs
 attrs_of d = record {
@@ -42,9 +48,7 @@ parent_attrs_of d = record {
   product = bytes_of (read_of attr.Product d);
   serial = bytes_of (read_of attr.Serial d);
   connect = [];
-  too_long =
-      is_too_long (read_of attr.Descriptors d) || is_too_long (read_of attr.Product d)
-      || is_too_long (read_of attr.Serial d);
+  too_long = is_core_long d;
 }
 
 -- these are the files of the parent of that identity, and none where there is no parent
@@ -79,6 +83,7 @@ pub record IsBoundBy (Parents : Kernel → Option ℕ → Option Attrs → Type 
   pub fresh : slice_get k.held b.held.0 ≡ None
   pub named : d.name ≡ name
   pub own : b.attrs ≡ attrs_of d
+  pub core_long : b.core_long ≡ is_core_long d
   pub parents : Parents l d.parent b.parent
   pub value : d.on ≡ b.on
   pub lived : LivedUntilProbe name k l b.held.0 i b.on

@@ -1,5 +1,5 @@
 -- The order of calls: what is asked, step by step, and where it ends; and that of a binding.
-use Rattle.std.specs.Prelude.{◌≡◌, ℕ, Bool, true, false, List, [], ◌∷◌, Option, Some, None, ◌⊎◌}
+use Rattle.std.specs.Prelude.{◌≡◌, ℕ, Bool, true, false, List, [], ◌∷◌, Option, Some, None, is_some, ◌⊎◌}
 use Rattle.ug_types.specs.Names.{parent_of}
 use Rattle.ug_types.specs.declared.control.Attr.{Attr}
 use Rattle.ug_types.specs.declared.control.Attr.TheVariants as attr
@@ -156,14 +156,25 @@ pub record BindsInOrder {S : Type 0} (gives : S → (call : Call) → Answer cal
 
 -- where the parent is held
 
--- The parent's files are read just where its held file isn't found alive; then comes the last
--- probe.
+-- whether a bound device has the attributes of its parent
+abbrev pub HasParentFiles : Bool → Binding → Type 0
+HasParentFiles has (bound.Bound b) = is_some b.parent ≡ has
+HasParentFiles has bound.Absent = Unit {0}
+HasParentFiles has bound.Vanished = Unit {0}
+HasParentFiles has (bound.Failed failed) = Unit {0}
+HasParentFiles has bound.Memory = Unit {0}
+
+-- The parent's files are read, and told, just where its held file isn't found alive; then comes the
+-- last probe.
 abbrev pub BehindAsked : List ℕ → Binding → Probe → List Made → Type 0
-BehindAsked name r (probe.Alive on) calls = GoByProbe (IsBoundOn r) OnlyCloses calls
+BehindAsked name r (probe.Alive on) calls =
+    HasParentFiles false r × GoByProbe (IsBoundOn r) OnlyCloses calls
 BehindAsked name r probe.Gone calls =
-    GoBy (parent_acts (parent_of name)) (GoByProbe (IsBoundOn r) OnlyCloses) calls
+    HasParentFiles true r
+    × GoBy (parent_acts (parent_of name)) (GoByProbe (IsBoundOn r) OnlyCloses) calls
 BehindAsked name r probe.Failed calls =
-    GoBy (parent_acts (parent_of name)) (GoByProbe (IsBoundOn r) OnlyCloses) calls
+    HasParentFiles true r
+    × GoBy (parent_acts (parent_of name)) (GoByProbe (IsBoundOn r) OnlyCloses) calls
 
 -- the first call is the probe of that file
 abbrev pub ByAsked : List ℕ → ℕ → Binding → (call : Call) → Answer call → List Made → Type 0

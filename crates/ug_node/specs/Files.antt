@@ -10,6 +10,7 @@ use Rattle.ug_kernel.specs.Calls.{Read, Close}
 use Rattle.ug_kernel.specs.Along.{failure_of}
 use Rattle.ug_kernel.specs.Tree.{Prog, Return, Ask, then}
 use Rattle.ug_node.specs.declared.files.File.{File}
+use Rattle.ug_node.specs.declared.files.OwnFiles.{OwnFiles}
 use Rattle.ug_node.specs.declared.files.Stop.{Stop}
 use Rattle.ug_node.specs.declared.files.Stop.TheVariants as stop
 
@@ -38,35 +39,38 @@ after_read attr held out.Memory failed = giving_up held stop.Memory
 unfoldable pub reading : List ℕ → Attr → ℕ → Prog (Result File Stop)
 reading name attr held = Ask (Read name attr) (λ t. after_read attr held t.answer (failure_of t))
 
-abbrev pub own_of : File → File → File → File → Attrs
+abbrev pub own_of : File → File → File → File → OwnFiles
 own_of d p s c =
     record {
-      descriptors = d.bytes;
-      product = p.bytes;
-      serial = s.bytes;
-      connect = c.bytes;
-      too_long = d.too_long || p.too_long || s.too_long || c.too_long;
+      attrs = record {
+        descriptors = d.bytes;
+        product = p.bytes;
+        serial = s.bytes;
+        connect = c.bytes;
+        too_long = d.too_long || p.too_long || s.too_long || c.too_long;
+      };
+      core_long = d.too_long || p.too_long || s.too_long;
     }
 
-abbrev pub after_connect : File → File → File → Result File Stop → Prog (Result Attrs Stop)
+abbrev pub after_connect : File → File → File → Result File Stop → Prog (Result OwnFiles Stop)
 after_connect d p s (Ok c) = Return (Ok (own_of d p s c))
 after_connect d p s (Err why) = Return (Err why)
 
-abbrev pub after_serial : List ℕ → ℕ → File → File → Result File Stop → Prog (Result Attrs Stop)
+abbrev pub after_serial : List ℕ → ℕ → File → File → Result File Stop → Prog (Result OwnFiles Stop)
 after_serial name held d p (Ok s) = then (reading name attr.Connect held) (after_connect d p s)
 after_serial name held d p (Err why) = Return (Err why)
 
-abbrev pub after_product : List ℕ → ℕ → File → Result File Stop → Prog (Result Attrs Stop)
+abbrev pub after_product : List ℕ → ℕ → File → Result File Stop → Prog (Result OwnFiles Stop)
 after_product name held d (Ok p) = then (reading name attr.Serial held) (after_serial name held d p)
 after_product name held d (Err why) = Return (Err why)
 
-abbrev pub after_descriptors : List ℕ → ℕ → Result File Stop → Prog (Result Attrs Stop)
+abbrev pub after_descriptors : List ℕ → ℕ → Result File Stop → Prog (Result OwnFiles Stop)
 after_descriptors name held (Ok d) =
     then (reading name attr.Product held) (after_product name held d)
 after_descriptors name held (Err why) = Return (Err why)
 
 -- descriptors, product, serial, connect
-unfoldable pub reading_own : List ℕ → ℕ → Prog (Result Attrs Stop)
+unfoldable pub reading_own : List ℕ → ℕ → Prog (Result OwnFiles Stop)
 reading_own name held = then (reading name attr.Descriptors held) (after_descriptors name held)
 
 abbrev pub parent_of_files : File → File → File → Attrs

@@ -15,6 +15,14 @@ pub struct File {
     pub too_long: bool,
 }
 
+/// A device's own files.
+#[derive(Drop)]
+pub struct OwnFiles {
+    pub attrs: Attrs,
+    /// A file was too long that the hash of the device is made of: its descriptors, its product or its serial number.
+    pub core_long: bool,
+}
+
 /// Why the reading of a device's files ended early. The held file is closed.
 #[derive(Clone, Copy)]
 pub enum Stop {
@@ -76,19 +84,23 @@ pub fn read_own<Y: Sysfs>(
     sysfs: &mut Y,
     name: &NodeName,
     held: Held,
-) -> Result<Attrs, Stop>
+) -> Result<OwnFiles, Stop>
     ensures { Runs Y.gives sysfs.old (reading_own name.now held.0) result sysfs.new }
 {
     let descriptors = read_file(alloc, sysfs, name, Attr::Descriptors, held)?;
     let product = read_file(alloc, sysfs, name, Attr::Product, held)?;
     let serial = read_file(alloc, sysfs, name, Attr::Serial, held)?;
     let connect = read_file(alloc, sysfs, name, Attr::Connect, held)?;
-    Ok(Attrs {
-        too_long: descriptors.too_long || product.too_long || serial.too_long || connect.too_long,
-        descriptors: descriptors.bytes,
-        product: product.bytes,
-        serial: serial.bytes,
-        connect: connect.bytes,
+    let core_long = descriptors.too_long || product.too_long || serial.too_long;
+    Ok(OwnFiles {
+        attrs: Attrs {
+            too_long: core_long || connect.too_long,
+            descriptors: descriptors.bytes,
+            product: product.bytes,
+            serial: serial.bytes,
+            connect: connect.bytes,
+        },
+        core_long,
     })
 }
 

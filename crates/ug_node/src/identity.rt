@@ -7,7 +7,7 @@ ghost use Rattle.ug_node.specs.Bound.{Binds, TellsFault};
 ghost use Rattle.ug_node.specs.CallOrder.{BindsInOrder};
 
 use crate::failed::failed_call;
-use crate::files::{Stop, read_own, read_parent};
+use crate::files::{OwnFiles, Stop, read_own, read_parent};
 use std::alloc::Global;
 use ug_kernel::{Control, FailedCall, Opened, Probe, Sysfs};
 use ug_types::{Attrs, Held, NodeName};
@@ -17,6 +17,8 @@ use ug_types::{Attrs, Held, NodeName};
 pub struct Bound {
     pub held: Held,
     pub attrs: Attrs,
+    /// A file was too long that its children's parent hash is made of: its descriptors, its product or its serial number.
+    pub core_long: bool,
     pub parent: Option<Attrs>,
     pub on: bool,
 }
@@ -75,8 +77,8 @@ fn bind_below<Y: Sysfs>(
         Opened::Failed => return Binding::Failed(failed_call(sysfs)),
         Opened::Memory => return Binding::Memory,
     };
-    let attrs = match read_own(alloc, sysfs, name, held) {
-        Ok(attrs) => attrs,
+    let own = match read_own(alloc, sysfs, name, held) {
+        Ok(own) => own,
         Err(stop) => return stop.into(),
     };
     let parent_attrs = match parent {
@@ -86,22 +88,23 @@ fn bind_below<Y: Sysfs>(
             Err(stop) => return stop.into(),
         },
     };
-    end_binding(sysfs, held, attrs, parent_attrs)
+    end_binding(sysfs, held, own, parent_attrs)
 }
 
 // Probes the held file, behind all that is read.
 pub(crate) fn end_binding<Y: Sysfs>(
     sysfs: &mut Y,
     held: Held,
-    attrs: Attrs,
+    own: OwnFiles,
     parent: Option<Attrs>,
 ) -> Binding
-    ensures { Runs Y.gives sysfs.old (probing held.0 attrs parent) result sysfs.new }
+    ensures { Runs Y.gives sysfs.old (probing held.0 own parent) result sysfs.new }
 {
     match sysfs.probe(held) {
         Probe::Alive(on) => Binding::Bound(Bound {
             held,
-            attrs,
+            attrs: own.attrs,
+            core_long: own.core_long,
             parent,
             on,
         }),

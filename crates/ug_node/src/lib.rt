@@ -9,7 +9,7 @@ mod removal;
 mod under;
 
 pub use failed::failed_call;
-pub use files::{File, Stop};
+pub use files::{File, OwnFiles, Stop};
 pub use held::{put, reprobe};
 pub use identity::{Binding, Bound, bind};
 pub use removal::{RemoveHold, hold_default, hold_remove};

@@ -8,12 +8,12 @@ ghost use Rattle.ug_node.specs.CallOrder.{BindsUnderInOrder};
 ghost use Rattle.ug_node.specs.Under.{BindsUnder};
 
 use crate::failed::failed_call;
-use crate::files::{read_own, read_parent};
+use crate::files::{OwnFiles, read_own, read_parent};
 use crate::held::reprobe;
 use crate::identity::{Binding, end_binding};
 use std::alloc::Global;
 use ug_kernel::{Control, Opened, Probe, Sysfs};
-use ug_types::{Attrs, Held, NodeName};
+use ug_types::{Held, NodeName};
 
 /// Finds the device of a name whose parent's `authorized` file is held, as `bind` does. Where that file is found alive, the
 /// parent's files aren't read: the answer has none of its attributes, and the device is a child of the one that is held. A
@@ -50,7 +50,7 @@ fn bind_beside<Y: Sysfs>(
         Opened::Memory => return Binding::Memory,
     };
     match read_own(alloc, sysfs, name, held) {
-        Ok(attrs) => ask_parent(alloc, sysfs, above, parent, held, attrs),
+        Ok(own) => ask_parent(alloc, sysfs, above, parent, held, own),
         Err(stop) => stop.into(),
     }
 }
@@ -63,15 +63,15 @@ fn ask_parent<Y: Sysfs>(
     above: &NodeName,
     parent: Held,
     held: Held,
-    attrs: Attrs,
+    own: OwnFiles,
 ) -> Binding
     ensures { Runs Y.gives sysfs.old
-        (asking_parent held.0 attrs above.now parent.0) result sysfs.new }
+        (asking_parent held.0 own above.now parent.0) result sysfs.new }
 {
     match reprobe(sysfs, parent) {
-        Probe::Alive(_) => end_binding(sysfs, held, attrs, None),
+        Probe::Alive(_) => end_binding(sysfs, held, own, None),
         _ => match read_parent(alloc, sysfs, above, held) {
-            Ok(theirs) => end_binding(sysfs, held, attrs, Some(theirs)),
+            Ok(theirs) => end_binding(sysfs, held, own, Some(theirs)),
             Err(stop) => stop.into(),
         },
     }

@@ -7,6 +7,7 @@ use Rattle.ug_types.specs.declared.control.Attr.{Attr}
 use Rattle.ug_types.specs.declared.record.Attrs.{Attrs}
 use Rattle.ug_kernel.specs.declared.calls.Opened.{Opened}
 use Rattle.ug_kernel.specs.declared.calls.ReadOut.{ReadOut}
+use Rattle.ug_node.specs.declared.files.OwnFiles.{OwnFiles}
 use Rattle.ug_node.specs.declared.files.Stop.{Stop}
 use Rattle.ug_node.proofs.BindShapes.{told, IsReadable, Came, Reads, No_more, Then_read, Stops, No_descriptors, Binds_by, Cut, Probed_gone, Probe_failed, Bound_by, Files, Alone, Below, Holds_by, No_memory, Held_on, Died, Unasked, count_more, first_few}
 
@@ -258,8 +259,8 @@ treating_least name = by (is_none (parent_of name))
 pub root_most : (name : List ℕ) → parent_of name ≡ None → treating_most name ≡ 7
 root_most name root = ap (λ (o : Option (List ℕ)). cond (is_none o) 7 4) root
 
-files_few : {name : List ℕ} {ms : List Made} {attrs : Attrs} {parent : Option Attrs}
-    → Files name ms attrs parent → count_calls ms + 2 ≤ binding_most name
+files_few : {name : List ℕ} {ms : List Made} {own : OwnFiles} {parent : Option Attrs}
+    → Files name ms own parent → count_calls ms + 2 ≤ binding_most name
 files_few (Alone d p s c e) =
     subst (λ (o : Option (List ℕ)). 6 ≤ cond (is_none o) 6 9) (sym e) (omega arith)
 files_few (Below of d p s c x y z e) =
