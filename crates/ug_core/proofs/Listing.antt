@@ -1,5 +1,5 @@
 -- A text's rules are read right into a list.
-use Rattle.std.proofs.Common.{◌≡◌, ◌≤◌, ◌<◌, ℕ, ◌+◌, Bool, true, false, if◌then◌else◌, nat_lt, map, List, [], ◌∷◌, ◌++◌, length, length-append, Option, Some, None, Result, Ok, Err, refl, sym, subst, ap, ◌∙◌, arith}
+use Rattle.std.proofs.Common.{◌≡◌, ◌≤◌, ◌<◌, ℕ, ◌+◌, Bool, true, false, if◌then◌else◌, nat_lt, List, [], ◌∷◌, ◌++◌, length, length-append, Option, Some, None, Result, Ok, Err, refl, sym, subst, ap, ◌∙◌, arith}
 use Rattle.std.specs.Prelude.{All, OnErr, OnOk}
 use Rattle.std.proofs.lemmas.Bool.Decides.{nat_tests}
 use Rattle.std.proofs.lemmas.List.{map-append}
@@ -23,7 +23,7 @@ use Rattle.ug_print.specs.declared.rule_texts.RulesTextFault.{RulesTextFault}
 use Rattle.ug_print.specs.declared.rule_texts.RulesTextFault.TheVariants as printed
 use Rattle.ug_rules.specs.RuleFile.{IsSaveable, ReadsBack, permanent_rules, permanent_text}
 use Rattle.ug_core.proofs.Readable.{all_permanent, list_reads_back, list_saves}
-use Rattle.ug_core.specs.Starting.{HasRulesOf, HoldsJust, IsListOf, IsTooLong, StartsWith, fault_of_printing, ListsText, fault_of_file, listed, listing_line, one_listed, permanent_entries}
+use Rattle.ug_core.specs.Starting.{HasRulesOf, HoldsJust, IsListOf, StartsWith, fault_of_printing, ListsText, fault_of_file, listed, listing_line, one_listed}
 use Rattle.ug_core.proofs.Numbering.{holds_more}
 
 -- all rules, or none where they are more than a list takes

@@ -1,5 +1,6 @@
 -- What the members noted over a part of an event.
-use Rattle.std.proofs.Common.{◌≡◌, List, [], ◌++◌, sym, subst, ap, ◌∙◌, append_assoc}
+use Rattle.std.proofs.Common.{◌≡◌, ℕ, ◌+◌, Bool, List, [], ◌++◌, length, refl, sym, subst, ap, ◌∙◌, append_assoc, append-nil, arith}
+use Rattle.rand_core.specs.declared.Rng.{Ghosts}
 use Rattle.ug_audit.specs.declared.entry.Entry.{Entry}
 use Rattle.ug_audit.specs.declared.journal.Journal.{Journal}
 use Rattle.ug_audit.specs.declared.panel.Panel.{Panel}
@@ -7,7 +8,8 @@ use Rattle.ug_audit.specs.Journal.{SameEntries, Told, members}
 use Rattle.ug_audit.specs.Noting.{NotesEntries}
 use Rattle.ug_audit.specs.Panels.{Member}
 use Rattle.ug_audit.proofs.Noting.{notes_on}
-use Rattle.ug_core.specs.Event.{NotesMore}
+use Rattle.ug_core.specs.Event.{DaemonState, daemon_of, NotesAtMost, NotesMore}
+use Rattle.ug_core.specs.declared.daemon.Daemon.{Daemon}
 use Rattle.ug_core.specs.declared.report.Report.{Report}
 
 -- what was noted in a journal, by the panel that it leaves
@@ -31,6 +33,37 @@ more_noted es fs gs ms ns os h k = record {
   noted = notes_on [] h.added k.added ms ns os [] [] h.noted k.noted;
 }
 
--- behind a call that leaves the report as it was
-pub noted_behind : (r s : Report) (fs gs : List Entry) (ms ns os : List Member) → s ≡ r → NotesMore s.entries.entries fs ms ns → NotesMore fs gs ns os → NotesMore r.entries.entries gs ms os
-noted_behind r s fs gs ms ns os same h = more_noted r.entries.entries fs gs ms ns os (subst (λ (x : Report). NotesMore x.entries.entries fs ms ns) same h)
+-- a step that notes nothing: it changes at most whether a save is pending
+pub notes_none : {R : Type 0} {g : Ghosts R} {X : Type 0} {F : X → Type 0} {most : ℕ}
+    {told : Told X F} {d e : Daemon R g} {panel : Panel X F} {pending : Bool}
+    → e.report ≡ d.report → daemon_of e ≡ record (daemon_of d) { pending = pending }
+    → NotesAtMost most told d panel e panel
+notes_none {d = d} report same =
+    let spare = ap (λ (r : Report). r.entries.spare) report in
+    let few = ap (λ (x : DaemonState). length x.sweep.standings) same in
+    record {
+      spare = omega (arith, spare);
+      noted = record {
+        added = [];
+        all = ap (λ (r : Report). r.entries.entries) report ∙ sym (append-nil d.report.entries.entries);
+        noted = (refl, refl);
+      };
+      number = ap (λ (r : Report). r.event) report;
+      next = ap (λ (x : DaemonState). x.sweep.next) same;
+      next_event = ap (λ (x : DaemonState). x.event) same;
+      standings = omega (arith, few);
+    }
+
+-- a step behind another
+pub notes_then : {R : Type 0} {g : Ghosts R} {X : Type 0} {F : X → Type 0} {m n : ℕ}
+    {told : Told X F} {d e f : Daemon R g} {panel amid last : Panel X F}
+    → NotesAtMost m told d panel e amid → NotesAtMost n told e amid f last
+    → NotesAtMost (m + n) told d panel f last
+notes_then h k = record {
+  spare = omega (arith, h.spare, k.spare);
+  noted = more_noted _ _ _ _ _ _ h.noted k.noted;
+  number = k.number ∙ h.number;
+  next = k.next ∙ h.next;
+  next_event = k.next_event ∙ h.next_event;
+  standings = omega (arith, h.standings, k.standings);
+}

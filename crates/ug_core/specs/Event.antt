@@ -1,5 +1,5 @@
 -- An event of the daemon, in stages, each of which is on one object: a pending save, an order, and the sweep.
-use Rattle.std.specs.Prelude.{◌≡◌, ℕ, ◌+◌, ◌-◌, ◌^◌, Bool, true, false, ◌&&◌, nat_le, nat_lt, List, [], ◌∷◌, ◌++◌, Option, Some, None}
+use Rattle.std.specs.Prelude.{◌≡◌, ◌≤◌, ℕ, ◌+◌, ◌-◌, ◌^◌, Bool, true, false, ◌&&◌, nat_le, nat_lt, List, [], ◌∷◌, ◌++◌, length, Option, Some, None}
 use Rattle.rand_core.specs.declared.Rng.{Ghosts}
 use Rattle.ug_types.specs.declared.control.Write.{Write}
 use Rattle.ug_types.specs.declared.saved.Saved.{Saved}
@@ -7,10 +7,12 @@ use Rattle.ug_types.specs.declared.saved.Saved.TheVariants as saved
 use Rattle.ug_types.specs.declared.verdict.Moment.{Moment}
 use Rattle.ug_kernel.specs.Tree.{Prog, Return, then}
 use Rattle.ug_acl.specs.Acls.{Addition}
+use Rattle.ug_audit.specs.Journal.{Told, live_in, members}
 use Rattle.ug_audit.specs.Noting.{NotesEntries, without_drops}
 use Rattle.ug_audit.specs.Panels.{Member}
 use Rattle.ug_audit.specs.declared.entry.Entry.{Entry}
 use Rattle.ug_audit.specs.declared.entry.Entry.TheVariants as entry
+use Rattle.ug_audit.specs.declared.panel.Panel.{Panel}
 use Rattle.ug_policy.specs.declared.entry.RuleEntry.{RuleEntry}
 use Rattle.ug_proto.specs.declared.reply.Reply.{Reply}
 use Rattle.ug_store.specs.Store.{DiskProg, Ended, DiskRoom, then_disk, saving, pending_after}
@@ -102,6 +104,20 @@ pub record NotesMore (before after : List Entry) (ms ns : List Member) : Type 0 
   pub added : List Entry
   pub all : after ≡ before ++ added
   pub noted : NotesEntries added ms ns
+
+-- A part of an event noted entries, each for the members of a panel, and of the places that were
+-- left it used at most so many, beside one for each member that failed. The event keeps its number,
+-- and the next device and the next event theirs; and there are no more standings than before.
+pub record NotesAtMost {R : Type 0} {g : Ghosts R} {X : Type 0} {F : X → Type 0} (most : ℕ)
+    (told : Told X F) (d : Daemon R g) (panel : Panel X F) (e : Daemon R g) (last : Panel X F)
+    : Type 0 where
+  pub spare : d.report.entries.spare + live_in last ≤ e.report.entries.spare + most + live_in panel
+  pub noted : NotesMore d.report.entries.entries e.report.entries.entries
+      (members told panel) (members told last)
+  pub number : e.report.event ≡ d.report.event
+  pub next : e.table.next ≡ d.table.next
+  pub next_event : e.next_event ≡ d.next_event
+  pub standings : length e.table.standings ≤ length d.table.standings
 
 -- numbers up to this one leave room for an event
 abbrev pub is_low : ℕ → Bool

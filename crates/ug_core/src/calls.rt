@@ -6,7 +6,7 @@ ghost use Rattle.ug_audit.specs.Noting.{NotesEntries, tells_drop, without_drops}
 ghost use Rattle.ug_store.specs.Store.{RunsDisk, pending_after};
 ghost use Rattle.ug_table.specs.Parts.{unsettled_names};
 ghost use Rattle.ug_core.specs.Answering.{HasWholeLines};
-ghost use Rattle.ug_core.specs.Event.{begun, daemon_of, first_entry, handling, has_numbers, is_low, moment_of, noting, NotesMore, saving_rules, tried_with, trying};
+ghost use Rattle.ug_core.specs.Event.{begun, daemon_of, first_entry, handling, has_numbers, is_low, moment_of, noting, NotesAtMost, NotesMore, saving_rules, tried_with, trying};
 ghost use Rattle.ug_core.specs.Laws.{Handles, HandlesEvent, NamesOnceIn, PassesEvent, TellsSweep, TellsTried};
 
 use crate::between::Between;
@@ -98,9 +98,11 @@ impl<'z, R: Rng> Daemon<'z, R> {
         disk: &mut D,
         panel: &mut Panel,
     )
-        requires { IsTrue (has_numbers (daemon_of self.old) (Y.faults sysfs.old) (D.faults disk.old)) }
+        requires { IsTrue
+            (has_numbers (daemon_of self.old) (Y.faults sysfs.old) (D.faults disk.old)) }
         ensures handles { HandlesEvent Y.Sysfs D.RuleDisk
-            event.now sysfs.old disk.old (daemon_of self.old) sysfs.new disk.new (daemon_of self.new) }
+            event.now sysfs.old disk.old (daemon_of self.old)
+            sysfs.new disk.new (daemon_of self.new) }
         ensures whole { IfSome self.new.report.reply (λ r. HasWholeLines r) }
         ensures number { self.new.report.event ≡ self.old.next_event }
         ensures noted { NotesEntries self.new.report.entries.entries
@@ -130,9 +132,11 @@ impl<'z, R: Rng> Daemon<'z, R> {
         panel: &mut Panel,
         between: &mut B,
     )
-        requires { IsTrue (has_numbers (daemon_of self.old) (Y.faults sysfs.old) (D.faults disk.old)) }
+        requires { IsTrue
+            (has_numbers (daemon_of self.old) (Y.faults sysfs.old) (D.faults disk.old)) }
         ensures passes { PassesEvent Y.Sysfs D.RuleDisk B.goes
-            event.now sysfs.old disk.old (daemon_of self.old) sysfs.new disk.new (daemon_of self.new) }
+            event.now sysfs.old disk.old (daemon_of self.old)
+            sysfs.new disk.new (daemon_of self.new) }
         ensures whole { IfSome self.new.report.reply (λ r. HasWholeLines r) }
         ensures number { self.new.report.event ≡ self.old.next_event }
         ensures noted { NotesEntries self.new.report.entries.entries
@@ -183,12 +187,10 @@ impl<'z, R: Rng> Daemon<'z, R> {
         ensures policy { self.new.policy ≡ self.old.policy }
         ensures spare { self.new.report.entries.spare + 1 + live_in panel.old
             ≡ self.old.report.entries.spare + live_in panel.new }
-        ensures number { self.new.report.event ≡ self.old.report.event }
         ensures reply { self.new.report.reply ≡ self.old.report.reply }
         ensures watch { self.new.report.watch ≡ self.old.report.watch }
-        ensures noted { NotesMore self.old.report.entries.entries self.new.report.entries.entries
-            (members (λ b. ⟦<dyn Auditor as Auditor>⟧ b.vtable) panel.old)
-            (members (λ b. ⟦<dyn Auditor as Auditor>⟧ b.vtable) panel.new) }
+        ensures notes { NotesAtMost 1 (λ b. ⟦<dyn Auditor as Auditor>⟧ b.vtable)
+            self.old panel.old self.new panel.new }
     {
         let mut journal = Journal::join(panel, &mut self.report.entries);
         journal.push(entry);
@@ -206,14 +208,10 @@ impl<'z, R: Rng> Daemon<'z, R> {
         ensures runs { RunsDisk D.keeps disk.old (trying (daemon_of self.old)) result disk.new }
         ensures counted { TellsTried result (D.faults disk.old) (D.faults disk.new) }
         ensures daemon { daemon_of self.new ≡ tried_with result (daemon_of self.old) }
-        ensures spare { self.old.report.entries.spare + live_in panel.new
-            ≤ self.new.report.entries.spare + 1 + live_in panel.old }
-        ensures number { self.new.report.event ≡ self.old.report.event }
         ensures reply { self.new.report.reply ≡ self.old.report.reply }
         ensures watch { self.new.report.watch ≡ self.old.report.watch }
-        ensures noted { NotesMore self.old.report.entries.entries self.new.report.entries.entries
-            (members (λ b. ⟦<dyn Auditor as Auditor>⟧ b.vtable) panel.old)
-            (members (λ b. ⟦<dyn Auditor as Auditor>⟧ b.vtable) panel.new) }
+        ensures notes { NotesAtMost 1 (λ b. ⟦<dyn Auditor as Auditor>⟧ b.vtable)
+            self.old panel.old self.new panel.new }
     {
         if !self.store.pending() {
             return None;
@@ -226,9 +224,11 @@ impl<'z, R: Rng> Daemon<'z, R> {
     // Saves the rules that aren't temporary.
     #[tactic(auto, using(ug_store::proofs::DiskRuns::runs_then_disk))]
     fn save<D: RuleDisk>(&mut self, alloc: Global, disk: &mut D) -> Saved
-        ensures runs { RunsDisk D.keeps disk.old (saving_rules (daemon_of self.old).sweep.judge.rules) (Some result) disk.new }
+        ensures runs { RunsDisk D.keeps disk.old
+            (saving_rules (daemon_of self.old).sweep.judge.rules) (Some result) disk.new }
         ensures counted { TellsTried (Some result) (D.faults disk.old) (D.faults disk.new) }
-        ensures daemon { daemon_of self.new ≡ record (daemon_of self.old) { pending = pending_after result (daemon_of self.old).pending } }
+        ensures daemon { daemon_of self.new ≡ record (daemon_of self.old)
+            { pending = pending_after result (daemon_of self.old).pending } }
         ensures report { self.new.report ≡ self.old.report }
     {
         match self.policy.rules_text(alloc) {
@@ -245,11 +245,13 @@ impl<'z, R: Rng> Daemon<'z, R> {
         requires spare { 10 * length self.old.table.standings + 2 + live_in panel.old
             ≤ self.old.report.entries.spare }
         requires nameless { unsettled_names (daemon_of self.old).sweep.entries ≡ [] }
-        ensures runs { Runs Y.gives sysfs.old (handling (daemon_of self.old)) (daemon_of self.new) sysfs.new }
+        ensures runs { Runs Y.gives sysfs.old (handling (daemon_of self.old))
+            (daemon_of self.new) sysfs.new }
         ensures law { Handles Y.told sysfs.old (daemon_of self.old) sysfs.new (daemon_of self.new) }
         ensures tells { TellsSweep Y.gives Y.calls Y.faults sysfs.old (daemon_of self.old)
             sysfs.new (daemon_of self.new) }
-        ensures once { NamesOnceIn Y.told sysfs.old (daemon_of self.old) sysfs.new (daemon_of self.new) }
+        ensures once { NamesOnceIn Y.told sysfs.old (daemon_of self.old)
+            sysfs.new (daemon_of self.new) }
         ensures number { self.new.report.event ≡ self.old.report.event }
         ensures reply { self.new.report.reply ≡ self.old.report.reply }
         ensures watch { self.new.report.watch ≡ self.old.report.watch }

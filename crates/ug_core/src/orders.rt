@@ -1,7 +1,7 @@
 // Orders of administrators: usbguard(1).
-ghost use Rattle.std.specs.Prelude.{◌≡◌, ◌≤◌, ◌<◌, ◌+◌, ◌-◌, ◌^◌, IfSome, IsSome, None, Some, length, true};
+ghost use Rattle.std.specs.Prelude.{◌≡◌, ◌≤◌, ◌<◌, ◌+◌, ◌-◌, ◌^◌, IfSome, IsSome, None, Some, true};
 ghost use Rattle.ug_kernel.specs.Tree.{Runs};
-ghost use Rattle.ug_audit.specs.Journal.{live_in, members};
+ghost use Rattle.ug_audit.specs.Journal.{live_in};
 ghost use Rattle.ug_lines.specs.Splitting.{AreLines};
 ghost use Rattle.ug_store.specs.Store.{DiskRoom, RunsDisk};
 ghost use Rattle.ug_table.specs.Orders.{ordering};
@@ -10,7 +10,7 @@ ghost use Rattle.ug_table.specs.State.{kept_of};
 ghost use Rattle.ug_core.specs.Answering.{acting, answer_of, CanDo, CanMake, deed_after, HasLines, HasWholeLines, keeping, reply_to, replying};
 ghost use Rattle.ug_core.specs.Changes.{CanChange, ChangeReads, ChangeSaves, HasRoom};
 ghost use Rattle.ug_core.specs.Durable.{WritesEvent, change_ordered};
-ghost use Rattle.ug_core.specs.Event.{daemon_of, NotesMore};
+ghost use Rattle.ug_core.specs.Event.{daemon_of, NotesAtMost};
 ghost use Rattle.ug_proto.specs.Requests.{request_read};
 ghost use Rattle.ug_core.specs.Laws.{RunsAnswer, RunsOrder};
 ghost use Rattle.ug_core.specs.Storing.{TellsStored, WritesRules, has_written, if_kept, noted_save, pending_stored, refused_by, stored_with, storing, with_change};
@@ -82,21 +82,16 @@ impl<'z, R: Rng> Daemon<'z, R> {
         requires spare { 7 + live_in panel.old ≤ self.old.report.entries.spare }
         ensures runs { Runs Y.gives sysfs.old
             (ordering number verdict who.now on
-            (kept_of (daemon_of self.old).sweep.standings (daemon_of self.old).sweep.entries))
-            (result, kept_of (daemon_of self.new).sweep.standings (daemon_of self.new).sweep.entries)
+            (kept_of (daemon_of self.old).sweep.standings (daemon_of self.old).sweep.entries)) (
+              result,
+              kept_of (daemon_of self.new).sweep.standings (daemon_of self.new).sweep.entries,
+            )
             sysfs.new }
         ensures daemon { daemon_of self.new ≡ keeping
             (kept_of (daemon_of self.new).sweep.standings (daemon_of self.new).sweep.entries)
             (daemon_of self.old) }
-        ensures len { length self.new.table.standings ≤ length self.old.table.standings }
-        ensures next { self.new.table.next ≡ self.old.table.next }
-        ensures event { self.new.next_event ≡ self.old.next_event }
-        ensures spare { self.old.report.entries.spare + live_in panel.new
-            ≤ self.new.report.entries.spare + 6 + live_in panel.old }
-        ensures number { self.new.report.event ≡ self.old.report.event }
-        ensures noted { NotesMore self.old.report.entries.entries self.new.report.entries.entries
-            (members (λ b. ⟦<dyn Auditor as Auditor>⟧ b.vtable) panel.old)
-            (members (λ b. ⟦<dyn Auditor as Auditor>⟧ b.vtable) panel.new) }
+        ensures notes { NotesAtMost 6 (λ b. ⟦<dyn Auditor as Auditor>⟧ b.vtable)
+            self.old panel.old self.new panel.new }
     {
         let mut journal = Journal::join(panel, &mut self.report.entries);
         self.table
@@ -108,15 +103,17 @@ impl<'z, R: Rng> Daemon<'z, R> {
     fn save_change<D: RuleDisk>(&mut self, alloc: Global, disk: &mut D, change: &Change) -> Stored
         requires can { CanChange change.now (daemon_of self.old).sweep.judge.rules }
         requires reads { ChangeReads change.now (daemon_of self.old).sweep.judge.rules }
-        ensures runs { RunsDisk D.keeps disk.old (DiskRoom (if_kept (daemon_of self.old).sweep.judge change.now))
-            result disk.new }
+        ensures runs { RunsDisk D.keeps disk.old
+            (DiskRoom (if_kept (daemon_of self.old).sweep.judge change.now)) result disk.new }
         ensures counted { TellsStored result (D.faults disk.old) (D.faults disk.new) }
         ensures daemon { daemon_of self.new ≡ record (daemon_of self.old)
             { pending = pending_stored result (daemon_of self.old).pending } }
         ensures report { self.new.report ≡ self.old.report }
         ensures room { refused_by result ≡ None → HasRoom change.now self.new.policy.rules.spare }
-        ensures saves { refused_by result ≡ None → ChangeSaves change.now (daemon_of self.old).sweep.judge }
-        ensures written { has_written result ≡ true → ChangeSaves change.now (daemon_of self.old).sweep.judge }
+        ensures saves { refused_by result ≡ None
+            → ChangeSaves change.now (daemon_of self.old).sweep.judge }
+        ensures written { has_written result ≡ true
+            → ChangeSaves change.now (daemon_of self.old).sweep.judge }
     {
         match self.policy.reserve_for(change) {
             Ok(()) => {}
@@ -136,14 +133,8 @@ impl<'z, R: Rng> Daemon<'z, R> {
         ensures daemon { daemon_of self.new ≡ noted_save stored (daemon_of self.old) }
         ensures policy { self.new.policy ≡ self.old.policy }
         ensures standings { self.new.table.standings ≡ self.old.table.standings }
-        ensures next { self.new.table.next ≡ self.old.table.next }
-        ensures event { self.new.next_event ≡ self.old.next_event }
-        ensures spare { self.old.report.entries.spare + live_in panel.new
-            ≤ self.new.report.entries.spare + 1 + live_in panel.old }
-        ensures number { self.new.report.event ≡ self.old.report.event }
-        ensures noted { NotesMore self.old.report.entries.entries self.new.report.entries.entries
-            (members (λ b. ⟦<dyn Auditor as Auditor>⟧ b.vtable) panel.old)
-            (members (λ b. ⟦<dyn Auditor as Auditor>⟧ b.vtable) panel.new) }
+        ensures notes { NotesAtMost 1 (λ b. ⟦<dyn Auditor as Auditor>⟧ b.vtable)
+            self.old panel.old self.new panel.new }
     {
         match stored {
             Stored::Done => self.note(Entry::Save(Saved::Done), panel),
@@ -162,14 +153,8 @@ impl<'z, R: Rng> Daemon<'z, R> {
         requires spare { live_in panel.old < self.old.report.entries.spare }
         ensures daemon { daemon_of self.new ≡ with_change change (daemon_of self.old) }
         ensures standings { self.new.table.standings ≡ self.old.table.standings }
-        ensures next { self.new.table.next ≡ self.old.table.next }
-        ensures event { self.new.next_event ≡ self.old.next_event }
-        ensures spare { self.old.report.entries.spare + live_in panel.new
-            ≤ self.new.report.entries.spare + 1 + live_in panel.old }
-        ensures number { self.new.report.event ≡ self.old.report.event }
-        ensures noted { NotesMore self.old.report.entries.entries self.new.report.entries.entries
-            (members (λ b. ⟦<dyn Auditor as Auditor>⟧ b.vtable) panel.old)
-            (members (λ b. ⟦<dyn Auditor as Auditor>⟧ b.vtable) panel.new) }
+        ensures notes { NotesAtMost 1 (λ b. ⟦<dyn Auditor as Auditor>⟧ b.vtable)
+            self.old panel.old self.new panel.new }
     {
         let entry = change.entry(self.policy.next_id());
         self.policy.change(change);
@@ -187,20 +172,15 @@ impl<'z, R: Rng> Daemon<'z, R> {
         requires reads { ChangeReads change (daemon_of self.old).sweep.judge.rules }
         requires id { (daemon_of self.old).sweep.judge.next < 2 ^ 64 - 1 }
         requires spare { 1 + live_in panel.old < self.old.report.entries.spare }
-        ensures runs { RunsDisk D.keeps disk.old (DiskRoom (if_kept (daemon_of self.old).sweep.judge change))
-            result disk.new }
+        ensures runs { RunsDisk D.keeps disk.old
+            (DiskRoom (if_kept (daemon_of self.old).sweep.judge change)) result disk.new }
         ensures counted { TellsStored result (D.faults disk.old) (D.faults disk.new) }
         ensures written { WritesRules result (Some change) (daemon_of self.old).sweep.judge }
-        ensures daemon { daemon_of self.new ≡ stored_with result (Some change) (daemon_of self.old) }
+        ensures daemon { daemon_of self.new
+            ≡ stored_with result (Some change) (daemon_of self.old) }
         ensures standings { self.new.table.standings ≡ self.old.table.standings }
-        ensures next { self.new.table.next ≡ self.old.table.next }
-        ensures event { self.new.next_event ≡ self.old.next_event }
-        ensures spare { self.old.report.entries.spare + live_in panel.new
-            ≤ self.new.report.entries.spare + 2 + live_in panel.old }
-        ensures number { self.new.report.event ≡ self.old.report.event }
-        ensures noted { NotesMore self.old.report.entries.entries self.new.report.entries.entries
-            (members (λ b. ⟦<dyn Auditor as Auditor>⟧ b.vtable) panel.old)
-            (members (λ b. ⟦<dyn Auditor as Auditor>⟧ b.vtable) panel.new) }
+        ensures notes { NotesAtMost 2 (λ b. ⟦<dyn Auditor as Auditor>⟧ b.vtable)
+            self.old panel.old self.new panel.new }
     {
         let stored = self.save_change(alloc, disk, &change);
         self.note_stored(stored, panel);
@@ -223,19 +203,14 @@ impl<'z, R: Rng> Daemon<'z, R> {
         requires can { CanMake (daemon_of self.old).sweep.judge.rules change }
         requires id { (daemon_of self.old).sweep.judge.next < 2 ^ 64 - 1 }
         requires spare { 1 + live_in panel.old < self.old.report.entries.spare }
-        ensures runs { RunsDisk D.keeps disk.old (storing (daemon_of self.old) change) result disk.new }
+        ensures runs { RunsDisk D.keeps disk.old (storing (daemon_of self.old) change)
+            result disk.new }
         ensures counted { TellsStored result (D.faults disk.old) (D.faults disk.new) }
         ensures written { WritesRules result change (daemon_of self.old).sweep.judge }
         ensures daemon { daemon_of self.new ≡ stored_with result change (daemon_of self.old) }
         ensures standings { self.new.table.standings ≡ self.old.table.standings }
-        ensures next { self.new.table.next ≡ self.old.table.next }
-        ensures event { self.new.next_event ≡ self.old.next_event }
-        ensures spare { self.old.report.entries.spare + live_in panel.new
-            ≤ self.new.report.entries.spare + 2 + live_in panel.old }
-        ensures number { self.new.report.event ≡ self.old.report.event }
-        ensures noted { NotesMore self.old.report.entries.entries self.new.report.entries.entries
-            (members (λ b. ⟦<dyn Auditor as Auditor>⟧ b.vtable) panel.old)
-            (members (λ b. ⟦<dyn Auditor as Auditor>⟧ b.vtable) panel.new) }
+        ensures notes { NotesAtMost 2 (λ b. ⟦<dyn Auditor as Auditor>⟧ b.vtable)
+            self.old panel.old self.new panel.new }
     {
         match change {
             Some(change) => self.store_change(alloc, disk, change, panel),
@@ -259,15 +234,8 @@ impl<'z, R: Rng> Daemon<'z, R> {
         ensures whole { HasWholeLines result }
         ensures runs { Runs Y.gives sysfs.old (acting who.now (daemon_of self.old) deed)
             (replying result (daemon_of self.new)) sysfs.new }
-        ensures len { length self.new.table.standings ≤ length self.old.table.standings }
-        ensures next { self.new.table.next ≡ self.old.table.next }
-        ensures event { self.new.next_event ≡ self.old.next_event }
-        ensures spare { self.old.report.entries.spare + live_in panel.new
-            ≤ self.new.report.entries.spare + 6 + live_in panel.old }
-        ensures number { self.new.report.event ≡ self.old.report.event }
-        ensures noted { NotesMore self.old.report.entries.entries self.new.report.entries.entries
-            (members (λ b. ⟦<dyn Auditor as Auditor>⟧ b.vtable) panel.old)
-            (members (λ b. ⟦<dyn Auditor as Auditor>⟧ b.vtable) panel.new) }
+        ensures notes { NotesAtMost 6 (λ b. ⟦<dyn Auditor as Auditor>⟧ b.vtable)
+            self.old panel.old self.new panel.new }
     {
         match deed {
             Deed::Refuse(refusal) => Reply::Refused(refusal),
@@ -295,10 +263,8 @@ impl<'z, R: Rng> Daemon<'z, R> {
         ensures reply { self.new.report.reply ≡ Some reply }
         ensures spare { self.new.report.entries.spare + 1 + live_in panel.old
             ≡ self.old.report.entries.spare + live_in panel.new }
-        ensures number { self.new.report.event ≡ self.old.report.event }
-        ensures noted { NotesMore self.old.report.entries.entries self.new.report.entries.entries
-            (members (λ b. ⟦<dyn Auditor as Auditor>⟧ b.vtable) panel.old)
-            (members (λ b. ⟦<dyn Auditor as Auditor>⟧ b.vtable) panel.new) }
+        ensures notes { NotesAtMost 1 (λ b. ⟦<dyn Auditor as Auditor>⟧ b.vtable)
+            self.old panel.old self.new panel.new }
     {
         self.note(Entry::Reply(answer_of(&reply)), panel);
         self.report.reply = Some(reply);
@@ -316,21 +282,16 @@ impl<'z, R: Rng> Daemon<'z, R> {
     ) -> Stored
         requires id { (daemon_of self.old).sweep.judge.next < 2 ^ 64 - 1 }
         requires spare { 9 + live_in panel.old ≤ self.old.report.entries.spare }
-        ensures runs { RunsOrder Y.gives D.keeps who.now line.now sysfs.old disk.old (daemon_of self.old)
+        ensures runs { RunsOrder Y.gives D.keeps who.now line.now
+            sysfs.old disk.old (daemon_of self.old)
             result sysfs.new disk.new (daemon_of self.new) }
-        ensures written { WritesRules result (change_ordered who.now (daemon_of self.old) (request_read line.now))
+        ensures written { WritesRules result
+            (change_ordered who.now (daemon_of self.old) (request_read line.now))
             (daemon_of self.old).sweep.judge }
         ensures whole { IfSome self.new.report.reply (λ r. HasWholeLines r) }
         ensures counted { TellsStored result (D.faults disk.old) (D.faults disk.new) }
-        ensures len { length self.new.table.standings ≤ length self.old.table.standings }
-        ensures next { self.new.table.next ≡ self.old.table.next }
-        ensures event { self.new.next_event ≡ self.old.next_event }
-        ensures spare { self.old.report.entries.spare + live_in panel.new
-            ≤ self.new.report.entries.spare + 9 + live_in panel.old }
-        ensures number { self.new.report.event ≡ self.old.report.event }
-        ensures noted { NotesMore self.old.report.entries.entries self.new.report.entries.entries
-            (members (λ b. ⟦<dyn Auditor as Auditor>⟧ b.vtable) panel.old)
-            (members (λ b. ⟦<dyn Auditor as Auditor>⟧ b.vtable) panel.new) }
+        ensures notes { NotesAtMost 9 (λ b. ⟦<dyn Auditor as Auditor>⟧ b.vtable)
+            self.old panel.old self.new panel.new }
     {
         let choice = self.choose(alloc, sysfs, who, line);
         let stored = self.store(alloc, disk, choice.change, panel);
@@ -357,15 +318,8 @@ impl<'z, R: Rng> Daemon<'z, R> {
         ensures written { WritesEvent event.now (daemon_of self.old) result }
         ensures whole { IfSome self.new.report.reply (λ r. HasWholeLines r) }
         ensures counted { TellsStored result (D.faults disk.old) (D.faults disk.new) }
-        ensures len { length self.new.table.standings ≤ length self.old.table.standings }
-        ensures next { self.new.table.next ≡ self.old.table.next }
-        ensures event { self.new.next_event ≡ self.old.next_event }
-        ensures spare { self.old.report.entries.spare + live_in panel.new
-            ≤ self.new.report.entries.spare + 9 + live_in panel.old }
-        ensures number { self.new.report.event ≡ self.old.report.event }
-        ensures noted { NotesMore self.old.report.entries.entries self.new.report.entries.entries
-            (members (λ b. ⟦<dyn Auditor as Auditor>⟧ b.vtable) panel.old)
-            (members (λ b. ⟦<dyn Auditor as Auditor>⟧ b.vtable) panel.new) }
+        ensures notes { NotesAtMost 9 (λ b. ⟦<dyn Auditor as Auditor>⟧ b.vtable)
+            self.old panel.old self.new panel.new }
     {
         match event {
             Event::Sweep(_) => Stored::NotNeeded,

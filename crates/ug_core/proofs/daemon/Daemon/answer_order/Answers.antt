@@ -3,12 +3,13 @@ use Rattle.std.specs.Prelude.{IfSome}
 use Rattle.ug_proto.specs.declared.reply.Reply.{Reply}
 use Rattle.ug_core.specs.Answering.{HasWholeLines}
 use Rattle.ug_core.specs.Event.{daemon_of}
-use Rattle.ug_core.proofs.Noted.{more_noted}
+use Rattle.ug_core.proofs.Noted.{notes_then}
 use Rattle.ug_core.proofs.Written.{order_writes}
 use Rattle.ug_core.proofs.daemon.Daemon.answer_order.Goals as goal
 
-pub returns-clause-noted : goal.returns-clause-noted
-returns-clause-noted g c = more_noted _ _ _ _ _ _ (more_noted _ _ _ _ _ _ c.store-stored.ensures.noted c.carry_out-reply.ensures.noted) c.reply.ensures.noted
+pub returns-clause-notes : goal.returns-clause-notes
+returns-clause-notes g c =
+    notes_then (notes_then c.store-stored.ensures.notes c.carry_out-reply.ensures.notes) c.reply.ensures.notes
 
 pub returns-clause-written : goal.returns-clause-written
 returns-clause-written g c =

@@ -83,9 +83,9 @@ returns-clause-whole g c = subst (λ (r : Option Reply). IfSome r (λ (x : Reply
 
 pub returns-clause-noted : goal.returns-clause-noted
 returns-clause-noted g c =
-    all_noted _ _ _ _ _ (all_noted _ _ _ _ _ (all_noted _ _ _ _ _ c.begin.ensures.noted c.save_pending-tried.ensures.noted) c.answer-stored.ensures.noted) c.sweep.ensures.noted
+    all_noted _ _ _ _ _ (all_noted _ _ _ _ _ (all_noted _ _ _ _ _ c.begin.ensures.noted c.save_pending-tried.ensures.notes.noted) c.answer-stored.ensures.notes.noted) c.sweep.ensures.noted
 
 pub returns-clause-alone : goal.returns-clause-alone
 returns-clause-alone g c none =
     all_entries _ _ [] _ (live_members _ _ _ _ ∙ none)
-    (all_noted _ _ _ _ _ (all_noted _ _ _ _ _ (all_noted _ _ _ _ _ c.begin.ensures.noted c.save_pending-tried.ensures.noted) c.answer-stored.ensures.noted) c.sweep.ensures.noted)
+    (all_noted _ _ _ _ _ (all_noted _ _ _ _ _ (all_noted _ _ _ _ _ c.begin.ensures.noted c.save_pending-tried.ensures.notes.noted) c.answer-stored.ensures.notes.noted) c.sweep.ensures.noted)
