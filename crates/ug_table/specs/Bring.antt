@@ -1,4 +1,5 @@
--- The writes that bring a device to its verdict: of its value, and then, for one that is rejected, of its removal.
+-- The writes that bring a device to its verdict: of its value, and then, for one that is rejected,
+-- of its removal.
 use Rattle.std.specs.Prelude.{◌≡◌, ℕ, Bool, true, false, not, is_none, ◌&&◌, cond, List, [], ◌∷◌, ◌++◌, Option, Some, None, ◌⊎◌}
 use Rattle.ug_types.specs.Names.{parent_of}
 use Rattle.ug_types.specs.declared.verdict.Target.{Target}
@@ -48,17 +49,30 @@ abbrev pub CallsFor : Option Write → List ℕ → Target → Write → Type 0
 CallsFor hub name verdict write.On = wants verdict ≡ true
 CallsFor hub name verdict write.Off = wants verdict ≡ false
 CallsFor hub name verdict write.Remove = is_reject verdict ≡ true
-CallsFor hub name verdict write.DefaultOff = (parent_of name ≡ None) × (default_write hub ≡ Some write.DefaultOff)
-CallsFor hub name verdict write.DefaultOn = (parent_of name ≡ None) × (default_write hub ≡ Some write.DefaultOn)
+CallsFor hub name verdict write.DefaultOff =
+    (parent_of name ≡ None) × (default_write hub ≡ Some write.DefaultOff)
+CallsFor hub name verdict write.DefaultOn =
+    (parent_of name ≡ None) × (default_write hub ≡ Some write.DefaultOn)
 
 -- the outcome of a write is journalled
-abbrev pub after_write : List ℕ → ℕ → Write → List Entry → Wrote → FailedCall → Prog (Settled × List Entry)
-after_write name number what entries wrote.Done failed = Return (settled.Stands, entries ++ entry.Wrote number name what wrote.Done ∷ [])
-after_write name number what entries wrote.Gone failed = Return (settled.Nobody, (entries ++ entry.Wrote number name what wrote.Gone ∷ []) ++ entry.Gone number name ∷ [])
-after_write name number what entries wrote.Failed failed = Return (settled.Fault failed, entries ++ entry.Wrote number name what wrote.Failed ∷ [])
+abbrev pub after_write : List ℕ → ℕ → Write → List Entry → Wrote → FailedCall
+    → Prog (Settled × List Entry)
+after_write name number what entries wrote.Done failed =
+    Return (settled.Stands, entries ++ entry.Wrote number name what wrote.Done ∷ [])
+after_write name number what entries wrote.Gone failed =
+    Return (
+      settled.Nobody,
+      (entries ++ entry.Wrote number name what wrote.Gone ∷ [])
+          ++ entry.Gone number name ∷ [],
+    )
+after_write name number what entries wrote.Failed failed =
+    Return (settled.Fault failed, entries ++ entry.Wrote number name what wrote.Failed ∷ [])
 
 abbrev pub to_write : List ℕ → Known → Write → List Entry → Prog (Settled × List Entry)
-to_write name known what entries = Ask (Put known.held.0 what) (λ t. after_write name known.number what (entries ++ entry.Intent known.number name what ∷ []) t.answer (failure_of t))
+to_write name known what entries =
+    Ask (Put known.held.0 what)
+    (λ t. after_write name known.number what (entries ++ entry.Intent known.number name what ∷ [])
+    t.answer (failure_of t))
 
 abbrev pub to_value : List ℕ → Known → List Entry → Bool → Bool → Prog (Settled × List Entry)
 to_value name known entries true true = Return (settled.Stands, entries)
@@ -72,17 +86,23 @@ valuing name known on entries = to_value name known entries (wants known.verdict
 
 -- a file that is held is written, and closed
 abbrev pub to_once : List ℕ → Known → Write → ℕ → List Entry → Prog (Settled × List Entry)
-to_once name known what file entries = Ask (Put file what) (λ t. Ask (Close file) (λ closed. after_write name known.number what (entries ++ entry.Intent known.number name what ∷ []) t.answer (failure_of t)))
+to_once name known what file entries =
+    Ask (Put file what)
+    (λ t. Ask (Close file) (λ closed. after_write name known.number what
+    (entries ++ entry.Intent known.number name what ∷ []) t.answer (failure_of t)))
 
-abbrev pub after_hold : List ℕ → Known → Write → List Entry → RemoveHold → Prog (Settled × List Entry)
+abbrev pub after_hold : List ℕ → Known → Write → List Entry → RemoveHold
+    → Prog (Settled × List Entry)
 after_hold name known what entries (hold.Ready file) = to_once name known what file.0 entries
-after_hold name known what entries hold.Gone = Return (settled.Nobody, entries ++ entry.Gone known.number name ∷ [])
+after_hold name known what entries hold.Gone =
+    Return (settled.Nobody, entries ++ entry.Gone known.number name ∷ [])
 after_hold name known what entries (hold.Failed failed) = Return (settled.Fault failed, entries)
 after_hold name known what entries hold.Memory = Return (settled.Memory, entries)
 
 -- a write that is made once: its file is opened and held, written, and closed
 unfoldable pub once : List ℕ → Known → Write → List Entry → Prog (Settled × List Entry)
-once name known what entries = then (holding (control_of what) name known.held.0) (after_hold name known what entries)
+once name known what entries =
+    then (holding (control_of what) name known.held.0) (after_hold name known what entries)
 
 -- whether it is still to be removed
 abbrev pub is_to_go : Known → Bool
@@ -100,44 +120,60 @@ after_value name known entries settled.Memory = Return (settled.Memory, entries)
 
 -- the value, and then the removal
 unfoldable pub writing : List ℕ → Known → Bool → List Entry → Prog (Settled × List Entry)
-writing name known on entries = then (valuing name known on entries) (λ p. after_value name known p.1 p.0)
+writing name known on entries =
+    then (valuing name known on entries) (λ p. after_value name known p.1 p.0)
 
 -- the held file of a device that is gone is closed
 abbrev pub close_gone : ℕ → List Entry → Settled → Prog (Settled × List Entry)
-close_gone held entries settled.Nobody = Ask (Close held) (λ closed. Return (settled.Nobody, entries))
+close_gone held entries settled.Nobody =
+    Ask (Close held) (λ closed. Return (settled.Nobody, entries))
 close_gone held entries settled.Stands = Return (settled.Stands, entries)
 close_gone held entries (settled.Fault failed) = Return (settled.Fault failed, entries)
 close_gone held entries settled.Memory = Return (settled.Memory, entries)
 
 -- the writes; and where they find the device gone, its held file is closed
 unfoldable pub bringing : List ℕ → Known → Bool → List Entry → Prog (Settled × List Entry)
-bringing name known on entries = then (writing name known on entries) (λ p. close_gone known.held.0 p.1 p.0)
+bringing name known on entries =
+    then (writing name known on entries) (λ p. close_gone known.held.0 p.1 p.0)
 
 -- the default of a root hub
 
 -- what is still to be written to it for a standing of that name
 abbrev pub default_due : Option Write → List ℕ → Known → Option Write
-default_due hub name known = cond (is_none (parent_of name) && not known.defaulted) (default_write hub) None
+default_due hub name known =
+    cond (is_none (parent_of name) && not known.defaulted) (default_write hub) None
 
 -- a known device whose default was written
 abbrev pub defaulted_known : Known → Known
 defaulted_known known = record known { defaulted = true }
 
--- behind the write, where that stands, the device is brought to its verdict; and where its device is found gone, its held file is closed
-abbrev pub after_default : List ℕ → Known → Bool → List Entry → Settled → Prog (Settled × Bool × List Entry)
-after_default name known on entries settled.Stands = then (bringing name (defaulted_known known) on entries) (λ p. Return (p.0, true, p.1))
-after_default name known on entries settled.Nobody = Ask (Close known.held.0) (λ closed. Return (settled.Nobody, false, entries))
-after_default name known on entries (settled.Fault failed) = Return (settled.Fault failed, false, entries)
+-- behind the write, where that stands, the device is brought to its verdict; and where its device
+-- is found gone, its held file is closed
+abbrev pub after_default : List ℕ → Known → Bool → List Entry → Settled
+    → Prog (Settled × Bool × List Entry)
+after_default name known on entries settled.Stands =
+    then (bringing name (defaulted_known known) on entries) (λ p. Return (p.0, true, p.1))
+after_default name known on entries settled.Nobody =
+    Ask (Close known.held.0) (λ closed. Return (settled.Nobody, false, entries))
+after_default name known on entries (settled.Fault failed) =
+    Return (settled.Fault failed, false, entries)
 after_default name known on entries settled.Memory = Return (settled.Memory, false, entries)
 
-abbrev pub by_default : List ℕ → Known → Bool → List Entry → Option Write → Prog (Settled × Bool × List Entry)
-by_default name known on entries None = then (bringing name known on entries) (λ p. Return (p.0, false, p.1))
-by_default name known on entries (Some what) = then (once name known what entries) (λ p. after_default name known on p.1 p.0)
+abbrev pub by_default : List ℕ → Known → Bool → List Entry → Option Write
+    → Prog (Settled × Bool × List Entry)
+by_default name known on entries None =
+    then (bringing name known on entries) (λ p. Return (p.0, false, p.1))
+by_default name known on entries (Some what) =
+    then (once name known what entries) (λ p. after_default name known on p.1 p.0)
 
--- all writes of a sweep for a device: first that to its default, where it is still to be made. The answer tells whether it was done
-unfoldable pub treating : Option Write → List ℕ → Known → Bool → List Entry → Prog (Settled × Bool × List Entry)
+-- all writes of a sweep for a device: first that to its default, where it is still to be made. The
+-- answer tells whether it was done
+unfoldable pub treating : Option Write → List ℕ → Known → Bool → List Entry
+    → Prog (Settled × Bool × List Entry)
 treating hub name known on entries = by_default name known on entries (default_due hub name known)
 
--- memory may be wanted for the device: it is still to be removed, or its default is still to be written
+-- memory may be wanted for the device: it is still to be removed, or its default is still to be
+-- written
 abbrev pub NeedsMemory : Option Write → List ℕ → Known → Type 0
-NeedsMemory hub name known = (is_to_go known ≡ true) ⊎ ((what : Write) × (default_due hub name known ≡ Some what))
+NeedsMemory hub name known =
+    (is_to_go known ≡ true) ⊎ ((what : Write) × (default_due hub name known ≡ Some what))

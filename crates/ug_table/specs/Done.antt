@@ -1,4 +1,5 @@
--- The writes that are made once at most for a standing: those to another file than `authorized`. The standing is marked with what was done.
+-- The writes that are made once at most for a standing: those to another file than `authorized`.
+-- The standing is marked with what was done.
 use Rattle.std.specs.Prelude.{Bool, false}
 use Rattle.ug_types.specs.declared.control.Control.{Control}
 use Rattle.ug_types.specs.declared.control.Control.TheVariants.{Authorized, Remove, Default}

@@ -23,12 +23,17 @@ has_number number s = nat_eq s.number number
 abbrev pub stood_done : Control → ℕ → List Standing → Bool
 stood_done control number ss = list_any (λ s. nat_eq s.number number && is_done control s) ss
 
--- The other standings are as they were, each in every field, and none is added among them. One that is settled is marked as settled
--- just where the answer says that it stands, and as removed just where it was so, or is rejected and stands. A default that was
--- written stays so; and where it stands none is still to be written.
-pub record LeavesMarks (hub : Option Write) (own : Standing → Bool) (before after : List Standing) (how : Settled) : Type 0 where
+-- The other standings are as they were, each in every field, and none is added among them. One that
+-- is settled is marked as settled just where the answer says that it stands, and as removed just
+-- where it was so, or is rejected and stands. A default that was written stays so; and where it
+-- stands none is still to be written.
+pub record LeavesMarks (hub : Option Write) (own : Standing → Bool) (before after : List Standing)
+    (how : Settled) : Type 0 where
   pub others : filter (λ s. not (own s)) after ≡ filter (λ s. not (own s)) before
   pub settled : (s : Standing) → Has after s → own s ≡ true → s.settled ≡ stands how
-  pub removed : (s : Standing) → Has after s → own s ≡ true → s.removed ≡ (stood_done Remove s.number before || (stands how && is_reject s.verdict))
-  pub defaulted : (s : Standing) → Has after s → own s ≡ true → stood_done Default s.number before ≡ true → s.defaulted ≡ true
-  pub written : (s : Standing) → Has after s → own s ≡ true → stands how ≡ true → default_due hub s.name (known_of s) ≡ None
+  pub removed : (s : Standing) → Has after s → own s ≡ true
+      → s.removed ≡ (stood_done Remove s.number before || (stands how && is_reject s.verdict))
+  pub defaulted : (s : Standing) → Has after s → own s ≡ true
+      → stood_done Default s.number before ≡ true → s.defaulted ≡ true
+  pub written : (s : Standing) → Has after s → own s ≡ true → stands how ≡ true
+      → default_due hub s.name (known_of s) ≡ None

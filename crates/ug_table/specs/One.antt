@@ -56,11 +56,11 @@ failed_of settled.Nobody = []
 failed_of (settled.Fault failed) = failed ∷ []
 failed_of settled.Memory = []
 
--- The settling of a name is one part of a sweep, in which a name without a standing is bound or isn't,
--- from the standings and the entries before it to those after it. A fault is answered just where a
--- call of the part failed, with its number and count; and want of memory just where it is told. A
--- standing of the name is there where the answer says so, and none where it says that there is nobody.
--- Calls are numbered on, and so both numbers of a fault rise.
+-- The settling of a name is one part of a sweep, in which a name without a standing is bound or
+-- isn't, from the standings and the entries before it to those after it. A fault is answered just
+-- where a call of the part failed, with its number and count; and want of memory just where it is
+-- told. A standing of the name is there where the answer says so, and none where it says that there
+-- is nobody. Calls are numbered on, and so both numbers of a fault rise.
 pub record GoesAsPart {S : Type 0} (hub : Option Write) (binds : Bool)
     (gives : S → (call : Call) → Answer call → S → Type 0) (calls faults : S → ℕ) (name : List ℕ)
     (s : S) (before : List Standing) (es : List Entry) (t : S) (after : List Standing)
@@ -81,34 +81,52 @@ pub record GoesAsPart {S : Type 0} (hub : Option Write) (binds : Bool)
 abbrev pub LivedAs : Kernel → Kernel → List ℕ → ℕ → Type 0
 LivedAs k l name i = (d : Device) × Lived k.devices l.devices i d × (d.name ≡ name)
 
--- The settling of a name is fair; a device of the name that lived through is as judged or the name is told; and where the answer says
--- that there is nobody, no device of the name lived through.
-pub record SettledOne {J : Type 0} (answer : Answers J) (later : Laters J) (terms : Terms) (name : List ℕ) (k : Kernel) (w : State J) (l : Kernel) (v : State J) (how : Settled) : Type 0 where
-  pub fair : IsFair answer later terms none_before k w l v
-  pub defaults : AreDefaulted terms.hub k w.standings → AreDefaulted terms.hub l v.standings
-  pub ended : (i : ℕ) → LivedAs k l name i → IsAsJudged terms.hub l v.standings i ⊎ IsNamed fair.rest name
-  pub nobody : how ≡ settled.Nobody → (i : ℕ) → LivedAs k l name i → ⊥
+-- The settling of a name is fair; a device of the name that lived through is as judged or the name
+-- is told; and where the answer says that there is nobody, no device of the name lived through.
+pub record SettledOne {J : Type 0} (answer : Answers J) (later : Laters J) (terms : Terms)
+    (name : List ℕ) (k : Kernel) (w : State J) (l : Kernel) (v : State J) (how : Settled) : Type 0
+  where
+    pub fair : IsFair answer later terms none_before k w l v
+    pub defaults : AreDefaulted terms.hub k w.standings → AreDefaulted terms.hub l v.standings
+    pub ended : (i : ℕ) → LivedAs k l name i
+        → IsAsJudged terms.hub l v.standings i ⊎ IsNamed fair.rest name
+    pub nobody : how ≡ settled.Nobody → (i : ℕ) → LivedAs k l name i → ⊥
 
--- where a kernel is told at its end, one was told at its start; and where that is sound and the standings are of its devices, that
--- is so
-abbrev pub SettlesOne : {S J : Type 0} → (S → Option Kernel) → Answers J → Laters J → Terms → List ℕ → S → State J → S → State J → Settled → Type 0
-SettlesOne told answer later terms name s w t v how = (l : Kernel) → told t ≡ Some l → (k : Kernel) × (told s ≡ Some k) × (IsKernel k → Stand k w.standings w.next → SettledOne answer later terms name k w l v how)
+-- where a kernel is told at its end, one was told at its start; and where that is sound and the
+-- standings are of its devices, that is so
+abbrev pub SettlesOne : {S J : Type 0} → (S → Option Kernel) → Answers J → Laters J → Terms → List ℕ
+    → S → State J → S → State J → Settled → Type 0
+SettlesOne told answer later terms name s w t v how =
+    (l : Kernel) → told t ≡ Some l
+    → (k : Kernel) × (told s ≡ Some k)
+    × (IsKernel k → Stand k w.standings w.next → SettledOne answer later terms name k w l v how)
 
 -- the standing's held file is the device's
 abbrev pub IsOf : Kernel → Standing → ℕ → Type 0
 IsOf k s i = slice_get k.held s.held.0 ≡ Some (record { device = i; control = Authorized })
 
--- A standing settled again is so fairly, whatever judge there is, as none is asked; its device, where it lived through, is as judged
--- or its name is told; and where the answer says that there is nobody, it is gone.
-pub record ResettledOne (hub : Option Write) (s : Standing) (k : Kernel) (w : State (Unit {0})) (l : Kernel) (v : State (Unit {0})) (how : Settled) : Type 0 where
-  pub fair : (answer : Answers (Unit {0})) (later : Laters (Unit {0})) (present : Bool) (tried : Tries) → IsFair answer later (terms_of present hub) tried k w l v
+-- A standing settled again is so fairly, whatever judge there is, as none is asked; its device,
+-- where it lived through, is as judged or its name is told; and where the answer says that there is
+-- nobody, it is gone.
+pub record ResettledOne (hub : Option Write) (s : Standing) (k : Kernel) (w : State (Unit {0}))
+    (l : Kernel) (v : State (Unit {0})) (how : Settled) : Type 0 where
+  pub fair : (answer : Answers (Unit {0})) (later : Laters (Unit {0})) (present : Bool)
+      (tried : Tries)
+      → IsFair answer later (terms_of present hub) tried k w l v
   pub defaults : AreDefaulted hub k w.standings → AreDefaulted hub l v.standings
-  pub ended : (i : ℕ) (d : Device) → IsOf k s i → Lived k.devices l.devices i d → IsAsJudged hub l v.standings i ⊎ ((rest : List Entry) × (v.entries ≡ w.entries ++ rest) × IsNamed rest s.name)
+  pub ended : (i : ℕ) (d : Device) → IsOf k s i → Lived k.devices l.devices i d
+      → IsAsJudged hub l v.standings i
+      ⊎ ((rest : List Entry) × (v.entries ≡ w.entries ++ rest) × IsNamed rest s.name)
   pub nobody : how ≡ settled.Nobody → (i : ℕ) → IsOf k s i → IsGone l i
 
-abbrev pub ResettlesOne : {S : Type 0} → Option Write → (S → Option Kernel) → ℕ → S → State (Unit {0}) → S → State (Unit {0}) → Settled → Type 0
-ResettlesOne hub told number s w t v how = (l : Kernel) → told t ≡ Some l → (k : Kernel) × (told s ≡ Some k) × (IsKernel k → Stand k w.standings w.next → (x : Standing) → numbered number w.standings ≡ Some x → ResettledOne hub x k w l v how)
+abbrev pub ResettlesOne : {S : Type 0} → Option Write → (S → Option Kernel) → ℕ → S
+    → State (Unit {0}) → S → State (Unit {0}) → Settled → Type 0
+ResettlesOne hub told number s w t v how =
+    (l : Kernel) → told t ≡ Some l
+    → (k : Kernel) × (told s ≡ Some k) × (IsKernel k → Stand k w.standings w.next → (x : Standing)
+    → numbered number w.standings ≡ Some x → ResettledOne hub x k w l v how)
 
 -- memory may be wanted for the device of that number's standing
 abbrev pub NeedsRoom : Option Write → ℕ → List Standing → Type 0
-NeedsRoom hub number ss = (s : Standing) × (numbered number ss ≡ Some s) × NeedsMemory hub s.name (known_of s)
+NeedsRoom hub number ss =
+    (s : Standing) × (numbered number ss ≡ Some s) × NeedsMemory hub s.name (known_of s)

@@ -1,4 +1,5 @@
--- An order on the device of one standing: its verdict is set and told, and the writes are made from the value that was probed.
+-- An order on the device of one standing: its verdict is set and told, and the writes are made from
+-- the value that was probed.
 use Rattle.std.specs.Prelude.{◌≡◌, ℕ, Bool, ◌^◌, ◌<◌, ◌≤◌, nat_eq, cond, map, List, [], ◌∷◌, ◌++◌, Option, Some, None, ◌⊎◌}
 use Rattle.ug_types.specs.Elements.{Has}
 use Rattle.ug_types.specs.Principals.{Named}
@@ -49,8 +50,12 @@ pub record ProbedOne (s : Standing) (k l : Kernel) (found : Probe) : Type 0 wher
   pub says : says_probe s.held.0 found k l
 
 -- where a kernel is told at its end, one was told at its start; and where that is sound, that is so
-abbrev pub ProbesOne : {S : Type 0} → (S → Option Kernel) → ℕ → List Standing → S → S → Probe → Type 0
-ProbesOne told number ss s t found = (l : Kernel) → told t ≡ Some l → (k : Kernel) × (told s ≡ Some k) × (IsKernel k → (x : Standing) → numbered number ss ≡ Some x → ProbedOne x k l found)
+abbrev pub ProbesOne : {S : Type 0} → (S → Option Kernel) → ℕ → List Standing → S → S → Probe
+    → Type 0
+ProbesOne told number ss s t found =
+    (l : Kernel) → told t ≡ Some l
+    → (k : Kernel) × (told s ≡ Some k)
+    × (IsKernel k → (x : Standing) → numbered number ss ≡ Some x → ProbedOne x k l found)
 
 -- the order
 
@@ -66,7 +71,8 @@ cause_by number who s = cond (nat_eq s.number number) (cause.Order who) s.cause
 
 -- the standing of that number has it
 abbrev pub ordered_standing : ℕ → Target → Named → Standing → Standing
-ordered_standing number verdict who s = record s { verdict = verdict_by number verdict s; cause = cause_by number who s }
+ordered_standing number verdict who s =
+    record s { verdict = verdict_by number verdict s; cause = cause_by number who s }
 
 abbrev pub with_order : ℕ → Target → Named → List Standing → List Standing
 with_order number verdict who ss = map (ordered_standing number verdict who) ss
@@ -80,7 +86,9 @@ to_tried ss name p = Return (p.0, record { standings = tried_standings ss name p
 
 abbrev pub to_order : ℕ → Target → Named → Bool → Kept → Option Standing → Prog (Settled × Kept)
 to_order number verdict who on k (Some s) =
-    then (bringing s.name (known_of (with_verdict verdict who s)) on (k.entries ++ verdict_entry (with_verdict verdict who s) ∷ []))
+    then
+    (bringing s.name (known_of (with_verdict verdict who s)) on
+    (k.entries ++ verdict_entry (with_verdict verdict who s) ∷ []))
     (to_tried (with_order number verdict who k.standings) s.name)
 to_order number verdict who on k None = Return (settled.Nobody, k)
 
@@ -92,14 +100,20 @@ ordering number verdict who on k = to_order number verdict who on k (numbered nu
 
 -- the probe of that file was the last call
 abbrev pub behind_probe : ℕ → Told Probe → Behind
-behind_probe held t = record { last = Some (answered (Ask_alive held) t); earlier = None; found = Some (answered (Ask_alive held) t) }
+behind_probe held t =
+    record {
+      last = Some (answered (Ask_alive held) t);
+      earlier = None;
+      found = Some
+          (answered (Ask_alive held) t);
+    }
 
--- The calls of an order on that standing, which has the ordered verdict. They are about its name, and
--- are over with one that fails; they are just those of the verdict's writes, from that value on; behind
--- a probe that found the device alive with it each write is due. The verdict is told first, then the
--- writes, and no other verdict and no name as unsettled; each kind of write is made once at most. Each
--- entry bears the name and the number. The answer tells the call that failed, with its number and
--- count, and whether the name has a standing still.
+-- The calls of an order on that standing, which has the ordered verdict. They are about its name,
+-- and are over with one that fails; they are just those of the verdict's writes, from that value
+-- on; behind a probe that found the device alive with it each write is due. The verdict is told
+-- first, then the writes, and no other verdict and no name as unsettled; each kind of write is made
+-- once at most. Each entry bears the name and the number. The answer tells the call that failed,
+-- with its number and count, and whether the name has a standing still.
 pub record GoesAsOrder {S : Type 0} (gives : S → (call : Call) → Answer call → S → Type 0)
     (calls faults : S → ℕ) (x : Standing) (on : Bool) (s : S) (es : List Entry) (t : S)
     (after : List Standing) (fs : List Entry) (how : Settled) : Type 0 where
@@ -108,7 +122,8 @@ pub record GoesAsOrder {S : Type 0} (gives : S → (call : Call) → Answer call
   pub rest : List Entry
   pub entries : fs ≡ es ++ verdict_entry x ∷ rest
   pub about : AreAbout x.name (open_file x.held.0 Authorized ∷ []) made
-  pub leaves : files_after (open_file x.held.0 Authorized ∷ []) made ≡ known_files (standing_of x.name after)
+  pub leaves : files_after (open_file x.held.0 Authorized ∷ []) made
+      ≡ known_files (standing_of x.name after)
   pub ends : EndsAtFailure [] made
   pub due : (t : Told Probe) → t.answer ≡ probe.Alive on → AreDue (behind_probe x.held.0 t) made
   pub single : AtMostOneEach (puts_of made)
@@ -127,8 +142,11 @@ pub record GoesAsOrder {S : Type 0} (gives : S → (call : Call) → Answer call
 
 -- the standing of that number keeps all but its marks, and has the ordered verdict
 abbrev pub HasOrdered : ℕ → Target → Named → List Standing → List Standing → Type 0
-HasOrdered number verdict who before after = (x : Standing) → numbered number before ≡ Some x → (s : Standing) → Has after s → s.number ≡ number
-    → (s.name ≡ x.name) × (s.held ≡ x.held) × (s.judged ≡ x.judged) × (s.verdict ≡ verdict) × (s.cause ≡ cause.Order who)
+HasOrdered number verdict who before after =
+    (x : Standing) → numbered number before ≡ Some x → (s : Standing) → Has after s
+    → s.number ≡ number
+    → (s.name ≡ x.name) × (s.held ≡ x.held) × (s.judged ≡ x.judged) × (s.verdict ≡ verdict)
+    × (s.cause ≡ cause.Order who)
 
 -- and in the words of devices
 
@@ -141,19 +159,34 @@ IsStopped settled.Memory = Unit {0}
 
 -- the ordered verdict is set and told
 abbrev pub just_ordered : {J : Type 0} → ℕ → Target → Named → Standing → State J → State J
-just_ordered number verdict who x w = record w { standings = with_order number verdict who w.standings; entries = w.entries ++ verdict_entry (with_verdict verdict who x) ∷ [] }
+just_ordered number verdict who x w =
+    record w {
+      standings = with_order number verdict who w.standings;
+      entries = w.entries
+          ++ verdict_entry (with_verdict verdict who x) ∷ [];
+    }
 
--- From the state in which the verdict was just set and told on, the order is fair, whatever judge there is, as none is asked. Each
--- effect that the log gains is on the standing's own device. That device, where it lived through and had the value that was probed,
--- is as ordered, or the answer tells what stopped it; and where the answer says that there is nobody, it is gone.
-pub record OrderedOne {J : Type 0} (number : ℕ) (verdict : Target) (who : Named) (on : Bool) (x : Standing) (k : Kernel) (w : State J) (l : Kernel) (v : State J) (how : Settled) : Type 0 where
-  pub fair : (answer : Answers J) (later : Laters J) (terms : Terms) (tried : Tries) → IsFair answer later terms tried k (just_ordered number verdict who x w) l v
-  pub defaults : (hub : Option Write) → AreDefaulted hub k w.standings → AreDefaulted hub l v.standings
-  pub own : (e : Effect) → Has l.log e → Has k.log e ⊎ IsOf l x e.device
-  pub ended : (i : ℕ) (d : Device) → IsOf k x i → Lived k.devices l.devices i d → d.on ≡ on → IsAsJudged None l v.standings i ⊎ IsStopped how
-  pub nobody : how ≡ settled.Nobody → (i : ℕ) → IsOf k x i → IsGone l i
+-- From the state in which the verdict was just set and told on, the order is fair, whatever judge
+-- there is, as none is asked. Each effect that the log gains is on the standing's own device. That
+-- device, where it lived through and had the value that was probed, is as ordered, or the answer
+-- tells what stopped it; and where the answer says that there is nobody, it is gone.
+pub record OrderedOne {J : Type 0} (number : ℕ) (verdict : Target) (who : Named) (on : Bool)
+    (x : Standing) (k : Kernel) (w : State J) (l : Kernel) (v : State J) (how : Settled) : Type 0
+  where
+    pub fair : (answer : Answers J) (later : Laters J) (terms : Terms) (tried : Tries)
+        → IsFair answer later terms tried k (just_ordered number verdict who x w) l v
+    pub defaults : (hub : Option Write) → AreDefaulted hub k w.standings
+        → AreDefaulted hub l v.standings
+    pub own : (e : Effect) → Has l.log e → Has k.log e ⊎ IsOf l x e.device
+    pub ended : (i : ℕ) (d : Device) → IsOf k x i → Lived k.devices l.devices i d → d.on ≡ on
+        → IsAsJudged None l v.standings i ⊎ IsStopped how
+    pub nobody : how ≡ settled.Nobody → (i : ℕ) → IsOf k x i → IsGone l i
 
--- where a kernel is told at its end, one was told at its start; and where that is sound and the standings are of its devices, that
--- is so
-abbrev pub OrdersOne : {S J : Type 0} → (S → Option Kernel) → ℕ → Target → Named → Bool → S → State J → S → State J → Settled → Type 0
-OrdersOne told number verdict who on s w t v how = (l : Kernel) → told t ≡ Some l → (k : Kernel) × (told s ≡ Some k) × (IsKernel k → Stand k w.standings w.next → (x : Standing) → numbered number w.standings ≡ Some x → OrderedOne number verdict who on x k w l v how)
+-- where a kernel is told at its end, one was told at its start; and where that is sound and the
+-- standings are of its devices, that is so
+abbrev pub OrdersOne : {S J : Type 0} → (S → Option Kernel) → ℕ → Target → Named → Bool → S
+    → State J → S → State J → Settled → Type 0
+OrdersOne told number verdict who on s w t v how =
+    (l : Kernel) → told t ≡ Some l
+    → (k : Kernel) × (told s ≡ Some k) × (IsKernel k → Stand k w.standings w.next → (x : Standing)
+    → numbered number w.standings ≡ Some x → OrderedOne number verdict who on x k w l v how)

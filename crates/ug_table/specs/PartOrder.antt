@@ -1,5 +1,5 @@
--- The order of the calls in one name's part of a sweep, and behind the probe of an order. To which of
--- the open files a call goes, `IsAbout` says.
+-- The order of the calls in one name's part of a sweep, and behind the probe of an order. To which
+-- of the open files a call goes, `IsAbout` says.
 use Rattle.std.specs.Prelude.{◌≡◌, ℕ, Bool, true, false, List, [], ◌∷◌, ◌++◌, Option, Some, None}
 use Rattle.ug_types.specs.Elements.{Has}
 use Rattle.ug_types.specs.declared.control.Write.{Write}

@@ -1,4 +1,5 @@
--- A sweep's calls, in parts: the listing, and a part for each name; and which failed calls its `unsettled` entries tell.
+-- A sweep's calls, in parts: the listing, and a part for each name; and which failed calls its
+-- `unsettled` entries tell.
 use Rattle.std.specs.Prelude.{◌≡◌, ℕ, ◌+◌, length, ◌^◌, ◌<◌, ◌≤◌, Bool, true, false, not, map, List, [], ◌∷◌, ◌++◌, Option, Some, None, Result, Err, ◌⊎◌, if◌then◌else◌, nat_eq, cond}
 use Rattle.std.specs.List.{filter}
 use Rattle.ug_types.specs.Elements.{Has, AllDistinct}
@@ -41,7 +42,8 @@ abbrev pub told_by : Fault → List FailedCall
 told_by (fault.Call failed) = failed ∷ []
 told_by fault.Memory = []
 
--- The failed call that a reply tells: one behind the order's probe, or that probe, which is the first call of its event.
+-- The failed call that a reply tells: one behind the order's probe, or that probe, which is the
+-- first call of its event.
 abbrev pub told_in_reply : Result (Unit {0}) Refusal → List FailedCall
 told_in_reply (Err (refusal.DeviceFault call count)) = record { call = call; count = count } ∷ []
 told_in_reply (Err (refusal.ProbeFault count)) = record { call = 1; count = count } ∷ []
@@ -100,8 +102,9 @@ abbrev pub files_after : List OpenFile → List Made → List OpenFile
 files_after files [] = files
 files_after files (m ∷ ms) = files_after (files_left m.call m.answer files) ms
 
--- The call is about the name, whose open files these are: it goes to the name, or reads its parent's files, or goes to one of these.
--- What is probed is an `authorized` file, and what is written is the file that the write goes to.
+-- The call is about the name, whose open files these are: it goes to the name, or reads its
+-- parent's files, or goes to one of these. What is probed is an `authorized` file, and what is
+-- written is the file that the write goes to.
 abbrev pub IsAbout : List ℕ → List OpenFile → Call → Type 0
 IsAbout name files Names = ⊥
 IsAbout name files (Open other control) = other ≡ name
@@ -113,7 +116,8 @@ IsAbout name files (Close held) = (control : Control) × Has files (open_file he
 -- each of the calls is; a file that one of them opened is the name's until it is closed
 abbrev pub AreAbout : List ℕ → List OpenFile → List Made → Type 0
 AreAbout name files [] = Unit {0}
-AreAbout name files (m ∷ ms) = IsAbout name files m.call × AreAbout name (files_left m.call m.answer files) ms
+AreAbout name files (m ∷ ms) =
+    IsAbout name files m.call × AreAbout name (files_left m.call m.answer files) ms
 
 abbrev pub IsClosing : Call → Type 0
 IsClosing (Close held) = Unit {0}
@@ -126,17 +130,24 @@ IsClosing (Put held what) = ⊥
 -- behind a call that failed there are closings alone
 abbrev pub EndsAtFailure : List FailedCall → List Made → Type 0
 EndsAtFailure before [] = Unit {0}
-EndsAtFailure before (m ∷ ms) = ((before ≡ []) ⊎ IsClosing m.call) × EndsAtFailure (before ++ failure m.call m.answer) ms
+EndsAtFailure before (m ∷ ms) =
+    ((before ≡ []) ⊎ IsClosing m.call) × EndsAtFailure (before ++ failure m.call m.answer) ms
 
 -- the last call was a probe that found the device alive, with that value
 abbrev pub FoundAlive : Option Made → Bool → Type 0
-FoundAlive last on = (held : ℕ) × (t : Told Probe) × (last ≡ Some (answered (Ask_alive held) t)) × (t.answer ≡ probe.Alive on)
+FoundAlive last on =
+    (held : ℕ) × (t : Told Probe) × (last ≡ Some (answered (Ask_alive held) t))
+    × (t.answer ≡ probe.Alive on)
 
 -- the last call opened that file, of that control
 abbrev pub OpenedFile : Control → Option Made → ℕ → Type 0
-OpenedFile control last file = (name : List ℕ) × (t : Told Opened) × (held : Held) × (last ≡ Some (answered (Open name control) t)) × (t.answer ≡ opened.Token held) × (held.0 ≡ file)
+OpenedFile control last file =
+    (name : List ℕ) × (t : Told Opened) × (held : Held)
+    × (last ≡ Some (answered (Open name control) t)) × (t.answer ≡ opened.Token held)
+    × (held.0 ≡ file)
 
--- the last two calls, the last one first; and the last one again if it probed, where no more than the default was written since
+-- the last two calls, the last one first; and the last one again if it probed, where no more than
+-- the default was written since
 pub record Behind : Type 0 where
   pub last : Option Made
   pub earlier : Option Made
@@ -144,14 +155,19 @@ pub record Behind : Type 0 where
 
 -- a write to a file that was opened just before, and behind it a probe found the device alive
 abbrev pub IsOnceDue : Control → Behind → ℕ → Type 0
-IsOnceDue control behind held = ((on : Bool) × FoundAlive behind.last on) × OpenedFile control behind.earlier held
+IsOnceDue control behind held =
+    ((on : Bool) × FoundAlive behind.last on) × OpenedFile control behind.earlier held
 
--- A write of a value stands directly behind a probe of its file that found the other value, but for a write to the default between
--- them. A removal, and a write to a default, stands directly behind a probe that found the device alive, and that directly behind the
--- opening of its file.
+-- A write of a value stands directly behind a probe of its file that found the other value, but for
+-- a write to the default between them. A removal, and a write to a default, stands directly behind
+-- a probe that found the device alive, and that directly behind the opening of its file.
 abbrev pub IsWriteDue : Behind → ℕ → Write → Type 0
-IsWriteDue behind held write.On = (t : Told Probe) × (behind.found ≡ Some (answered (Ask_alive held) t)) × (t.answer ≡ probe.Alive false)
-IsWriteDue behind held write.Off = (t : Told Probe) × (behind.found ≡ Some (answered (Ask_alive held) t)) × (t.answer ≡ probe.Alive true)
+IsWriteDue behind held write.On =
+    (t : Told Probe) × (behind.found ≡ Some (answered (Ask_alive held) t))
+    × (t.answer ≡ probe.Alive false)
+IsWriteDue behind held write.Off =
+    (t : Told Probe) × (behind.found ≡ Some (answered (Ask_alive held) t))
+    × (t.answer ≡ probe.Alive true)
 IsWriteDue behind held write.Remove = IsOnceDue Remove behind held
 IsWriteDue behind held write.DefaultOff = IsOnceDue Default behind held
 IsWriteDue behind held write.DefaultOn = IsOnceDue Default behind held
@@ -193,7 +209,9 @@ found_by (Read name attr) m last found = None
 
 -- a call more
 abbrev pub behind_more : Behind → Made → Behind
-behind_more behind m = record { last = Some m; earlier = behind.last; found = found_by m.call m behind.last behind.found }
+behind_more behind m =
+    record
+    { last = Some m; earlier = behind.last; found = found_by m.call m behind.last behind.found }
 
 abbrev pub AreDue : Behind → List Made → Type 0
 AreDue behind [] = Unit {0}
@@ -234,7 +252,9 @@ writes_in (e ∷ es) = write_in e ++ writes_in es
 -- two entries for each write of the name, and no more
 abbrev pub TellsWrites : List ℕ → List PutMade → List Entry → Type 0
 TellsWrites name [] es = es ≡ []
-TellsWrites name (p ∷ ps) es = (number : ℕ) × (rest : List Entry) × (es ≡ wrote_entries number name p.write p.outcome ++ rest) × TellsWrites name ps rest
+TellsWrites name (p ∷ ps) es =
+    (number : ℕ) × (rest : List Entry) × (es ≡ wrote_entries number name p.write p.outcome ++ rest)
+    × TellsWrites name ps rest
 
 -- an `unsettled` entry bears the name, and is the last; and none is a reply
 abbrev pub IsLast : List ℕ → Entry → List Entry → Type 0
@@ -265,13 +285,17 @@ abbrev pub number_of : Option Known → Option ℕ
 number_of None = None
 number_of (Some known) = Some known.number
 
--- The entries bear the numbers of the standings of a name, which begin with the first and end with the last of these: a verdict gives
--- a number to a name that has none, a write is that of the number, and `gone` ends it.
+-- The entries bear the numbers of the standings of a name, which begin with the first and end with
+-- the last of these: a verdict gives a number to a name that has none, a write is that of the
+-- number, and `gone` ends it.
 abbrev pub AreOfNumber : Option ℕ → List Entry → Option ℕ → Type 0
 AreOfNumber now [] end = end ≡ now
-AreOfNumber now (entry.Judged number name held verdict cause ∷ es) end = (now ≡ None) × AreOfNumber (Some number) es end
-AreOfNumber now (entry.Intent number name what ∷ es) end = (now ≡ Some number) × AreOfNumber now es end
-AreOfNumber now (entry.Wrote number name what outcome ∷ es) end = (now ≡ Some number) × AreOfNumber now es end
+AreOfNumber now (entry.Judged number name held verdict cause ∷ es) end =
+    (now ≡ None) × AreOfNumber (Some number) es end
+AreOfNumber now (entry.Intent number name what ∷ es) end =
+    (now ≡ Some number) × AreOfNumber now es end
+AreOfNumber now (entry.Wrote number name what outcome ∷ es) end =
+    (now ≡ Some number) × AreOfNumber now es end
 AreOfNumber now (entry.Gone number name ∷ es) end = (now ≡ Some number) × AreOfNumber None es end
 AreOfNumber now (e ∷ es) end = AreOfNumber now es end
 
@@ -283,11 +307,14 @@ numbers_given (e ∷ es) = numbers_given es
 
 -- a call that found the device of a standing gone
 abbrev pub FoundGone : Option Known → Made → Type 0
-FoundGone stands m = (known : Known) × (t : Told Probe) × (stands ≡ Some known) × (m ≡ answered (Ask_alive known.held.0) t) × (t.answer ≡ probe.Gone)
+FoundGone stands m =
+    (known : Known) × (t : Told Probe) × (stands ≡ Some known)
+    × (m ≡ answered (Ask_alive known.held.0) t) × (t.answer ≡ probe.Gone)
 
 -- the name has no standing, or the first call finds that its device is gone
 abbrev pub IsBoundAnew : Option Known → List Made → Type 0
-IsBoundAnew stands calls = (stands ≡ None) ⊎ ((m : Made) × (later : List Made) × (calls ≡ m ∷ later) × FoundGone stands m)
+IsBoundAnew stands calls =
+    (stands ≡ None) ⊎ ((m : Made) × (later : List Made) × (calls ≡ m ∷ later) × FoundGone stands m)
 
 abbrev pub known_files : Option Known → List OpenFile
 known_files None = []
@@ -298,37 +325,43 @@ abbrev pub FoundNoRoom : Control → List ℕ → List Made → Type 0
 FoundNoRoom control name calls =
     (t : Told Opened) × Has calls (answered (Open name control) t) × (t.answer ≡ opened.Memory)
 
--- The device of a standing is still to be removed, and there was no memory to open its `remove`; or its default is still to be written,
--- and there was none to open that.
+-- The device of a standing is still to be removed, and there was no memory to open its `remove`; or
+-- its default is still to be written, and there was none to open that.
 abbrev pub LacksRoom : Option Write → List ℕ → Option Known → List Made → Type 0
 LacksRoom hub name stands calls =
     (known : Known) × (stands ≡ Some known)
     × (((is_to_go known ≡ true) × FoundNoRoom Remove name calls)
     ⊎ ((what : Write) × (default_due hub name known ≡ Some what) × FoundNoRoom Default name calls))
 
--- One name's part of a sweep, from the standings before it to those after it: its calls are about the name, and are over with
--- one that fails; they are made in the order of a part, in which a name without a standing is bound or isn't; the
--- files that are open after them are those that the name's standing holds; its entries tell that failure, and no other; what is told
--- of want of memory is of a new device, or of one that is still to be removed; each write is due and told, and there is one of each
--- kind at most; there are few calls; each entry bears the name, and the number of its standing; one number at most is given out; and
--- the standings of other names stay.
+-- One name's part of a sweep, from the standings before it to those after it: its calls are about
+-- the name, and are over with one that fails; they are made in the order of a part, in which a name
+-- without a standing is bound or isn't; the files that are open after them are those that the
+-- name's standing holds; its entries tell that failure, and no other; what is told of want of
+-- memory is of a new device, or of one that is still to be removed; each write is due and told, and
+-- there is one of each kind at most; there are few calls; each entry bears the name, and the number
+-- of its standing; one number at most is given out; and the standings of other names stay.
 pub record Part (hub : Option Write) (binds : Bool) (name : List ℕ) (before after : List Standing)
     (calls : List Made) (entries : List Entry) : Type 0 where
   pub about : AreAbout name (known_files (standing_of name before)) calls
-  pub leaves : files_after (known_files (standing_of name before)) calls ≡ known_files (standing_of name after)
+  pub leaves : files_after (known_files (standing_of name before)) calls
+      ≡ known_files (standing_of name after)
   pub ends : EndsAtFailure [] calls
   pub told : failures_told entries ≡ failures calls
   pub last : EndsUnsettled name entries
-  pub memory : Has entries (entry.Unsettled name fault.Memory) → IsBoundAnew (standing_of name before) calls ⊎ LacksRoom hub name (standing_of name before) calls
+  pub memory : Has entries (entry.Unsettled name fault.Memory)
+      → IsBoundAnew (standing_of name before) calls
+      ⊎ LacksRoom hub name (standing_of name before) calls
   pub due : AreDue (record { last = None; earlier = None; found = None }) calls
   pub single : AtMostOneEach (puts_of calls)
   pub writes : TellsWrites name (puts_of calls) (writes_in entries)
   pub few : count_calls calls ≤ 14
   pub order : GoInOrder binds hub name (standing_of name before) entries calls
   pub bears : AllBear name entries
-  pub numbers : AreOfNumber (number_of (standing_of name before)) entries (number_of (standing_of name after))
+  pub numbers : AreOfNumber (number_of (standing_of name before)) entries
+      (number_of (standing_of name after))
   pub given : length (numbers_given entries) ≤ 1
-  pub others : (other : List ℕ) → (other ≡ name → ⊥) → standing_of other after ≡ standing_of other before
+  pub others : (other : List ℕ) → (other ≡ name → ⊥)
+      → standing_of other after ≡ standing_of other before
 
 -- a part for each name, in this order
 abbrev pub InParts : Option Write → Bool → List (List ℕ) → List Standing → List Standing → List Made
@@ -343,7 +376,9 @@ InParts hub binds (name ∷ names) before after calls entries =
 -- these calls close those files, in order
 abbrev pub AreClosings : List Held → List Made → Type 0
 AreClosings [] calls = calls ≡ []
-AreClosings (file ∷ files) calls = (shut : Closing) × (rest : List Made) × (calls ≡ answered (Close file.0) shut ∷ rest) × AreClosings files rest
+AreClosings (file ∷ files) calls =
+    (shut : Closing) × (rest : List Made) × (calls ≡ answered (Close file.0) shut ∷ rest)
+    × AreClosings files rest
 
 -- the files that the standings of other names than these hold
 abbrev pub unlisted_files : List (List ℕ) → List Standing → List Held
@@ -364,7 +399,8 @@ BeginsUnlisted why ss entries left names shut binds =
     (binds ≡ false) × (names ≡ names_of ss) × (entries ≡ entry.UnsettledAll why ∷ [])
     × (left ≡ ss) × (shut ≡ [])
 
--- what the answer to the listing leads to; where it has names, memory can be short for what is noted of them
+-- what the answer to the listing leads to; where it has names, memory can be short for what is
+-- noted of them
 abbrev pub AfterListing : Listing → FailedCall → List Standing → List Entry → List Standing
     → List (List ℕ) → List Made → Bool → Type 0
 AfterListing (listing.Names listed) failed ss entries left names shut binds =
@@ -380,9 +416,11 @@ abbrev pub count_listed : Listing → ℕ
 count_listed (listing.Names listed) = length listed
 count_listed answer = 0
 
--- A sweep's calls are the listing, the closing of what isn't listed, and then the names' parts; and so are its entries. The next
--- number rises by those that are given out, which are no more than the names that were listed.
-pub record GoesInParts {S J : Type 0} (gives : S → (call : Call) → Answer call → S → Type 0) (s : S) (w : State J) (t : S) (v : State J) : Type 0 where
+-- A sweep's calls are the listing, the closing of what isn't listed, and then the names' parts; and
+-- so are its entries. The next number rises by those that are given out, which are no more than the
+-- names that were listed.
+pub record GoesInParts {S J : Type 0} (gives : S → (call : Call) → Answer call → S → Type 0) (s : S)
+    (w : State J) (t : S) (v : State J) : Type 0 where
   pub listed : Told Listing
   pub later : List Made
   pub along : Along gives s (answered Names listed ∷ later) t
@@ -400,15 +438,20 @@ pub record GoesInParts {S J : Type 0} (gives : S → (call : Call) → Answer ca
   pub next : v.next ≡ w.next + length (numbers_given rest)
   pub given : length (numbers_given rest) ≤ count_listed listed.answer
 
--- In a sweep in parts each call that failed is told with its number and the count of faults after it, and no other is; and calls
--- are numbered on, so that both numbers rise.
-pub record TellsFaults {S J : Type 0} (gives : S → (call : Call) → Answer call → S → Type 0) (calls faults : S → ℕ) (s : S) (w : State J) (t : S) (v : State J) : Type 0 where
+-- In a sweep in parts each call that failed is told with its number and the count of faults after
+-- it, and no other is; and calls are numbered on, so that both numbers rise.
+pub record TellsFaults {S J : Type 0} (gives : S → (call : Call) → Answer call → S → Type 0)
+    (calls faults : S → ℕ) (s : S) (w : State J) (t : S) (v : State J) : Type 0 where
   pub goes : GoesInParts gives s w t v
-  pub exact : failures_told (goes.head ++ goes.rest) ≡ failures (answered Names goes.listed ∷ goes.later)
+  pub exact : failures_told (goes.head ++ goes.rest)
+      ≡ failures (answered Names goes.listed ∷ goes.later)
   pub numbered : AreNumbered (calls s) (answered Names goes.listed ∷ goes.later)
   pub rises : calls s < 2 ^ 64 → Rises (calls s) (faults s) (failures_told (goes.head ++ goes.rest))
 
--- where a kernel is told at the end of a sweep, one was told at its start; and where that is sound and the standings are of
--- its devices, each name has at most one `unsettled` entry
+-- where a kernel is told at the end of a sweep, one was told at its start; and where that is sound
+-- and the standings are of its devices, each name has at most one `unsettled` entry
 abbrev pub NamesOnce : {S J : Type 0} → (S → Option Kernel) → S → State J → S → State J → Type 0
-NamesOnce told s w t v = (l : Kernel) → told t ≡ Some l → (k : Kernel) × (told s ≡ Some k) × (IsKernel k → Stand k w.standings w.next → (rest : List Entry) × (v.entries ≡ w.entries ++ rest) × AllDistinct (unsettled_names rest))
+NamesOnce told s w t v =
+    (l : Kernel) → told t ≡ Some l
+    → (k : Kernel) × (told s ≡ Some k) × (IsKernel k → Stand k w.standings w.next
+    → (rest : List Entry) × (v.entries ≡ w.entries ++ rest) × AllDistinct (unsettled_names rest))

@@ -64,7 +64,8 @@ BearBoth ss place number name =
 -- a standing that isn't settled has its number on the list, and each number there is of one
 pub record IsRetry (ss : List Standing) (retry : List ℕ) : Type 0 where
   pub each : (s : Standing) → Has ss s → s.settled ≡ false → Has retry s.number
-  pub only : (n : ℕ) → Has retry n → (s : Standing) × Has ss s × (s.number ≡ n) × (s.settled ≡ false)
+  pub only : (n : ℕ) → Has retry n
+      → (s : Standing) × Has ss s × (s.number ≡ n) × (s.settled ≡ false)
   pub distinct : AllDistinct retry
 
 -- the list once the mark of a number went from was to now
@@ -74,8 +75,8 @@ noted number false true retry = filter (λ n. not (nat_eq n number)) retry
 noted number true true retry = retry
 noted number false false retry = retry
 
--- The maps agree. The one slot that is empty is the place's, and a number leads to a name just where a
--- standing or the place bears both.
+-- The maps agree. The one slot that is empty is the place's, and a number leads to a name just
+-- where a standing or the place bears both.
 pub record Agree (by_name : BTreeMap (List ℕ) (Option Standing)) (by_number : BTreeMap ℕ (List ℕ))
     (place : Option Place) (again : List ℕ) (most : ℕ) : Type 0 where
   pub ordered : IsOrdered sweep_cmp by_name

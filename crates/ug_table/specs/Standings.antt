@@ -14,7 +14,15 @@ abbrev pub same_name : List ℕ → List ℕ → Bool
 same_name a b = pointwise nat_eq a b
 
 abbrev pub known_of : Standing → Known
-known_of s = record { number = s.number; held = s.held; verdict = s.verdict; removed = s.removed; defaulted = s.defaulted }
+known_of s =
+    record {
+      number = s.number;
+      held = s.held;
+      verdict = s.verdict;
+      removed = s.removed;
+      defaulted =
+          s.defaulted;
+    }
 
 -- the standing of that name
 abbrev pub standing_of : List ℕ → List Standing → Option Known
@@ -38,10 +46,12 @@ mark_of name settled s = if same_name s.name name then settled else s.settled
 
 -- a rejected device that is settled was removed
 abbrev pub removed_of : List ℕ → Bool → Standing → Bool
-removed_of name settled s = if same_name s.name name then s.removed || (settled && is_reject s.verdict) else s.removed
+removed_of name settled s =
+    if same_name s.name name then s.removed || (settled && is_reject s.verdict) else s.removed
 
 abbrev pub marked : List ℕ → Bool → Standing → Standing
-marked name settled s = record s { settled = mark_of name settled s; removed = removed_of name settled s }
+marked name settled s =
+    record s { settled = mark_of name settled s; removed = removed_of name settled s }
 
 -- the same of a standing by itself
 abbrev pub settled_standing : Standing → Standing
@@ -71,4 +81,6 @@ lists names name = list_any (λ n. same_name n name) names
 -- an entry for each standing whose name isn't there
 abbrev pub farewells : List (List ℕ) → List Standing → List Entry
 farewells names [] = []
-farewells names (s ∷ ss) = if lists names s.name then farewells names ss else entry.Gone s.number s.name ∷ farewells names ss
+farewells names (s ∷ ss) =
+    if lists names s.name then farewells names ss
+    else entry.Gone s.number s.name ∷ farewells names ss

@@ -8,8 +8,8 @@ use Rattle.ug_audit.specs.declared.entry.Entry.{Entry}
 use Rattle.ug_table.specs.declared.standing.Standing.{Standing}
 use Rattle.ug_table.specs.Table.{TableState}
 
--- a judge's verdicts on a device, which is or isn't a root hub, was or wasn't present at the start, and is on or off, beside
--- these standings; and what the judge is after them
+-- a judge's verdicts on a device, which is or isn't a root hub, was or wasn't present at the start,
+-- and is on or off, beside these standings; and what the judge is after them
 abbrev pub Answers : Type 0 → Type 0
 Answers J = J → Judged → Bool → Bool → Bool → List Standing → Target × Cause
 
@@ -24,7 +24,8 @@ pub record Terms : Type 0 where
 abbrev pub terms_of : Bool → Option Write → Terms
 terms_of present hub = record { present = present; hub = hub }
 
--- the standings, the number of the next, whether a listing has succeeded, the judge, what is written to the default of each root hub, and the event's entries so far
+-- the standings, the number of the next, whether a listing has succeeded, the judge, what is
+-- written to the default of each root hub, and the event's entries so far
 pub record State (J : Type 0) : Type 0 where
   pub standings : List Standing
   pub next : ℕ
@@ -39,7 +40,16 @@ terms_for w = terms_of (not w.listed) w.hub
 
 -- the same of the program's values
 abbrev pub state_of : {J : Type 0} → Option Write → TableState → J → List Entry → State J
-state_of hub table judge entries = record { standings = table.standings; next = table.next; listed = table.listed; judge = judge; hub = hub; entries = entries }
+state_of hub table judge entries =
+    record {
+      standings = table.standings;
+      next = table.next;
+      listed = table.listed;
+      judge = judge;
+      hub =
+          hub;
+      entries = entries;
+    }
 
 abbrev pub noted : {J : Type 0} → State J → Entry → State J
 noted w e = record w { entries = w.entries ++ e ∷ [] }

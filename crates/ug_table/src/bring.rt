@@ -65,7 +65,8 @@ fn set_value<Y: Sysfs>(
     out: &mut Journal,
 ) -> Settled
     requires { 3 ≤ (noted_in out.old).spare }
-    ensures runs { Runs Y.gives sysfs.old (valuing name.now known on (noted_in out.old).entries) (result, (noted_in out.new).entries) sysfs.new }
+    ensures runs { Runs Y.gives sysfs.old (valuing name.now known on (noted_in out.old).entries)
+        (result, (noted_in out.new).entries) sysfs.new }
     ensures journal { Notes (λ b. ⟦<dyn Auditor as Auditor>⟧ b.vtable) 3 out.old out.new }
     ensures stands { result ≡ Stands → (noted_in out.old).spare ≤ (noted_in out.new).spare + 2 }
 {
@@ -109,7 +110,9 @@ fn write_file<Y: Sysfs>(
     out: &mut Journal,
 ) -> Settled
     requires { 3 ≤ (noted_in out.old).spare }
-    ensures runs { Runs Y.gives sysfs.old (to_once name.now known write file.0 (noted_in out.old).entries) (result, (noted_in out.new).entries) sysfs.new }
+    ensures runs { Runs Y.gives sysfs.old
+        (to_once name.now known write file.0 (noted_in out.old).entries)
+        (result, (noted_in out.new).entries) sysfs.new }
     ensures journal { Notes (λ b. ⟦<dyn Auditor as Auditor>⟧ b.vtable) 3 out.old out.new }
     ensures stands { result ≡ Stands → (noted_in out.old).spare ≤ (noted_in out.new).spare + 2 }
 {
@@ -152,7 +155,9 @@ fn write_held<Y: Sysfs>(
     out: &mut Journal,
 ) -> Settled
     requires { 3 ≤ (noted_in out.old).spare }
-    ensures runs { Runs Y.gives sysfs.old (after_hold name.now known write (noted_in out.old).entries hold) (result, (noted_in out.new).entries) sysfs.new }
+    ensures runs { Runs Y.gives sysfs.old
+        (after_hold name.now known write (noted_in out.old).entries hold)
+        (result, (noted_in out.new).entries) sysfs.new }
     ensures journal { Notes (λ b. ⟦<dyn Auditor as Auditor>⟧ b.vtable) 3 out.old out.new }
     ensures stands { result ≡ Stands → (noted_in out.old).spare ≤ (noted_in out.new).spare + 2 }
 {
@@ -180,7 +185,8 @@ fn remove<Y: Sysfs>(
     out: &mut Journal,
 ) -> Settled
     requires { 3 ≤ (noted_in out.old).spare }
-    ensures runs { Runs Y.gives sysfs.old (once name.now known Remove (noted_in out.old).entries) (result, (noted_in out.new).entries) sysfs.new }
+    ensures runs { Runs Y.gives sysfs.old (once name.now known Remove (noted_in out.old).entries)
+        (result, (noted_in out.new).entries) sysfs.new }
     ensures journal { Notes (λ b. ⟦<dyn Auditor as Auditor>⟧ b.vtable) 3 out.old out.new }
 {
     let hold = hold_remove(alloc, sysfs, name, known.held);
@@ -200,7 +206,8 @@ fn write_default<Y: Sysfs>(
     requires root { parent_of name.now ≡ None }
     requires file { control_of write ≡ Default }
     requires room { 3 ≤ (noted_in out.old).spare }
-    ensures runs { Runs Y.gives sysfs.old (once name.now known write (noted_in out.old).entries) (result, (noted_in out.new).entries) sysfs.new }
+    ensures runs { Runs Y.gives sysfs.old (once name.now known write (noted_in out.old).entries)
+        (result, (noted_in out.new).entries) sysfs.new }
     ensures journal { Notes (λ b. ⟦<dyn Auditor as Auditor>⟧ b.vtable) 3 out.old out.new }
     ensures stands { result ≡ Stands → (noted_in out.old).spare ≤ (noted_in out.new).spare + 2 }
 {
@@ -222,7 +229,8 @@ fn default_write(hub_default: Option<Write>) -> Option<Write>
 // What is still to be written to the default of a root hub.
 fn default_due(hub_default: Option<Write>, name: &NodeName, known: Known) -> Option<Write>
     ensures due { result ≡ default_due hub_default name.now known }
-    ensures root { (what : Write) → result ≡ Some what → (parent_of name.now ≡ None) × (control_of what ≡ Default) }
+    ensures root { (what : Write) → result ≡ Some what
+        → (parent_of name.now ≡ None) × (control_of what ≡ Default) }
 {
     if name.parent().is_none() && !known.defaulted {
         default_write(hub_default)
@@ -241,7 +249,9 @@ fn bring_defaulted<Y: Sysfs>(
     out: &mut Journal,
 ) -> Settled
     requires { 5 ≤ (noted_in out.old).spare }
-    ensures runs { Runs Y.gives sysfs.old (bringing name.now (defaulted_known known) on (noted_in out.old).entries) (result, (noted_in out.new).entries) sysfs.new }
+    ensures runs { Runs Y.gives sysfs.old
+        (bringing name.now (defaulted_known known) on (noted_in out.old).entries)
+        (result, (noted_in out.new).entries) sysfs.new }
     ensures journal { Notes (λ b. ⟦<dyn Auditor as Auditor>⟧ b.vtable) 5 out.old out.new }
 {
     let known = Known {
@@ -264,7 +274,9 @@ pub fn treat<Y: Sysfs>(
     out: &mut Journal,
 ) -> (Settled, bool)
     requires { 7 ≤ (noted_in out.old).spare }
-    ensures runs { Runs Y.gives sysfs.old (treating hub_default name.now known on (noted_in out.old).entries) (result.0, result.1, (noted_in out.new).entries) sysfs.new }
+    ensures runs { Runs Y.gives sysfs.old
+        (treating hub_default name.now known on (noted_in out.old).entries)
+        (result.0, result.1, (noted_in out.new).entries) sysfs.new }
     ensures journal { Notes (λ b. ⟦<dyn Auditor as Auditor>⟧ b.vtable) 7 out.old out.new }
 {
     let write = match default_due(hub_default, name, known) {
@@ -294,7 +306,8 @@ pub fn bring<Y: Sysfs>(
     out: &mut Journal,
 ) -> Settled
     requires { 5 ≤ (noted_in out.old).spare }
-    ensures runs { Runs Y.gives sysfs.old (bringing name.now known on (noted_in out.old).entries) (result, (noted_in out.new).entries) sysfs.new }
+    ensures runs { Runs Y.gives sysfs.old (bringing name.now known on (noted_in out.old).entries)
+        (result, (noted_in out.new).entries) sysfs.new }
     ensures journal { Notes (λ b. ⟦<dyn Auditor as Auditor>⟧ b.vtable) 5 out.old out.new }
 {
     let settled = make_writes(alloc, sysfs, name, known, on, out);
@@ -319,7 +332,8 @@ fn make_writes<Y: Sysfs>(
     out: &mut Journal,
 ) -> Settled
     requires { 5 ≤ (noted_in out.old).spare }
-    ensures runs { Runs Y.gives sysfs.old (writing name.now known on (noted_in out.old).entries) (result, (noted_in out.new).entries) sysfs.new }
+    ensures runs { Runs Y.gives sysfs.old (writing name.now known on (noted_in out.old).entries)
+        (result, (noted_in out.new).entries) sysfs.new }
     ensures journal { Notes (λ b. ⟦<dyn Auditor as Auditor>⟧ b.vtable) 5 out.old out.new }
 {
     match set_value(sysfs, name, known, on, out) {

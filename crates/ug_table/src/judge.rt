@@ -30,6 +30,7 @@ pub trait Judge {
         on: bool,
         allowed: &Table,
     ) -> (Target, Cause)
-        ensures answer { result ≡ answer (meaning self.old) dev.now controller present on allowed.now.standings }
+        ensures answer { result
+            ≡ answer (meaning self.old) dev.now controller present on allowed.now.standings }
         ensures later { meaning self.new ≡ later (meaning self.old) dev.now controller present on allowed.now.standings };
 }

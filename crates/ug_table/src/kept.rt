@@ -79,7 +79,10 @@ impl Standings {
 
     /// Whether a query matches a settled device whose verdict is to allow it.
     pub fn any_allowed(&self, query: &Query) -> bool
-        ensures { result ≡ list_any (λ s. list_any (query_matches query.now) (allowed_of s.settled s.verdict s.judged)) self.now.items }
+        ensures { result
+            ≡ list_any
+            (λ s. list_any (query_matches query.now) (allowed_of s.settled s.verdict s.judged))
+            self.now.items }
     {
         has_allowed(&self.by_name, query)
     }
@@ -241,7 +244,9 @@ impl Standings {
 // The least number above that one that has a name.
 fn next_key(by_number: &BTreeMap<u64, NodeName>, number: u64) -> Option<u64>
     ensures none { result ≡ None → (q : ℕ) → number < q → get nat_cmp by_number.now q ≡ None }
-    ensures some { IfSome result (λ n. (number < n) × ((q : ℕ) → number < q → IsSome (get nat_cmp by_number.now q) → n ≤ q)) }
+    ensures some { IfSome result
+        (λ n. (number < n)
+        × ((q : ℕ) → number < q → IsSome (get nat_cmp by_number.now q) → n ≤ q)) }
 {
     match by_number
         .range((Bound::Excluded(number), Bound::Unbounded))
@@ -254,13 +259,16 @@ fn next_key(by_number: &BTreeMap<u64, NodeName>, number: u64) -> Option<u64>
 
 fn keep_numbers(by_number: &mut BTreeMap<u64, NodeName>, names: &[NodeName])
     requires { IsSorted sweep_cmp names.now }
-    ensures { (q : ℕ) → get nat_cmp by_number.new q ≡ option_filter (lists names.now) (get nat_cmp by_number.old q) }
+    ensures { (q : ℕ)
+        → get nat_cmp by_number.new q
+        ≡ option_filter (lists names.now) (get nat_cmp by_number.old q) }
 {
     by_number.retain(|_number, name| has(names, name));
 }
 
 fn keep_known(retry: &mut Vec<u64>, by_number: &BTreeMap<u64, NodeName>)
-    ensures items { retry.new.items ≡ filter (λ n. is_some (get nat_cmp by_number.now n)) retry.old.items }
+    ensures items { retry.new.items
+        ≡ filter (λ n. is_some (get nat_cmp by_number.now n)) retry.old.items }
     ensures capacity { vec_capacity retry.new ≡ vec_capacity retry.old }
 {
     retry.retain(|n| by_number.contains_key(n));
@@ -288,7 +296,10 @@ fn take_out(retry: &mut Vec<u64>, number: u64)
 }
 
 fn has_allowed(slots: &Slots, query: &Query) -> bool
-    ensures { result ≡ list_any (λ s. list_any (query_matches query.now) (allowed_of s.settled s.verdict s.judged)) (filled slots.now.entries) }
+    ensures { result
+        ≡ list_any
+        (λ s. list_any (query_matches query.now) (allowed_of s.settled s.verdict s.judged))
+        (filled slots.now.entries) }
 {
     for (_name, slot) in slots {
         if let Some(s) = slot

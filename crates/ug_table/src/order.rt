@@ -63,8 +63,10 @@ impl Table {
             sysfs.old (state_of None self.old tt (noted_in out.old).entries)
             sysfs.new (state_of None self.new tt (noted_in out.new).entries) result }
         ensures verdict { HasOrdered number verdict who self.old.standings self.new.standings }
-        ensures marks { LeavesMarks None (has_number number) self.old.standings self.new.standings result }
-        ensures memory { result ≡ Memory → NeedsRoom None number (with_order number verdict who self.old.standings) }
+        ensures marks { LeavesMarks None (has_number number) self.old.standings self.new.standings
+            result }
+        ensures memory { result ≡ Memory
+            → NeedsRoom None number (with_order number verdict who self.old.standings) }
         ensures journal { Notes (λ b. ⟦<dyn Auditor as Auditor>⟧ b.vtable) 6 out.old out.new }
         ensures len { length self.new.standings ≤ length self.old.standings }
         ensures next { self.new.next ≡ self.old.next }

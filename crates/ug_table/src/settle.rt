@@ -46,7 +46,8 @@ fn is_stands(settled: Settled) -> bool
 fn keep(standings: &mut Standings, standing: Standing, wrote: bool, settled: Settled)
     requires { standings.old.place ≡ place_of standing.name standing.number }
     ensures place { standings.new.place ≡ None }
-    ensures standings { standings.new.items ≡ kept_standings standings.old.items (record standing { defaulted = wrote }) settled }
+    ensures standings { standings.new.items
+        ≡ kept_standings standings.old.items (record standing { defaulted = wrote }) settled }
     ensures len { length standings.new.items ≤ length standings.old.items + 1 }
 {
     let mut standing = standing;
@@ -76,7 +77,8 @@ fn entry_of(s: &Standing) -> Entry
 
 /// Notes how a standing was settled.
 pub fn remember(standings: &mut Standings, name: &NodeName, wrote: bool, settled: Settled)
-    ensures standings { standings.new.items ≡ tried_standings (did_default name.now wrote standings.old.items) name.now settled }
+    ensures standings { standings.new.items
+        ≡ tried_standings (did_default name.now wrote standings.old.items) name.now settled }
     ensures len { length standings.new.items ≤ length standings.old.items }
 {
     standings.mark_default(name, wrote);
@@ -90,7 +92,8 @@ pub fn remember(standings: &mut Standings, name: &NodeName, wrote: bool, settled
 pub fn note_fault(out: &mut Journal, name: &NodeName, fault: Fault) -> Settled
     requires { 1 ≤ (noted_in out.old).spare }
     ensures settled { result ≡ stopped_by fault }
-    ensures entries { (noted_in out.new).entries ≡ (noted_in out.old).entries ++ Unsettled name.now fault ∷ [] }
+    ensures entries { (noted_in out.new).entries
+        ≡ (noted_in out.old).entries ++ Unsettled name.now fault ∷ [] }
     ensures journal { Notes (λ b. ⟦<dyn Auditor as Auditor>⟧ b.vtable) 1 out.old out.new }
 {
     out.push(Entry::Unsettled { name: *name, fault });
@@ -100,7 +103,8 @@ pub fn note_fault(out: &mut Journal, name: &NodeName, fault: Fault) -> Settled
 // Tells a name as unsettled where its part ended so.
 fn note_unsettled(out: &mut Journal, name: &NodeName, settled: Settled)
     requires { 1 ≤ (noted_in out.old).spare }
-    ensures entries { (noted_in out.new).entries ≡ (noted_in out.old).entries ++ unsettled_by name.now settled }
+    ensures entries { (noted_in out.new).entries
+        ≡ (noted_in out.old).entries ++ unsettled_by name.now settled }
     ensures journal { Notes (λ b. ⟦<dyn Auditor as Auditor>⟧ b.vtable) 1 out.old out.new }
 {
     let fault = match settled {
@@ -124,7 +128,12 @@ impl Table {
         out: &mut Journal,
     ) -> Settled
         requires { 1 ≤ (noted_in out.old).spare }
-        ensures runs { Runs Y.gives sysfs.old (no_room (state_of hub_default self.now (A.meaning judge.now) (noted_in out.old).entries) name.now held.0) (result, state_of hub_default self.now (A.meaning judge.now) (noted_in out.new).entries) sysfs.new }
+        ensures runs { Runs Y.gives sysfs.old
+            (no_room
+            (state_of hub_default self.now (A.meaning judge.now) (noted_in out.old).entries)
+            name.now held.0)
+            (result, state_of hub_default self.now (A.meaning judge.now) (noted_in out.new).entries)
+            sysfs.new }
         ensures journal { Notes (λ b. ⟦<dyn Auditor as Auditor>⟧ b.vtable) 1 out.old out.new }
     {
         sysfs.close(held);
@@ -148,7 +157,12 @@ impl Table {
         requires room { 9 ≤ (noted_in out.old).spare }
         requires next { self.old.next < 2 ^ 64 - 1 }
         requires absent { standing_of name.now self.old.standings ≡ None }
-        ensures runs { Runs Y.gives sysfs.old (Room (if_place A.answer A.later name.now (terms_of present hub_default) (state_of hub_default self.old (A.meaning judge.old) (noted_in out.old).entries) bound.now judged)) (result, state_of hub_default self.new (A.meaning judge.new) (noted_in out.new).entries) sysfs.new }
+        ensures runs { Runs Y.gives sysfs.old
+            (Room (if_place A.answer A.later name.now (terms_of present hub_default)
+            (state_of hub_default self.old (A.meaning judge.old) (noted_in out.old).entries)
+            bound.now judged))
+            (result, state_of hub_default self.new (A.meaning judge.new) (noted_in out.new).entries)
+            sysfs.new }
         ensures journal { Notes (λ b. ⟦<dyn Auditor as Auditor>⟧ b.vtable) 9 out.old out.new }
         ensures len { length self.new.standings ≤ length self.old.standings + 1 }
         ensures next { self.new.next ≤ self.old.next + 1 }
@@ -198,7 +212,11 @@ impl Table {
         requires room { 9 ≤ (noted_in out.old).spare }
         requires next { self.old.next < 2 ^ 64 - 1 }
         requires absent { standing_of name.now self.old.standings ≡ None }
-        ensures runs { Runs Y.gives sysfs.old (admitting A.answer A.later name.now (terms_of present hub_default) (state_of hub_default self.old (A.meaning judge.old) (noted_in out.old).entries) bound) (result, state_of hub_default self.new (A.meaning judge.new) (noted_in out.new).entries) sysfs.new }
+        ensures runs { Runs Y.gives sysfs.old
+            (admitting A.answer A.later name.now (terms_of present hub_default)
+            (state_of hub_default self.old (A.meaning judge.old) (noted_in out.old).entries) bound)
+            (result, state_of hub_default self.new (A.meaning judge.new) (noted_in out.new).entries)
+            sysfs.new }
         ensures journal { Notes (λ b. ⟦<dyn Auditor as Auditor>⟧ b.vtable) 9 out.old out.new }
         ensures len { length self.new.standings ≤ length self.old.standings + 1 }
         ensures next { self.new.next ≤ self.old.next + 1 }
@@ -235,7 +253,11 @@ impl Table {
         requires room { 9 ≤ (noted_in out.old).spare }
         requires next { self.old.next < 2 ^ 64 - 1 }
         requires absent { standing_of name.now self.old.standings ≡ None }
-        ensures runs { Runs Y.gives sysfs.old (entering A.answer A.later name.now (terms_of present hub_default) (state_of hub_default self.old (A.meaning judge.old) (noted_in out.old).entries)) (result, state_of hub_default self.new (A.meaning judge.new) (noted_in out.new).entries) sysfs.new }
+        ensures runs { Runs Y.gives sysfs.old
+            (entering A.answer A.later name.now (terms_of present hub_default)
+            (state_of hub_default self.old (A.meaning judge.old) (noted_in out.old).entries))
+            (result, state_of hub_default self.new (A.meaning judge.new) (noted_in out.new).entries)
+            sysfs.new }
         ensures journal { Notes (λ b. ⟦<dyn Auditor as Auditor>⟧ b.vtable) 9 out.old out.new }
         ensures len { length self.new.standings ≤ length self.old.standings + 1 }
         ensures next { self.new.next ≤ self.old.next + 1 }
@@ -272,12 +294,22 @@ impl Table {
     ) -> Settled
         requires room { 10 ≤ (noted_in out.old).spare }
         requires next { self.old.next < 2 ^ 64 - 1 }
-        ensures runs { Runs Y.gives sysfs.old (settling A.answer A.later name.now (terms_of present hub_default) (state_of hub_default self.old (A.meaning judge.old) (noted_in out.old).entries)) (result, state_of hub_default self.new (A.meaning judge.new) (noted_in out.new).entries) sysfs.new }
+        ensures runs { Runs Y.gives sysfs.old
+            (settling A.answer A.later name.now (terms_of present hub_default)
+            (state_of hub_default self.old (A.meaning judge.old) (noted_in out.old).entries))
+            (result, state_of hub_default self.new (A.meaning judge.new) (noted_in out.new).entries)
+            sysfs.new }
         ensures part { GoesAsPart hub_default true Y.gives Y.calls Y.faults name.now
             sysfs.old self.old.standings (noted_in out.old).entries
             sysfs.new self.new.standings (noted_in out.new).entries result }
-        ensures law { SettlesOne Y.told A.answer A.later (terms_of present hub_default) name.now sysfs.old (state_of hub_default self.old (A.meaning judge.old) (noted_in out.old).entries) sysfs.new (state_of hub_default self.new (A.meaning judge.new) (noted_in out.new).entries) result }
-        ensures marks { LeavesMarks hub_default (has_name name.now) self.old.standings self.new.standings result }
+        ensures law { SettlesOne Y.told A.answer A.later (terms_of present hub_default) name.now
+            sysfs.old
+            (state_of hub_default self.old (A.meaning judge.old) (noted_in out.old).entries)
+            sysfs.new
+            (state_of hub_default self.new (A.meaning judge.new) (noted_in out.new).entries)
+            result }
+        ensures marks { LeavesMarks hub_default (has_name name.now) self.old.standings
+            self.new.standings result }
         ensures journal { Notes (λ b. ⟦<dyn Auditor as Auditor>⟧ b.vtable) 10 out.old out.new }
         ensures len { length self.new.standings ≤ length self.old.standings + 1 }
         ensures next { self.new.next ≤ self.old.next + 1 }
@@ -299,13 +331,19 @@ impl Table {
     ) -> Settled
         requires stands { IsSome (numbered number self.old.standings) }
         requires room { 8 ≤ (noted_in out.old).spare }
-        ensures runs { Runs Y.gives sysfs.old (resettling_numbered hub_default number (kept_of self.old.standings (noted_in out.old).entries)) (result, kept_of self.new.standings (noted_in out.new).entries) sysfs.new }
+        ensures runs { Runs Y.gives sysfs.old
+            (resettling_numbered hub_default number
+            (kept_of self.old.standings (noted_in out.old).entries))
+            (result, kept_of self.new.standings (noted_in out.new).entries) sysfs.new }
         ensures part { (s : Standing) → numbered number self.old.standings ≡ Some s
             → GoesAsPart hub_default false Y.gives Y.calls Y.faults s.name
             sysfs.old self.old.standings (noted_in out.old).entries
             sysfs.new self.new.standings (noted_in out.new).entries result }
-        ensures law { ResettlesOne hub_default Y.told number sysfs.old (state_of hub_default self.old tt (noted_in out.old).entries) sysfs.new (state_of hub_default self.new tt (noted_in out.new).entries) result }
-        ensures marks { LeavesMarks hub_default (has_number number) self.old.standings self.new.standings result }
+        ensures law { ResettlesOne hub_default Y.told number sysfs.old
+            (state_of hub_default self.old tt (noted_in out.old).entries) sysfs.new
+            (state_of hub_default self.new tt (noted_in out.new).entries) result }
+        ensures marks { LeavesMarks hub_default (has_number number) self.old.standings
+            self.new.standings result }
         ensures memory { result ≡ Memory → NeedsRoom hub_default number self.old.standings }
         ensures journal { Notes (λ b. ⟦<dyn Auditor as Auditor>⟧ b.vtable) 8 out.old out.new }
         ensures len { length self.new.standings ≤ length self.old.standings }
@@ -327,7 +365,10 @@ impl Table {
         out: &mut Journal,
     ) -> Settled
         requires { 8 ≤ (noted_in out.old).spare }
-        ensures runs { Runs Y.gives sysfs.old (resettling_numbered hub_default number (kept_of self.old.standings (noted_in out.old).entries)) (result, kept_of self.new.standings (noted_in out.new).entries) sysfs.new }
+        ensures runs { Runs Y.gives sysfs.old
+            (resettling_numbered hub_default number
+            (kept_of self.old.standings (noted_in out.old).entries))
+            (result, kept_of self.new.standings (noted_in out.new).entries) sysfs.new }
         ensures journal { Notes (λ b. ⟦<dyn Auditor as Auditor>⟧ b.vtable) 8 out.old out.new }
         ensures len { length self.new.standings ≤ length self.old.standings }
         ensures next { self.new.next ≡ self.old.next }
@@ -353,7 +394,11 @@ impl Table {
     ) -> Settled
         requires room { 10 ≤ (noted_in out.old).spare }
         requires next { self.old.next < 2 ^ 64 - 1 }
-        ensures runs { Runs Y.gives sysfs.old (settling A.answer A.later name.now (terms_of present hub_default) (state_of hub_default self.old (A.meaning judge.old) (noted_in out.old).entries)) (result, state_of hub_default self.new (A.meaning judge.new) (noted_in out.new).entries) sysfs.new }
+        ensures runs { Runs Y.gives sysfs.old
+            (settling A.answer A.later name.now (terms_of present hub_default)
+            (state_of hub_default self.old (A.meaning judge.old) (noted_in out.old).entries))
+            (result, state_of hub_default self.new (A.meaning judge.new) (noted_in out.new).entries)
+            sysfs.new }
         ensures journal { Notes (λ b. ⟦<dyn Auditor as Auditor>⟧ b.vtable) 10 out.old out.new }
         ensures len { length self.new.standings ≤ length self.old.standings + 1 }
         ensures next { self.new.next ≤ self.old.next + 1 }
@@ -398,7 +443,9 @@ pub fn settle_known<Y: Sysfs>(
     out: &mut Journal,
 ) -> Settled
     requires { 8 ≤ (noted_in out.old).spare }
-    ensures runs { Runs Y.gives sysfs.old (resettling hub_default name.now (kept_of standings.old.items (noted_in out.old).entries)) (result, kept_of standings.new.items (noted_in out.new).entries) sysfs.new }
+    ensures runs { Runs Y.gives sysfs.old
+        (resettling hub_default name.now (kept_of standings.old.items (noted_in out.old).entries))
+        (result, kept_of standings.new.items (noted_in out.new).entries) sysfs.new }
     ensures journal { Notes (λ b. ⟦<dyn Auditor as Auditor>⟧ b.vtable) 8 out.old out.new }
     ensures keeps { KeepsOrder standings.old.items standings.new.items }
     ensures len { length standings.new.items ≤ length standings.old.items }

@@ -35,7 +35,8 @@ pub(crate) fn find<'a>(slots: &'a Slots, name: &NodeName) -> Option<&'a Standing
 pub(crate) fn mark(slots: &mut Slots, name: &NodeName, settled: bool)
     requires ordered { IsOrdered sweep_cmp slots.old }
     requires bear { AllNamed slots.old.entries }
-    ensures items { filled slots.new.entries ≡ map (marked name.now settled) (filled slots.old.entries) }
+    ensures items { filled slots.new.entries
+        ≡ map (marked name.now settled) (filled slots.old.entries) }
     ensures ordered { IsOrdered sweep_cmp slots.new }
     ensures bear { AllNamed slots.new.entries }
     ensures empty { empty_of slots.new.entries ≡ empty_of slots.old.entries }
@@ -62,7 +63,8 @@ fn is_removed(s: &Standing, settled: bool) -> bool
 pub(crate) fn mark_default(slots: &mut Slots, name: &NodeName)
     requires ordered { IsOrdered sweep_cmp slots.old }
     requires bear { AllNamed slots.old.entries }
-    ensures items { filled slots.new.entries ≡ map (with_default name.now) (filled slots.old.entries) }
+    ensures items { filled slots.new.entries
+        ≡ map (with_default name.now) (filled slots.old.entries) }
     ensures ordered { IsOrdered sweep_cmp slots.new }
     ensures bear { AllNamed slots.new.entries }
     ensures empty { empty_of slots.new.entries ≡ empty_of slots.old.entries }
@@ -87,9 +89,12 @@ pub(crate) fn order(
 )
     requires ordered { IsOrdered sweep_cmp slots.old }
     requires bear { AllNamed slots.old.entries }
-    requires own { (s : Standing) → Has (filled slots.old.entries) s → same_name s.name name.now ≡ false → s.number ≡ number → ⊥ }
-    requires numbered { (s : Standing) → Has (filled slots.old.entries) s → same_name s.name name.now ≡ true → s.number ≡ number }
-    ensures items { filled slots.new.entries ≡ with_order number verdict who (filled slots.old.entries) }
+    requires own { (s : Standing) → Has (filled slots.old.entries) s
+        → same_name s.name name.now ≡ false → s.number ≡ number → ⊥ }
+    requires numbered { (s : Standing) → Has (filled slots.old.entries) s
+        → same_name s.name name.now ≡ true → s.number ≡ number }
+    ensures items { filled slots.new.entries
+        ≡ with_order number verdict who (filled slots.old.entries) }
     ensures ordered { IsOrdered sweep_cmp slots.new }
     ensures bear { AllNamed slots.new.entries }
     ensures empty { empty_of slots.new.entries ≡ empty_of slots.old.entries }
@@ -166,7 +171,8 @@ pub(crate) fn retain_listed(slots: &mut Slots, names: &[NodeName])
     requires sorted { IsSorted sweep_cmp names.now }
     requires bear { AllNamed slots.old.entries }
     ensures entries { slots.new.entries ≡ filter (λ e. lists names.now e.0) slots.old.entries }
-    ensures items { filled slots.new.entries ≡ filter (λ s. lists names.now s.name) (filled slots.old.entries) }
+    ensures items { filled slots.new.entries
+        ≡ filter (λ s. lists names.now s.name) (filled slots.old.entries) }
     ensures ordered { IsOrdered sweep_cmp slots.new }
     ensures bear { AllNamed slots.new.entries }
     ensures empty { empty_of slots.new.entries

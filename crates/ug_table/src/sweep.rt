@@ -29,7 +29,8 @@ use ug_types::{List, NodeName, sort_names};
 fn bid_one(s: &Standing, names: &[NodeName], out: &mut Journal)
     requires sorted { IsSorted sweep_cmp names.now }
     requires room { 1 ≤ (noted_in out.old).spare }
-    ensures entries { (noted_in out.new).entries ≡ (noted_in out.old).entries ++ farewells names.now (s.now ∷ []) }
+    ensures entries { (noted_in out.new).entries
+        ≡ (noted_in out.old).entries ++ farewells names.now (s.now ∷ []) }
     ensures journal { Notes (λ b. ⟦<dyn Auditor as Auditor>⟧ b.vtable) 1 out.old out.new }
 {
     if !has(names, &s.name) {
@@ -44,8 +45,10 @@ fn bid_one(s: &Standing, names: &[NodeName], out: &mut Journal)
 fn bid(slots: &Slots, names: &[NodeName], out: &mut Journal)
     requires sorted { IsSorted sweep_cmp names.now }
     requires room { length (filled slots.now.entries) ≤ (noted_in out.old).spare }
-    ensures entries { (noted_in out.new).entries ≡ (noted_in out.old).entries ++ farewells names.now (filled slots.now.entries) }
-    ensures journal { Notes (λ b. ⟦<dyn Auditor as Auditor>⟧ b.vtable) (length (filled slots.now.entries)) out.old out.new }
+    ensures entries { (noted_in out.new).entries
+        ≡ (noted_in out.old).entries ++ farewells names.now (filled slots.now.entries) }
+    ensures journal { Notes (λ b. ⟦<dyn Auditor as Auditor>⟧ b.vtable)
+        (length (filled slots.now.entries)) out.old out.new }
 {
     for (_name, slot) in slots {
         if let Some(s) = slot {
@@ -57,7 +60,8 @@ fn bid(slots: &Slots, names: &[NodeName], out: &mut Journal)
 /// Closes the held file of each standing whose name isn't listed.
 fn close_unlisted<Y: Sysfs>(slots: &Slots, sysfs: &mut Y, names: &[NodeName])
     requires { IsSorted sweep_cmp names.now }
-    ensures { Runs Y.gives sysfs.old (closing_unlisted names.now (filled slots.now.entries)) tt sysfs.new }
+    ensures { Runs Y.gives sysfs.old (closing_unlisted names.now (filled slots.now.entries)) tt
+        sysfs.new }
 {
     for (_name, slot) in slots {
         if let Some(s) = slot
@@ -87,8 +91,10 @@ impl Standings {
     fn bid(&self, names: &[NodeName], out: &mut Journal)
         requires sorted { IsSorted sweep_cmp names.now }
         requires room { length self.now.items ≤ (noted_in out.old).spare }
-        ensures entries { (noted_in out.new).entries ≡ (noted_in out.old).entries ++ farewells names.now self.now.items }
-        ensures journal { Notes (λ b. ⟦<dyn Auditor as Auditor>⟧ b.vtable) (length self.now.items) out.old out.new }
+        ensures entries { (noted_in out.new).entries
+            ≡ (noted_in out.old).entries ++ farewells names.now self.now.items }
+        ensures journal { Notes (λ b. ⟦<dyn Auditor as Auditor>⟧ b.vtable) (length self.now.items)
+            out.old out.new }
     {
         bid(&self.by_name, names, out);
     }
@@ -123,8 +129,12 @@ fn resettle_all<Y: Sysfs>(
     out: &mut Journal,
 )
     requires { 8 * length names.now ≤ (noted_in out.old).spare }
-    ensures runs { Runs Y.gives sysfs.old (resettling_all hub_default names.now (kept_of standings.old.items (noted_in out.old).entries)) (kept_of standings.new.items (noted_in out.new).entries) sysfs.new }
-    ensures journal { Notes (λ b. ⟦<dyn Auditor as Auditor>⟧ b.vtable) (8 * length names.now) out.old out.new }
+    ensures runs { Runs Y.gives sysfs.old
+        (resettling_all hub_default names.now
+        (kept_of standings.old.items (noted_in out.old).entries))
+        (kept_of standings.new.items (noted_in out.new).entries) sysfs.new }
+    ensures journal { Notes (λ b. ⟦<dyn Auditor as Auditor>⟧ b.vtable) (8 * length names.now)
+        out.old out.new }
     ensures keeps { KeepsOrder standings.old.items standings.new.items }
     ensures len { length standings.new.items ≤ length standings.old.items }
 {
@@ -144,8 +154,12 @@ impl Table {
     )
         requires sorted { IsSorted sweep_cmp names.now }
         requires room { length self.old.standings ≤ (noted_in out.old).spare }
-        ensures state { state_of hub_default self.new (A.meaning judge.now) (noted_in out.new).entries ≡ parted names.now (state_of hub_default self.old (A.meaning judge.now) (noted_in out.old).entries) }
-        ensures journal { Notes (λ b. ⟦<dyn Auditor as Auditor>⟧ b.vtable) (length self.old.standings) out.old out.new }
+        ensures state { state_of hub_default self.new (A.meaning judge.now)
+            (noted_in out.new).entries
+            ≡ parted names.now
+            (state_of hub_default self.old (A.meaning judge.now) (noted_in out.old).entries) }
+        ensures journal { Notes (λ b. ⟦<dyn Auditor as Auditor>⟧ b.vtable)
+            (length self.old.standings) out.old out.new }
         ensures next { self.new.next ≡ self.old.next }
         ensures len { length self.new.standings ≤ length self.old.standings }
     {
@@ -168,9 +182,14 @@ impl Table {
     )
         requires room { 10 * length names.now ≤ (noted_in out.old).spare }
         requires next { self.old.next + length names.now < 2 ^ 64 }
-        ensures runs { Runs Y.gives sysfs.old (settling_all A.answer A.later names.now (terms_of present hub_default) (state_of hub_default self.old (A.meaning judge.old) (noted_in out.old).entries)) (state_of hub_default self.new (A.meaning judge.new) (noted_in out.new).entries) sysfs.new }
+        ensures runs { Runs Y.gives sysfs.old
+            (settling_all A.answer A.later names.now (terms_of present hub_default)
+            (state_of hub_default self.old (A.meaning judge.old) (noted_in out.old).entries))
+            (state_of hub_default self.new (A.meaning judge.new) (noted_in out.new).entries)
+            sysfs.new }
         ensures next { self.new.next ≤ self.old.next + length names.now }
-        ensures journal { Notes (λ b. ⟦<dyn Auditor as Auditor>⟧ b.vtable) (10 * length names.now) out.old out.new }
+        ensures journal { Notes (λ b. ⟦<dyn Auditor as Auditor>⟧ b.vtable) (10 * length names.now)
+            out.old out.new }
         ensures len { length self.new.standings ≤ length self.old.standings + length names.now }
     {
         for name in names {
@@ -190,9 +209,14 @@ impl Table {
         out: &mut Journal,
     )
         requires { 8 * length self.old.standings + 2 ≤ (noted_in out.old).spare }
-        ensures runs { Runs Y.gives sysfs.old (unlisted fault (state_of hub_default self.old (A.meaning judge.now) (noted_in out.old).entries)) (state_of hub_default self.new (A.meaning judge.now) (noted_in out.new).entries) sysfs.new }
+        ensures runs { Runs Y.gives sysfs.old
+            (unlisted fault
+            (state_of hub_default self.old (A.meaning judge.now) (noted_in out.old).entries))
+            (state_of hub_default self.new (A.meaning judge.now) (noted_in out.new).entries)
+            sysfs.new }
         ensures next { self.new.next ≡ self.old.next }
-        ensures journal { Notes (λ b. ⟦<dyn Auditor as Auditor>⟧ b.vtable) (8 * length self.old.standings + 1) out.old out.new }
+        ensures journal { Notes (λ b. ⟦<dyn Auditor as Auditor>⟧ b.vtable)
+            (8 * length self.old.standings + 1) out.old out.new }
         ensures len { length self.new.standings ≤ length self.old.standings }
     {
         out.push(Entry::UnsettledAll { fault });
@@ -220,14 +244,28 @@ impl Table {
     )
         requires room { 10 * length self.old.standings + 2 ≤ (noted_in out.old).spare }
         requires next { self.old.next + 65536 < 2 ^ 64 }
-        ensures runs { Runs Y.gives sysfs.old (sweeping A.answer A.later (state_of hub_default self.old (A.meaning judge.old) (noted_in out.old).entries)) (state_of hub_default self.new (A.meaning judge.new) (noted_in out.new).entries) sysfs.new }
+        ensures runs { Runs Y.gives sysfs.old
+            (sweeping A.answer A.later
+            (state_of hub_default self.old (A.meaning judge.old) (noted_in out.old).entries))
+            (state_of hub_default self.new (A.meaning judge.new) (noted_in out.new).entries)
+            sysfs.new }
         ensures next { self.new.next ≤ self.old.next + 65536 }
         ensures spare { 0 < (noted_in out.new).spare }
-        ensures room { 10 * length self.old.standings + 64 ≤ (noted_in out.old).room → 10 * length self.new.standings + 64 ≤ (noted_in out.new).room }
+        ensures room { 10 * length self.old.standings + 64 ≤ (noted_in out.old).room
+            → 10 * length self.new.standings + 64 ≤ (noted_in out.new).room }
         ensures same { SameEntries (λ b. ⟦<dyn Auditor as Auditor>⟧ b.vtable) out.old out.new }
-        ensures swept { Sweeps Y.told A.answer A.later sysfs.old (state_of hub_default self.old (A.meaning judge.old) (noted_in out.old).entries) sysfs.new (state_of hub_default self.new (A.meaning judge.new) (noted_in out.new).entries) }
-        ensures once { NamesOnce Y.told sysfs.old (state_of hub_default self.old (A.meaning judge.old) (noted_in out.old).entries) sysfs.new (state_of hub_default self.new (A.meaning judge.new) (noted_in out.new).entries) }
-        ensures faults { TellsFaults Y.gives Y.calls Y.faults sysfs.old (state_of hub_default self.old (A.meaning judge.old) (noted_in out.old).entries) sysfs.new (state_of hub_default self.new (A.meaning judge.new) (noted_in out.new).entries) }
+        ensures swept { Sweeps Y.told A.answer A.later sysfs.old
+            (state_of hub_default self.old (A.meaning judge.old) (noted_in out.old).entries)
+            sysfs.new
+            (state_of hub_default self.new (A.meaning judge.new) (noted_in out.new).entries) }
+        ensures once { NamesOnce Y.told sysfs.old
+            (state_of hub_default self.old (A.meaning judge.old) (noted_in out.old).entries)
+            sysfs.new
+            (state_of hub_default self.new (A.meaning judge.new) (noted_in out.new).entries) }
+        ensures faults { TellsFaults Y.gives Y.calls Y.faults sysfs.old
+            (state_of hub_default self.old (A.meaning judge.old) (noted_in out.old).entries)
+            sysfs.new
+            (state_of hub_default self.new (A.meaning judge.new) (noted_in out.new).entries) }
     {
         self.sweep_names(alloc, sysfs, judge, hub_default, out);
     }
@@ -243,10 +281,15 @@ impl Table {
     )
         requires room { 10 * length self.old.standings + 2 ≤ (noted_in out.old).spare }
         requires next { self.old.next + 65536 < 2 ^ 64 }
-        ensures runs { Runs Y.gives sysfs.old (sweeping A.answer A.later (state_of hub_default self.old (A.meaning judge.old) (noted_in out.old).entries)) (state_of hub_default self.new (A.meaning judge.new) (noted_in out.new).entries) sysfs.new }
+        ensures runs { Runs Y.gives sysfs.old
+            (sweeping A.answer A.later
+            (state_of hub_default self.old (A.meaning judge.old) (noted_in out.old).entries))
+            (state_of hub_default self.new (A.meaning judge.new) (noted_in out.new).entries)
+            sysfs.new }
         ensures next { self.new.next ≤ self.old.next + 65536 }
         ensures spare { 0 < (noted_in out.new).spare }
-        ensures room { 10 * length self.old.standings + 64 ≤ (noted_in out.old).room → 10 * length self.new.standings + 64 ≤ (noted_in out.new).room }
+        ensures room { 10 * length self.old.standings + 64 ≤ (noted_in out.old).room
+            → 10 * length self.new.standings + 64 ≤ (noted_in out.new).room }
         ensures same { SameEntries (λ b. ⟦<dyn Auditor as Auditor>⟧ b.vtable) out.old out.new }
     {
         let names = match sysfs.list(alloc) {

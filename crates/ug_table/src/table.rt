@@ -71,7 +71,8 @@ impl Table {
     /// The standing of that number. It is none exactly where no standing has it.
     pub fn standing(&self, number: u64) -> Option<&Standing>
         ensures value { option_copied result ≡ numbered number self.now.standings }
-        ensures none { IsNone result ↔ ((s : Standing) → Has self.now.standings s → s.number ≡ number → ⊥) }
+        ensures none { IsNone result
+            ↔ ((s : Standing) → Has self.now.standings s → s.number ≡ number → ⊥) }
     {
         self.standings.numbered(number)
     }
@@ -95,7 +96,8 @@ impl Table {
 
 // Whether a query matches the device of a standing, which is settled and allowed.
 pub fn is_allowed(s: &Standing, query: &Query) -> bool
-    ensures { result ≡ list_any (query_matches query.now) (allowed_of s.now.settled s.now.verdict s.now.judged) }
+    ensures { result
+        ≡ list_any (query_matches query.now) (allowed_of s.now.settled s.now.verdict s.now.judged) }
 {
     match (s.settled, s.verdict, &s.judged) {
         (true, Target::Allow, Judged::Good(device)) => matches(query, device),
