@@ -132,10 +132,12 @@ abbrev pub IsAsMet : Kernel → Kernel → ℕ → Bool → Type 0
 IsAsMet k l i on = (d : Device) → slice_get k.devices i ≡ Some d
     → (more : List Effect) × (l.log ≡ k.log ++ more) × (on ≡ on_by i more d.on)
 
--- The place of a ruling in a run: its event, and in that the `judged` entry of its number. The moment is the event's. Devices count as
--- present where no listing of an earlier event had succeeded. The record is that of the very device of the held file, which in this
--- event lived from the opening of that file to the probe that gave its value, and had that value when the sweep began, if it was there
--- then; and when the event began, but for what the writes of its order made of it. The standings are those that are left there of the ones that the sweep began with, and each is marked as settled as is told there.
+-- The place of a ruling in a run: its event, and in that the `judged` entry of its number. The
+-- moment is the event's. Devices count as present where no listing of an earlier event had
+-- succeeded. The record is that of the very device of the held file. The value is the one that this
+-- device had when the sweep began, if it was there then; and that it had when the event began, but
+-- for what the writes of its order made of it. The standings are those that are left there of the
+-- ones that the sweep began with, and each is marked as settled as is told there.
 pub record IsPlaced (hs : List Happened) (k : Kernel) (r : Ruling) : Type 0 where
   pub earlier : List Happened
   pub event : Happened
