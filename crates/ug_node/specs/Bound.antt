@@ -57,8 +57,9 @@ IsParentRead l None attrs = attrs ≡ None
 IsParentRead l (Some p) attrs =
     (e : Device) × (slice_get l.devices p ≡ Some e) × (attrs ≡ Some (parent_attrs_of e))
 
--- the device of that identity lived from the opening of the held file to the probe of it, and had
--- that value
+-- Between two kernels are an opening of the held file by that name, at which the device of that
+-- identity was live, and the same moment or a later one, at which it was live and had that value;
+-- nothing was written since the opening. Which calls these were isn't said.
 pub record LivedUntilProbe (name : List ℕ) (k l : Kernel) (held i : ℕ) (on : Bool) : Type 0 where
   pub before : Kernel
   pub opening : Kernel
@@ -71,8 +72,8 @@ pub record LivedUntilProbe (name : List ℕ) (k l : Kernel) (held i : ℕ) (on :
   pub end : Quiet probing l
 
 -- the held file is a new one, of a device of that name; the attributes, the parent's and the value
--- are that device's; and it lived until it was probed, after all was read; no other device of the
--- name lived through the binding
+-- are that device's; it was live where the file was opened, and then or later had that value; no
+-- other device of the name lived through the binding
 pub record IsBoundBy (Parents : Kernel → Option ℕ → Option Attrs → Type 0) (name : List ℕ)
     (k l : Kernel)
     (b : Bound) : Type 0 where

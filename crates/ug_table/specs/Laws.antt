@@ -54,8 +54,9 @@ pub record IsDevice (k : Kernel) (i : ℕ) (name : List ℕ) (held : Held) (judg
 abbrev pub IsGone : Kernel → ℕ → Type 0
 IsGone k i = (d : Device) × (slice_get k.devices i ≡ Some d) × (d.gone ≡ true)
 
--- Between the kernels start and now, the device of that identity lived from the opening of its held
--- file to the probe that gave this value. Where the device was there at the start, it is the value
+-- Between the kernels start and now are an opening of that held file by that name, at which the
+-- device of that identity was live, and the same moment or a later one, at which it was live and had
+-- that value, with no write in between. Where the device was there at the start, it is the value
 -- that it had then.
 pub record IsProbed (start now : Kernel) (name : List ℕ) (held i : ℕ) (on : Bool) : Type 0 where
   pub first : Kernel
@@ -219,13 +220,12 @@ AreMarkedIn tried name before entries ss =
 -- The entries since a sweep began, in order, with what they say of the log, of the judge and of the
 -- next number. Each verdict is the judge's on the record of the very device of the held file, under
 -- the next number, beside the standings that are left at that moment, each of its very device, and
--- marked as is told where its own part has come to its end, else as it was; and that device, in
--- this sweep, lived from the opening of the file to the probe that gave its value, which it had
--- when the sweep began if it was there then. Whether it was present at the start is one answer for
--- the sweep. Each entry that was added to the log is that of a write that is told, with its intent
--- directly before it, to the very device of its number, and is what the verdict of that number
--- calls for, a removal only where none was done before. A number that is told gone had a verdict,
--- and its device is gone.
+-- marked as is told where its own part has come to its end, else as it was; and the value that the
+-- judge is given is the one that the device had when the sweep began, if it was there then. Whether
+-- it was present at the start is one answer for the sweep. Each entry that was added to the log is
+-- that of a write that is told, with its intent directly before it, to the very device of its
+-- number, and is what the verdict of that number calls for, a removal only where none was done
+-- before. A number that is told gone had a verdict, and its device is gone.
 pub data Account {J : Type 0} (answer : Answers J) (later : Laters J) (terms : Terms)
     (tried : Tries) (start k : Kernel) (before : List Standing) (log0 : List Effect) (judge0 : J)
     (next0 : ℕ) : List Entry
