@@ -1,5 +1,5 @@
--- How an order is answered: by its line, by what its user or group may do, by rules, settings and standings, and by what a probe of its
--- device finds.
+-- How an order is answered: by its line, by what its user or group may do, by rules, settings and
+-- standings, and by what a probe of its device finds.
 use Rattle.std.specs.Prelude.{◌≡◌, ◌⊎◌, ℕ, Bool, true, false, not, List, [], ◌∷◌, decimal, Option, Some, None, IsSome, Result, Ok, Err}
 use Rattle.ug_types.specs.Principals.{Named}
 use Rattle.ug_types.specs.declared.refusal.Refusal.{Refusal}
@@ -73,7 +73,9 @@ unless None chosen = chosen
 -- ---- a verdict
 
 abbrev pub by_edit : Judging → ℕ → Target → Bool → Edit → Choice
-by_edit p number verdict on edit = unless (if_room_for edit p.rules) (changing (Rules edit) (deed.SetVerdict number verdict on (change_lines (Rules edit) p.next)))
+by_edit p number verdict on edit =
+    unless (if_room_for edit p.rules)
+    (changing (Rules edit) (deed.SetVerdict number verdict on (change_lines (Rules edit) p.next)))
 
 -- memory is taken for the device's rule
 abbrev pub if_rule_made : Judging → ℕ → Target → Bool → Edit → Bool → Prog Choice
@@ -81,13 +83,18 @@ if_rule_made p number verdict on edit true = Return (by_edit p number verdict on
 if_rule_made p number verdict on edit false = Return (refusing (refusal.Memory false))
 
 abbrev pub by_record : Judging → ℕ → Target → Bool → Judged → Prog Choice
-by_record p number verdict on (judged.Good device) = Room (if_rule_made p number verdict on (verdict_edit device verdict p))
-by_record p number verdict on (judged.Malformed kind place) = Return (refusing (refusal.MalformedDevice number))
+by_record p number verdict on (judged.Good device) =
+    Room (if_rule_made p number verdict on (verdict_edit device verdict p))
+by_record p number verdict on (judged.Malformed kind place) =
+    Return (refusing (refusal.MalformedDevice number))
 
 -- what a verdict that is to be permanent may come to, behind the probe: memory may be short for it
 abbrev pub IsChosenForGood : Judging → ℕ → Target → Bool → Judged → Choice → Type 0
-IsChosenForGood p number verdict on (judged.Good device) chosen = (chosen ≡ by_edit p number verdict on (verdict_edit device verdict p)) ⊎ (chosen ≡ refusing (refusal.Memory false))
-IsChosenForGood p number verdict on (judged.Malformed kind place) chosen = chosen ≡ refusing (refusal.MalformedDevice number)
+IsChosenForGood p number verdict on (judged.Good device) chosen =
+    (chosen ≡ by_edit p number verdict on (verdict_edit device verdict p))
+    ⊎ (chosen ≡ refusing (refusal.Memory false))
+IsChosenForGood p number verdict on (judged.Malformed kind place) chosen =
+    chosen ≡ refusing (refusal.MalformedDevice number)
 
 -- the device is there, with that value
 abbrev pub by_permanent : Judging → ℕ → Target → Bool → Standing → Bool → Prog Choice
@@ -96,14 +103,17 @@ by_permanent p number verdict false s on = Return (only (deed.SetVerdict number 
 
 -- by what the probe of the device finds, and the count of faults behind it
 abbrev pub by_probe : Judging → ℕ → Target → Bool → Standing → ℕ → Probe → Prog Choice
-by_probe p number verdict permanent s count (probe.Alive on) = by_permanent p number verdict permanent s on
+by_probe p number verdict permanent s count (probe.Alive on) =
+    by_permanent p number verdict permanent s on
 by_probe p number verdict permanent s count probe.Gone = Return (refusing (refusal.NoDevice number))
-by_probe p number verdict permanent s count probe.Failed = Return (refusing (refusal.ProbeFault count))
+by_probe p number verdict permanent s count probe.Failed =
+    Return (refusing (refusal.ProbeFault count))
 
 -- the device of the number's standing is probed
 abbrev pub by_standing : Judging → ℕ → Target → Bool → Option Standing → Prog Choice
 by_standing p number verdict permanent None = Return (refusing (refusal.NoDevice number))
-by_standing p number verdict permanent (Some s) = Ask (Ask_alive s.held.0) (λ t. by_probe p number verdict permanent s t.count t.answer)
+by_standing p number verdict permanent (Some s) =
+    Ask (Ask_alive s.held.0) (λ t. by_probe p number verdict permanent s t.count t.answer)
 
 -- ---- the others
 
@@ -137,7 +147,9 @@ by_setting (Some name) value = by_value (value_of name value)
 -- a rule is put behind that place, and its id is told
 abbrev pub by_rule : Judging → After → Bool → Result Rule Fault → Choice
 by_rule p after permanent (Err bad) = refusing (refusal.BadRule (kind_number bad.kind) bad.place)
-by_rule p after permanent (Ok rule) = unless (if_taken after p.rules) (changing (Rules (Insert after rule (not permanent))) (deed.Tell (decimal p.next ∷ [])))
+by_rule p after permanent (Ok rule) =
+    unless (if_taken after p.rules)
+    (changing (Rules (Insert after rule (not permanent))) (deed.Tell (decimal p.next ∷ [])))
 
 -- memory is taken to read it
 abbrev pub if_rule_read : Judging → After → Bool → List ℕ → Bool → Prog Choice
@@ -152,9 +164,11 @@ abbrev pub asking_of : DaemonState → Request → Prog Choice
 asking_of d (request.GetParameter name) = by_name d.sweep.judge.classes (parameter_of name)
 asking_of d (request.SetParameter name value) = Return (by_setting (parameter_of name) value)
 asking_of d request.ListDevices = telling (device_rows d.sweep.standings)
-asking_of d (request.Device number verdict permanent) = by_standing d.sweep.judge number verdict permanent (numbered number d.sweep.standings)
+asking_of d (request.Device number verdict permanent) =
+    by_standing d.sweep.judge number verdict permanent (numbered number d.sweep.standings)
 asking_of d request.ListRules = telling (rule_rows d.sweep.judge.rules)
-asking_of d (request.AppendRule after permanent text) = Room (if_rule_read d.sweep.judge after permanent text)
+asking_of d (request.AppendRule after permanent text) =
+    Room (if_rule_read d.sweep.judge after permanent text)
 asking_of d (request.RemoveRule id) = Return (by_id d.sweep.judge.rules id)
 asking_of d request.Watch = Return (only deed.Watch)
 
@@ -170,7 +184,8 @@ if_read d who line false = Return (refusing (refusal.Memory false))
 unfoldable pub asking : DaemonState → Named → List ℕ → Prog Choice
 asking d who line = Room (if_read d who line)
 
--- what is chosen can be done: the device of a verdict has a standing, and a change is one that the rules take
+-- what is chosen can be done: the device of a verdict has a standing, and a change is one that the
+-- rules take
 
 abbrev pub CanDo : DaemonState → Deed → Type 0
 CanDo d (deed.SetVerdict number verdict on lines) = IsSome (numbered number d.sweep.standings)
@@ -233,4 +248,5 @@ acting who d (deed.Refuse refused) = Return (replying (reply.Refused refused) d)
 acting who d (deed.Tell rows) = Return (replying (reply.Lines rows) d)
 acting who d deed.Watch = Return (watching d)
 acting who d (deed.SetVerdict number verdict on lines) =
-    then (ordering number verdict who on (kept_of d.sweep.standings d.sweep.entries)) (λ p. Return (answered_with d lines p))
+    then (ordering number verdict who on (kept_of d.sweep.standings d.sweep.entries))
+    (λ p. Return (answered_with d lines p))

@@ -1,4 +1,5 @@
--- A run of the daemon from its start: a chain of events, each from the state that the one before left.
+-- A run of the daemon from its start: a chain of events, each from the state that the one before
+-- left.
 use Rattle.std.specs.Prelude.{◌≡◌, ℕ, Bool, true, false, not, is_none, ◌||◌, List, [], ◌∷◌, ◌++◌, map, Option, Some, None, Ok, ◌⊎◌, slice_get}
 use Rattle.std.specs.List.{list_any}
 use Rattle.ug_types.specs.Elements.{Has}
@@ -49,8 +50,8 @@ use Rattle.ug_core.specs.declared.storing.Stored.{Stored}
 use Rattle.ug_core.specs.declared.daemon.Event.{Event}
 use Rattle.ug_core.specs.declared.daemon.Event.TheVariants.{Sweep, Order}
 
--- an event that was handled, with what was there before it, behind its order and after it, and what became of a pending save and of that of
--- its order. The disk is there where it was told.
+-- an event that was handled, with what was there before it, behind its order and after it, and what
+-- became of a pending save and of that of its order. The disk is there where it was told.
 pub record Happened : Type 0 where
   pub event : Event
   pub tried : Option Saved
@@ -72,7 +73,8 @@ ready_of h = ready h.event h.tried h.before
 pub record IsEvent (h : Happened) : Type 0 where
   pub answers : AnswersEvent h.event h.kernel (ready_of h) h.became h.kernel_answered h.answered
   pub handled : Handled h.kernel_answered h.answered h.kernel_after h.after
-  pub file : KeepsFile (λ (o : Option Disk). o) h.event h.tried h.became h.disk h.before h.disk_after h.after
+  pub file : KeepsFile (λ (o : Option Disk). o) h.event h.tried h.became h.disk h.before
+      h.disk_after h.after
   pub saves : TriesSave h.event h.tried h.became h.before h.after
 
 -- where a disk is told, one was told before, and is as it was
@@ -80,20 +82,25 @@ abbrev pub StaysOnDisk : Option Disk → Option Disk → Type 0
 StaysOnDisk o p = (n : Disk) → p ≡ Some n → (m : Disk) × (o ≡ Some m) × IsAsItWas m n
 
 -- between two events the kernel moves by itself, and the files and the daemon stay as they are
-abbrev pub Chain : Kernel → Option Disk → DaemonState → List Happened → Kernel → Option Disk → DaemonState → Type 0
+abbrev pub Chain : Kernel → Option Disk → DaemonState → List Happened → Kernel → Option Disk
+    → DaemonState → Type 0
 Chain k o d [] l p e = Moves k l × StaysOnDisk o p × (e ≡ d)
-Chain k o d (h ∷ hs) l p e = Moves k h.kernel × StaysOnDisk o h.disk × (h.before ≡ d) × IsEvent h × Chain h.kernel_after h.disk_after h.after hs l p e
+Chain k o d (h ∷ hs) l p e =
+    Moves k h.kernel × StaysOnDisk o h.disk × (h.before ≡ d) × IsEvent h
+    × Chain h.kernel_after h.disk_after h.after hs l p e
 
 -- all entries of a run
 abbrev pub journal : List Happened → List Entry
 journal [] = []
 journal (h ∷ hs) = h.after.sweep.entries ++ journal hs
 
--- what an event tells of the policy: the change that its order asked for, where it was done, and then the decisions of its sweep
+-- what an event tells of the policy: the change that its order asked for, where it was done, and
+-- then the decisions of its sweep
 
 abbrev pub changes_asked : DaemonState → Event → Option Change
 changes_asked d (Sweep moment) = None
-changes_asked d (Order moment who line) = change_asked d.sweep.standings d.sweep.judge (request_read line)
+changes_asked d (Order moment who line) =
+    change_asked d.sweep.standings d.sweep.judge (request_read line)
 
 -- a change was done, too, where a call behind it failed or memory was short for it
 abbrev pub was_done : Option Reply → Bool
@@ -110,7 +117,9 @@ abbrev pub decided : List Decision → List Told
 decided ds = map Decided ds
 
 abbrev pub told_in : Happened → List Told
-told_in h = told_if (was_done h.after.reply) (changes_asked (ready_of h) h.event) ++ decided (unordered (decisions_in h.after.sweep.entries))
+told_in h =
+    told_if (was_done h.after.reply) (changes_asked (ready_of h) h.event)
+    ++ decided (unordered (decisions_in h.after.sweep.entries))
 
 abbrev pub told_of : List Happened → List Told
 told_of [] = []
@@ -126,8 +135,8 @@ abbrev pub has_listed : List Happened → Bool
 has_listed [] = false
 has_listed (h ∷ hs) = not (list_any tells_unlisted h.after.sweep.entries) || has_listed hs
 
--- where the device was there before an order, its value is the one that it had then, but for what the
--- order's writes made of it
+-- where the device was there before an order, its value is the one that it had then, but for what
+-- the order's writes made of it
 abbrev pub IsAsMet : Kernel → Kernel → ℕ → Bool → Type 0
 IsAsMet k l i on = (d : Device) → slice_get k.devices i ≡ Some d
     → (more : List Effect) × (l.log ≡ k.log ++ more) × (on ≡ on_by i more d.on)
@@ -147,7 +156,9 @@ pub record IsPlaced (hs : List Happened) (k : Kernel) (r : Ruling) : Type 0 wher
   pub back : List Entry
   pub verdict : Target
   pub cause : Cause
-  pub in_event : event.after.sweep.entries ≡ event.answered.sweep.entries ++ (front ++ entry.Judged r.number r.name r.held verdict cause ∷ back)
+  pub in_event : event.after.sweep.entries
+      ≡ event.answered.sweep.entries
+      ++ (front ++ entry.Judged r.number r.name r.held verdict cause ∷ back)
   pub moment : r.moment ≡ moment_of event.event
   pub present : r.present ≡ not (has_listed earlier)
   pub device : IsDevice k r.device r.name r.held r.judged
@@ -157,9 +168,11 @@ pub record IsPlaced (hs : List Happened) (k : Kernel) (r : Ruling) : Type 0 wher
   pub left : AreLeft event.answered.sweep.standings front r.standings
   pub marked : AreMarkedIn swept_before r.name event.answered.sweep.standings front r.standings
 
--- The decision is that of a ruling on that device at its place in the run: it was given by the policy as all rulings and changes before
--- it left it, with the words that they didn't take, and with the histories of their judgements.
-pub record WasJudged (policy : Judging) (hs : List Happened) (steps : List PolicyStep) (k : Kernel) (i : ℕ) (d : Decision) : Type 0 where
+-- The decision is that of a ruling on that device at its place in the run: it was given by the
+-- policy as all rulings and changes before it left it, with the words that they didn't take, and
+-- with the histories of their judgements.
+pub record WasJudged (policy : Judging) (hs : List Happened) (steps : List PolicyStep) (k : Kernel)
+    (i : ℕ) (d : Decision) : Type 0 where
   pub before : List PolicyStep
   pub ruling : Ruling
   pub after : List PolicyStep
@@ -169,9 +182,12 @@ pub record WasJudged (policy : Judging) (hs : List Happened) (steps : List Polic
   pub held : ruling.held ≡ d.held
   pub device : ruling.device ≡ i
   pub placed : IsPlaced hs k ruling
-  pub given : IsVerdict (at_moment ruling.moment (after_steps policy before)) (allowed_records ruling.standings) ruling.judged (is_none (parent_of ruling.name)) ruling.present ruling.on d.verdict d.cause
+  pub given : IsVerdict (at_moment ruling.moment (after_steps policy before))
+      (allowed_records ruling.standings) ruling.judged (is_none (parent_of ruling.name))
+      ruling.present ruling.on d.verdict d.cause
 
--- The change was ordered: an event of the run is an order of that user or group, which asks for it, and which it may ask for.
+-- The change was ordered: an event of the run is an order of that user or group, which asks for it,
+-- and which it may ask for.
 pub record WasAsked (hs : List Happened) (change : Change) : Type 0 where
   pub event : Happened
   pub in_run : Has hs event
@@ -181,11 +197,13 @@ pub record WasAsked (hs : List Happened) (change : Change) : Type 0 where
   pub is_order : event.event ≡ Order moment who line
   pub asked : Request
   pub reads : request_read line ≡ Ok asked
-  pub asks : change_asked event.before.sweep.standings event.before.sweep.judge (Ok asked) ≡ Some change
+  pub asks : change_asked event.before.sweep.standings event.before.sweep.judge (Ok asked)
+      ≡ Some change
   pub granted : is_granted event.before.access who (needs asked) ≡ true
 
--- The decision was ordered: an event of the run is an order of that user or group, which asks for that verdict on the device of that
--- number, and which it may ask for. The number's standing had that name and that held file.
+-- The decision was ordered: an event of the run is an order of that user or group, which asks for
+-- that verdict on the device of that number, and which it may ask for. The number's standing had
+-- that name and that held file.
 pub record WasOrdered (hs : List Happened) (d : Decision) : Type 0 where
   pub earlier : List Happened
   pub event : Happened
@@ -198,18 +216,23 @@ pub record WasOrdered (hs : List Happened) (d : Decision) : Type 0 where
   pub cause : d.cause ≡ causes.Order who
   pub permanent : Bool
   pub asked : request_read line ≡ Ok (request.Device d.number d.verdict permanent)
-  pub granted : is_granted event.before.access who (needs (request.Device d.number d.verdict permanent)) ≡ true
+  pub granted : is_granted event.before.access who
+      (needs (request.Device d.number d.verdict permanent))
+      ≡ true
   pub standing : Standing
   pub stands : numbered d.number event.before.sweep.standings ≡ Some standing
   pub name : standing.name ≡ d.name
   pub held : standing.held ≡ d.held
-  pub in_event : Has event.answered.sweep.entries (entry.Judged d.number d.name d.held d.verdict d.cause)
+  pub in_event : Has event.answered.sweep.entries
+      (entry.Judged d.number d.name d.held d.verdict d.cause)
 
 -- the decision was given on that device, by the policy or by an order
 abbrev pub WasDecided : Judging → List Happened → List PolicyStep → Kernel → ℕ → Decision → Type 0
 WasDecided policy hs steps k i d =
     WasJudged policy hs steps k i d
-    ⊎ (WasOrdered hs d × (slice_get k.held d.held.0 ≡ Some (record { device = i; control = Authorized })))
+    ⊎
+    (WasOrdered hs d
+    × (slice_get k.held d.held.0 ≡ Some (record { device = i; control = Authorized })))
 
 -- Behind these entries the decision is in force, and calls for the effect, or the setting of the
 -- defaults does; and it was given on the effect's device.
@@ -247,18 +270,21 @@ pub record AllExplained (hub : Option Write) (policy : Judging) (hs : List Happe
   pub log : k.log ≡ first.log ++ added
   pub each : Explains hub policy hs steps k (journal hs) added
 
--- the device was judged under the number of its standing and under no other, and stands as judged; and where it is a root hub whose default
--- is written, it has that default
-pub record IsJudgedOnce (hub : Option Write) (policy : Judging) (hs : List Happened) (steps : List PolicyStep) (k : Kernel) (standings : List Standing) (i : ℕ) : Type 0 where
+-- the device was judged under the number of its standing and under no other, and stands as judged;
+-- and where it is a root hub whose default is written, it has that default
+pub record IsJudgedOnce (hub : Option Write) (policy : Judging) (hs : List Happened)
+    (steps : List PolicyStep) (k : Kernel) (standings : List Standing) (i : ℕ) : Type 0 where
   pub stands : IsAsJudged hub k standings i
   pub decided : WasDecided policy hs steps k i (decision_of stands.standing.s)
-  pub default : (what : Write) → parent_of stands.standing.s.name ≡ None → default_write hub ≡ Some what → default_at i k ≡ set_by what
+  pub default : (what : Write) → parent_of stands.standing.s.name ≡ None
+      → default_write hub ≡ Some what → default_at i k ≡ set_by what
   pub once : (number : ℕ) → IsJudged k (journal hs) number i → number ≡ stands.standing.s.number
 
 -- the texts that aren't sure after an event, and after these events
 
 abbrev pub unsure_past : List (List ℕ) → Happened → List (List ℕ)
-unsure_past unsure h = unsure_behind h.became (texts_of h.event h.before) (unsure_with h.tried unsure)
+unsure_past unsure h =
+    unsure_behind h.became (texts_of h.event h.before) (unsure_with h.tried unsure)
 
 abbrev pub unsure_of : List (List ℕ) → List Happened → List (List ℕ)
 unsure_of unsure [] = unsure
@@ -271,37 +297,52 @@ pub record KeptIn (unsure : List (List ℕ)) (h : Happened) : Type 0 where
   pub disk_after : Disk
   pub told_after : h.disk_after ≡ Some disk_after
   pub before : IsKept h.before.sweep.judge.rules unsure disk.left
-  pub kept : KeepsRules (texts_of h.event h.before) h.tried h.became h.before unsure disk h.after disk_after
+  pub kept : KeepsRules (texts_of h.event h.before) h.tried h.became h.before unsure disk h.after
+      disk_after
 
 -- in each event
 abbrev pub EachKept : List (List ℕ) → List Happened → Type 0
 EachKept unsure [] = Unit {0}
 EachKept unsure (h ∷ hs) = KeptIn unsure h × EachKept (unsure_past unsure h) hs
 
--- Where a disk is told at the end, one was told at the start. Where a crash then left no text but that of the rules, or one of those that
--- aren't sure, it is so at each moment since; and each save that is done makes sure.
-abbrev pub IsKeptThroughout : List RuleEntry → Option Disk → List Happened → Option Disk → List RuleEntry → Type 0
-IsKeptThroughout rules o hs p later = (n : Disk) → p ≡ Some n → (m : Disk) × (o ≡ Some m) × ((unsure : List (List ℕ)) → IsKept rules unsure m.left → EachKept unsure hs × IsKept later (unsure_of unsure hs) n.left)
+-- Where a disk is told at the end, one was told at the start. Where a crash then left no text but
+-- that of the rules, or one of those that aren't sure, it is so at each moment since; and each save
+-- that is done makes sure.
+abbrev pub IsKeptThroughout : List RuleEntry → Option Disk → List Happened → Option Disk
+    → List RuleEntry → Type 0
+IsKeptThroughout rules o hs p later =
+    (n : Disk) → p ≡ Some n
+    → (m : Disk) × (o ≡ Some m) × ((unsure : List (List ℕ)) → IsKept rules unsure m.left
+    → EachKept unsure hs × IsKept later (unsure_of unsure hs) n.left)
 
--- What holds of any run from a start with that policy. What its events tell of the policy, in order, is a list of steps: rulings, each at
--- its place and each by the policy as the steps before it left it, and changes, each as an order of one who may asked for it. All other
--- decisions were ordered by somebody who may. Each effect is explained. Each new device got the next number; each standing has the
--- verdict in force; what is written to the defaults stays, and is the default of each device whose standing is marked so; and a device that still lives and stands as judged was judged once. The rule file is kept.
-pub record IsRun (policy : Judging) (hub : Option Write) (first : Kernel) (o : Option Disk) (hs : List Happened) (k : Kernel) (p : Option Disk) (e : DaemonState) : Type 0 where
+-- What holds of any run from a start with that policy. What its events tell of the policy, in
+-- order, is a list of steps: rulings, each at its place and each by the policy as the steps before
+-- it left it, and changes, each as an order of one who may asked for it. All other decisions were
+-- ordered by somebody who may. Each effect is explained. Each new device got the next number; each
+-- standing has the verdict in force; what is written to the defaults stays, and is the default of
+-- each device whose standing is marked so; and a device that still lives and stands as judged was
+-- judged once. The rule file is kept.
+pub record IsRun (policy : Judging) (hub : Option Write) (first : Kernel) (o : Option Disk)
+    (hs : List Happened) (k : Kernel) (p : Option Disk) (e : DaemonState) : Type 0 where
   pub steps : List PolicyStep
   pub told : told_of hs ≡ told_by policy steps
   pub can : CanTake policy steps
   pub placed : (r : Ruling) → Has steps (Ruled r) → IsPlaced hs k r
   pub changed : (change : Change) → Has steps (Changed change) → WasAsked hs change
-  pub ordered : (d : Decision) → Has (decisions_in (journal hs)) d → is_ordered d.cause ≡ true → WasOrdered hs d
+  pub ordered : (d : Decision) → Has (decisions_in (journal hs)) d → is_ordered d.cause ≡ true
+      → WasOrdered hs d
   pub explained : AllExplained hub policy hs steps first k
   pub numbers : Follow 1 (given_numbers (journal hs)) e.sweep.next
   pub agree : Agree [] (journal hs) e.sweep.standings
   pub setting : e.sweep.hub ≡ hub
   pub defaulted : AreDefaulted hub k e.sweep.standings
   pub listed : e.sweep.listed ≡ has_listed hs
-  pub once : (i : ℕ) (d : Device) → Live k.devices i d → IsAsJudged hub k e.sweep.standings i → IsJudgedOnce hub policy hs steps k e.sweep.standings i
+  pub once : (i : ℕ) (d : Device) → Live k.devices i d → IsAsJudged hub k e.sweep.standings i
+      → IsJudgedOnce hub policy hs steps k e.sweep.standings i
   pub file : IsKeptThroughout policy.rules o hs p e.sweep.judge.rules
 
 abbrev pub AreRuns : Type 0
-AreRuns = (policy : Judging) (hub : Option Write) (number : ℕ) (first : Kernel) (o : Option Disk) (d : DaemonState) (hs : List Happened) (k : Kernel) (p : Option Disk) (e : DaemonState) → IsStarted policy hub number d → Chain first o d hs k p e → IsRun policy hub first o hs k p e
+AreRuns =
+    (policy : Judging) (hub : Option Write) (number : ℕ) (first : Kernel) (o : Option Disk)
+    (d : DaemonState) (hs : List Happened) (k : Kernel) (p : Option Disk) (e : DaemonState)
+    → IsStarted policy hub number d → Chain first o d hs k p e → IsRun policy hub first o hs k p e

@@ -41,8 +41,10 @@ parameter_at name.ImplicitPolicyTarget classes = parameter.ImplicitPolicyTarget 
 parameter_at name.InsertedDevicePolicy classes = parameter.InsertedDevicePolicy classes.inserted
 
 abbrev pub with_parameter : Parameter → Classes → Classes
-with_parameter (parameter.ImplicitPolicyTarget target) classes = record classes { implicit = target }
-with_parameter (parameter.InsertedDevicePolicy policy) classes = record classes { inserted = policy }
+with_parameter (parameter.ImplicitPolicyTarget target) classes =
+    record classes { implicit = target }
+with_parameter (parameter.InsertedDevicePolicy policy) classes =
+    record classes { inserted = policy }
 
 -- ---- what a request asks to change
 
@@ -54,14 +56,17 @@ abbrev pub setting_asked : Option ParameterName → List ℕ → Option Change
 setting_asked (Some name) value = option_map Set (value_of name value)
 setting_asked None value = None
 
--- A verdict that is to be permanent: the first permanent rule that is made of the device gets it, whatever it had; where there is none,
--- the device's generated rule with that verdict is put behind the others.
+-- A verdict that is to be permanent: the first permanent rule that is made of the device gets it,
+-- whatever it had; where there is none, the device's generated rule with that verdict is put behind
+-- the others.
 abbrev pub edit_for : DeviceRecord → Bool → Target → Option ℕ → Edit
 edit_for device with_port verdict (Some id) = Retarget id (generated_of device verdict with_port)
-edit_for device with_port verdict None = Insert after.End (generated_of device verdict with_port) false
+edit_for device with_port verdict None =
+    Insert after.End (generated_of device verdict with_port) false
 
 abbrev pub verdict_edit : DeviceRecord → Target → Judging → Edit
-verdict_edit device verdict p = edit_for device p.classes.with_port verdict (made_rule device p.classes.with_port p.rules)
+verdict_edit device verdict p =
+    edit_for device p.classes.with_port verdict (made_rule device p.classes.with_port p.rules)
 
 -- a malformed device has no rule
 abbrev pub record_change : Judged → Target → Judging → Option Change
@@ -74,10 +79,12 @@ standing_change None verdict p = None
 
 -- where these are the standings and the policy
 abbrev pub change_asked : List Standing → Judging → Result Request ℕ → Option Change
-change_asked ss p (Ok (request.AppendRule after permanent text)) = rule_asked after permanent (rule_read text)
+change_asked ss p (Ok (request.AppendRule after permanent text)) =
+    rule_asked after permanent (rule_read text)
 change_asked ss p (Ok (request.RemoveRule id)) = Some (Rules (Remove id))
 change_asked ss p (Ok (request.SetParameter name value)) = setting_asked (parameter_of name) value
-change_asked ss p (Ok (request.Device number verdict true)) = standing_change (numbered number ss) verdict p
+change_asked ss p (Ok (request.Device number verdict true)) =
+    standing_change (numbered number ss) verdict p
 change_asked ss p read = None
 
 -- ---- whether it can be done
@@ -104,7 +111,8 @@ HasRoom (Set set) spare = Unit {0}
 -- ---- what it does
 
 abbrev pub changed_by : Change → Judging → Judging
-changed_by (Rules edit) p = record p { rules = edited_by edit p.next p.rules; next = next_after edit p.next }
+changed_by (Rules edit) p =
+    record p { rules = edited_by edit p.next p.rules; next = next_after edit p.next }
 changed_by (Set set) p = record p { classes = with_parameter set p.classes }
 
 -- the text of the rule file that it needs, if it needs one

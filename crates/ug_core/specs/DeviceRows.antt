@@ -10,7 +10,8 @@ use Rattle.ug_print.specs.Generated.{generated_of}
 use Rattle.ug_print.specs.Words.{rule_text}
 use Rattle.ug_rules.specs.Rows.{numbered_row}
 
--- the canonical text of the device's rule with its port, or the first fault of its descriptors and its name
+-- the canonical text of the device's rule with its port, or the first fault of its descriptors and
+-- its name
 abbrev pub device_text : List ℕ → Target → Judged → List ℕ
 device_text name verdict (Good device) = rule_text (generated_of device verdict true)
 device_text name verdict (Malformed kind place) = malformed_text verdict kind place name
@@ -41,4 +42,6 @@ AreRising (s ∷ ss) = ((later : Standing) → Has ss later → s.number < later
 -- the standing with the least number from this one on; none exactly where each number is below it
 abbrev pub IsFirstFrom : List Standing → ℕ → Option Standing → Type 0
 IsFirstFrom ss number None = (s : Standing) → Has ss s → s.number < number
-IsFirstFrom ss number (Some first) = Has ss first × (number ≤ first.number) × ((s : Standing) → Has ss s → number ≤ s.number → first.number ≤ s.number)
+IsFirstFrom ss number (Some first) =
+    Has ss first × (number ≤ first.number)
+    × ((s : Standing) → Has ss s → number ≤ s.number → first.number ≤ s.number)

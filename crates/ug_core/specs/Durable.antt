@@ -26,10 +26,12 @@ use Rattle.ug_rules.specs.RuleFile.{permanent_rules, permanent_text}
 
 -- each text that a crash may leave is the text of the permanent rules, or one that isn't sure
 abbrev pub IsKept : List RuleEntry → List (List ℕ) → Images → Type 0
-IsKept rules unsure images = (text : List ℕ) → IsImage images text → (text ≡ permanent_text rules) ⊎ Has unsure text
+IsKept rules unsure images =
+    (text : List ℕ) → IsImage images text → (text ≡ permanent_text rules) ⊎ Has unsure text
 
--- A save that was done leaves nothing else: behind a pending save, and behind an order, which perhaps leaves what it was to save where its
--- save failed. What isn't sure may be told by texts, or by the rules that they have.
+-- A save that was done leaves nothing else: behind a pending save, and behind an order, which
+-- perhaps leaves what it was to save where its save failed. What isn't sure may be told by texts,
+-- or by the rules that they have.
 
 abbrev pub unsure_with : {X : Type 0} → Option Saved → List X → List X
 unsure_with (Some saved.Done) unsure = []
@@ -46,11 +48,13 @@ if_written stored.Done asked = asked
 if_written (stored.Failed count) asked = asked
 if_written became asked = []
 
--- The change that an order asks for, if one asks who may. Where it concerns permanent rules, what it is to save: their text after just this
--- change, and these rules.
+-- The change that an order asks for, if one asks who may. Where it concerns permanent rules, what
+-- it is to save: their text after just this change, and these rules.
 
 abbrev pub change_ordered : Named → DaemonState → Result Request ℕ → Option Change
-change_ordered who d (Ok asked) = cond (is_granted d.access who (needs asked)) (change_asked d.sweep.standings d.sweep.judge (Ok asked)) None
+change_ordered who d (Ok asked) =
+    cond (is_granted d.access who (needs asked))
+    (change_asked d.sweep.standings d.sweep.judge (Ok asked)) None
 change_ordered who d (Err place) = None
 
 abbrev pub change_in : Event → DaemonState → Option Change
@@ -73,7 +77,8 @@ texts_of (Sweep moment) d = []
 texts_of (Order moment who line) d = text_of_request who d (request_read line)
 
 abbrev pub rules_of_change : Option Change → Judging → List (List Rule)
-rules_of_change (Some change) p = cond (is_saved change p.rules) (permanent_rules (changed_by change p).rules ∷ []) []
+rules_of_change (Some change) p =
+    cond (is_saved change p.rules) (permanent_rules (changed_by change p).rules ∷ []) []
 rules_of_change None p = []
 
 abbrev pub rules_of : Event → DaemonState → List (List Rule)
@@ -83,26 +88,40 @@ rules_of event d = rules_of_change (change_in event d) d.sweep.judge
 abbrev pub WritesEvent : Event → DaemonState → Stored → Type 0
 WritesEvent event d became = WritesRules became (change_in event d) d.sweep.judge
 
--- At each moment of an event a crash leaves the text of the permanent rules in force, or one that isn't sure: within the calls of a pending
--- save, one that wasn't sure before the event; within those of its order, the one that this writes, or one that still isn't sure; and after
--- it. It may leave the rule file as it is. The permanent rules stay as they were, unless the save of the order was done; and the entries tell
--- what became of that.
-pub record KeepsRules (texts : List (List ℕ)) (tried : Option Saved) (became : Stored) (d : DaemonState) (unsure : List (List ℕ)) (m : Disk) (e : DaemonState) (n : Disk) : Type 0 where
-  pub saving : List Images
-  pub ordering : List Images
-  pub past : n.past ≡ (m.past ++ saving) ++ ordering
-  pub first : (images : Images) → Has saving images → IsKept d.sweep.judge.rules unsure images
-  pub second : (images : Images) → Has ordering images → IsKept d.sweep.judge.rules (if_written became texts ++ unsure_with tried unsure) images
-  pub left : IsKept e.sweep.judge.rules (unsure_behind became texts (unsure_with tried unsure)) n.left
-  pub possible : IsImage m.left m.text → IsImage n.left n.text
-  pub same : ((became ≡ stored.Done) → ⊥) → permanent_text e.sweep.judge.rules ≡ permanent_text d.sweep.judge.rules
-  pub done : became ≡ stored.Done → Has texts (permanent_text e.sweep.judge.rules) × Has e.sweep.entries (entry.Save saved.Done)
-  pub failed : (count : ℕ) → became ≡ stored.Failed count → Has e.sweep.entries (entry.Reply (Err (refusal.StoreFault count)))
+-- At each moment of an event a crash leaves the text of the permanent rules in force, or one that
+-- isn't sure: within the calls of a pending save, one that wasn't sure before the event; within
+-- those of its order, the one that this writes, or one that still isn't sure; and after it. It may
+-- leave the rule file as it is. The permanent rules stay as they were, unless the save of the order
+-- was done; and the entries tell what became of that.
+pub record KeepsRules (texts : List (List ℕ)) (tried : Option Saved) (became : Stored)
+    (d : DaemonState) (unsure : List (List ℕ)) (m : Disk) (e : DaemonState) (n : Disk) : Type 0
+  where
+    pub saving : List Images
+    pub ordering : List Images
+    pub past : n.past ≡ (m.past ++ saving) ++ ordering
+    pub first : (images : Images) → Has saving images → IsKept d.sweep.judge.rules unsure images
+    pub second : (images : Images) → Has ordering images
+        → IsKept d.sweep.judge.rules (if_written became texts ++ unsure_with tried unsure) images
+    pub left : IsKept e.sweep.judge.rules (unsure_behind became texts (unsure_with tried unsure))
+        n.left
+    pub possible : IsImage m.left m.text → IsImage n.left n.text
+    pub same : ((became ≡ stored.Done) → ⊥)
+        → permanent_text e.sweep.judge.rules ≡ permanent_text d.sweep.judge.rules
+    pub done : became ≡ stored.Done
+        → Has texts (permanent_text e.sweep.judge.rules) × Has e.sweep.entries (entry.Save saved.Done)
+    pub failed : (count : ℕ) → became ≡ stored.Failed count
+        → Has e.sweep.entries (entry.Reply (Err (refusal.StoreFault count)))
 
 -- from a disk of which a crash leaves no other text
-abbrev pub FileIsKept : Event → Option Saved → Stored → DaemonState → Disk → DaemonState → Disk → Type 0
-FileIsKept event tried became d m e n = (unsure : List (List ℕ)) → IsKept d.sweep.judge.rules unsure m.left → KeepsRules (texts_of event d) tried became d unsure m e n
+abbrev pub FileIsKept : Event → Option Saved → Stored → DaemonState → Disk → DaemonState → Disk
+    → Type 0
+FileIsKept event tried became d m e n =
+    (unsure : List (List ℕ)) → IsKept d.sweep.judge.rules unsure m.left
+    → KeepsRules (texts_of event d) tried became d unsure m e n
 
 -- where a disk is told after the event, one was told before it, and this is so
-abbrev pub KeepsFile : {S : Type 0} → (S → Option Disk) → Event → Option Saved → Stored → S → DaemonState → S → DaemonState → Type 0
-KeepsFile told event tried became o d p e = (n : Disk) → told p ≡ Some n → (m : Disk) × (told o ≡ Some m) × FileIsKept event tried became d m e n
+abbrev pub KeepsFile : {S : Type 0} → (S → Option Disk) → Event → Option Saved → Stored → S
+    → DaemonState → S → DaemonState → Type 0
+KeepsFile told event tried became o d p e =
+    (n : Disk) → told p ≡ Some n
+    → (m : Disk) × (told o ≡ Some m) × FileIsKept event tried became d m e n

@@ -1,4 +1,5 @@
--- An event of the daemon, in stages, each of which is on one object: a pending save, an order, and the sweep.
+-- An event of the daemon, in stages, each of which is on one object: a pending save, an order, and
+-- the sweep.
 use Rattle.std.specs.Prelude.{◌≡◌, ◌≤◌, ℕ, ◌+◌, ◌-◌, ◌^◌, Bool, true, false, ◌&&◌, nat_le, nat_lt, List, [], ◌∷◌, ◌++◌, length, Option, Some, None}
 use Rattle.rand_core.specs.declared.Rng.{Ghosts}
 use Rattle.ug_types.specs.declared.control.Write.{Write}
@@ -24,9 +25,9 @@ use Rattle.ug_core.specs.declared.daemon.Daemon.{Daemon}
 use Rattle.ug_core.specs.declared.daemon.Event.{Event}
 use Rattle.ug_core.specs.declared.daemon.Event.TheVariants.{Sweep, Order}
 
--- the standings and the judge, with the entries of the last event but for the `dropped` ones; who may do what; whether a save is
--- pending; the number of the next event; the reply to the order of the last one, if it had one; and whether that asked for notices and may
--- have them
+-- the standings and the judge, with the entries of the last event but for the `dropped` ones; who
+-- may do what; whether a save is pending; the number of the next event; the reply to the order of
+-- the last one, if it had one; and whether that asked for notices and may have them
 pub record DaemonState : Type 0 where
   pub sweep : State Judging
   pub access : List Addition
@@ -37,7 +38,17 @@ pub record DaemonState : Type 0 where
 
 abbrev pub daemon_of : {R : Type 0} {g : Ghosts R} → Daemon R g → DaemonState
 daemon_of {g = g} d = record {
-  sweep = record { standings = d.table.standings; next = d.table.next; listed = d.table.listed; judge = judging_of g.stream d.policy; hub = d.hub_default; entries = without_drops d.report.entries.entries };
+  sweep =
+      record {
+        standings = d.table.standings;
+        next = d.table.next;
+        listed = d.table.listed;
+        judge =
+            judging_of g.stream d.policy;
+        hub = d.hub_default;
+        entries = without_drops
+            d.report.entries.entries;
+      };
   access = d.acl;
   pending = d.store;
   event = d.next_event;
@@ -45,7 +56,8 @@ daemon_of {g = g} d = record {
   watch = d.report.watch;
 }
 
--- First stage, on the disk alone: a pending save is tried, with the text of the rules that aren't temporary.
+-- First stage, on the disk alone: a pending save is tried, with the text of the rules that aren't
+-- temporary.
 abbrev pub if_text : List RuleEntry → Bool → DiskProg (Option Saved)
 if_text rules true = then_disk (saving (permanent_text rules)) (λ saved. Ended (Some saved))
 if_text rules false = Ended (Some saved.Memory)
@@ -83,10 +95,25 @@ first_entry number (Order moment who line) = entry.Order number moment who
 
 -- the judge is told the moment, the first entry is noted, and nothing is replied yet
 abbrev pub begun : Event → DaemonState → DaemonState
-begun event d = record d { sweep = record d.sweep { judge = record d.sweep.judge { ctx = context_at d.sweep.judge.clock (moment_of event) }; entries = first_entry d.event event ∷ [] }; reply = None; watch = false }
+begun event d =
+    record d {
+      sweep = record d.sweep {
+        judge = record d.sweep.judge
+            { ctx = context_at d.sweep.judge.clock (moment_of event) };
+        entries = first_entry d.event event
+            ∷ [];
+      };
+      reply = None;
+      watch = false;
+    }
 
 abbrev pub tried_with : Option Saved → DaemonState → DaemonState
-tried_with tried d = record d { sweep = record d.sweep { entries = d.sweep.entries ++ saved_entries tried }; pending = pending_with tried d.pending }
+tried_with tried d =
+    record d {
+      sweep = record d.sweep { entries = d.sweep.entries ++ saved_entries tried };
+      pending =
+          pending_with tried d.pending;
+    }
 
 -- what the order, or else the sweep, begins with
 abbrev pub ready : Event → Option Saved → DaemonState → DaemonState
@@ -94,7 +121,10 @@ ready event tried d = tried_with tried (begun event d)
 
 -- Last stage, on the kernel alone: the sweep, and the last entry.
 abbrev pub ended : DaemonState → State Judging → Prog DaemonState
-ended d v = Return (record d { sweep = record v { entries = v.entries ++ entry.End d.event ∷ [] }; event = d.event + 1 })
+ended d v =
+    Return
+    (record d
+    { sweep = record v { entries = v.entries ++ entry.End d.event ∷ [] }; event = d.event + 1 })
 
 unfoldable pub handling : DaemonState → Prog DaemonState
 handling d = then (sweeping policy_answer policy_later d.sweep) (ended d)
@@ -123,13 +153,17 @@ pub record NotesAtMost {R : Type 0} {g : Ghosts R} {X : Type 0} {F : X → Type 
 abbrev pub is_low : ℕ → Bool
 is_low n = nat_le n (2 ^ 64 - 1 - 4194304)
 
--- the next device number, the counts of faults and the event number leave room, and an id is left for one rule more
+-- the next device number, the counts of faults and the event number leave room, and an id is left
+-- for one rule more
 abbrev pub has_numbers : DaemonState → ℕ → ℕ → Bool
 has_numbers d sysfs_faults disk_faults =
-    is_low d.sweep.next && is_low d.event && is_low sysfs_faults && is_low disk_faults && nat_lt d.sweep.judge.next (2 ^ 64 - 1)
+    is_low d.sweep.next && is_low d.event && is_low sysfs_faults && is_low disk_faults
+    && nat_lt d.sweep.judge.next (2 ^ 64 - 1)
 
--- a new daemon judges by that policy, writes that to the default of each root hub, has no standing, has noted nothing, and no save is pending
-pub record IsStarted (policy : Judging) (to_hubs : Option Write) (first : ℕ) (d : DaemonState) : Type 0 where
+-- a new daemon judges by that policy, writes that to the default of each root hub, has no standing,
+-- has noted nothing, and no save is pending
+pub record IsStarted (policy : Judging) (to_hubs : Option Write) (first : ℕ) (d : DaemonState) :
+    Type 0 where
   pub judge : d.sweep.judge ≡ policy
   pub hub : d.sweep.hub ≡ to_hubs
   pub standings : d.sweep.standings ≡ []

@@ -1,4 +1,5 @@
--- The verdict in force: the last that entries tell of a number, or else that of its standing from before.
+-- The verdict in force: the last that entries tell of a number, or else that of its standing from
+-- before.
 use Rattle.std.specs.Prelude.{◌≡◌, ℕ, ◌+◌, Bool, true, false, cond, List, [], ◌∷◌, ◌++◌, map, Option, Some, None, if◌then◌else◌, nat_eq}
 use Rattle.ug_types.specs.Elements.{Has}
 use Rattle.ug_types.specs.declared.verdict.Held.{Held}
@@ -19,7 +20,8 @@ pub record Decision : Type 0 where
 
 -- the decision that an entry tells
 abbrev pub decision_in : Entry → List Decision
-decision_in (entry.Judged number name held verdict cause) = record { number = number; name = name; held = held; verdict = verdict; cause = cause } ∷ []
+decision_in (entry.Judged number name held verdict cause) =
+    record { number = number; name = name; held = held; verdict = verdict; cause = cause } ∷ []
 decision_in e = []
 
 -- those that entries tell, in order
@@ -28,7 +30,8 @@ decisions_in [] = []
 decisions_in (e ∷ es) = decision_in e ++ decisions_in es
 
 abbrev pub decision_of : Standing → Decision
-decision_of s = record { number = s.number; name = s.name; held = s.held; verdict = s.verdict; cause = s.cause }
+decision_of s =
+    record { number = s.number; name = s.name; held = s.held; verdict = s.verdict; cause = s.cause }
 
 abbrev pub or_else : {X : Type 0} → Option X → Option X → Option X
 or_else (Some x) other = Some x

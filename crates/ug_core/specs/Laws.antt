@@ -69,7 +69,8 @@ use Rattle.ug_core.specs.declared.daemon.Event.TheVariants.{Sweep, Order}
 
 -- ---- the sweep of an event, from the state that the stage before it left
 
--- over kernels from k to l: a sweep that is fair and leaves each device settled or named, and the last entry
+-- over kernels from k to l: a sweep that is fair and leaves each device settled or named, and the
+-- last entry
 pub record Handled (k : Kernel) (d : DaemonState) (l : Kernel) (e : DaemonState) : Type 0 where
   pub swept : State Judging
   pub law : Swept policy_answer policy_later k d.sweep l swept
@@ -81,43 +82,69 @@ pub record Handled (k : Kernel) (d : DaemonState) (l : Kernel) (e : DaemonState)
   pub reply : e.reply ≡ d.reply
   pub watch : e.watch ≡ d.watch
 
--- where a kernel is told after the event, one was told before it; and where that is sound and the standings are of its devices,
--- this is so
+-- where a kernel is told after the event, one was told before it; and where that is sound and the
+-- standings are of its devices, this is so
 abbrev pub Handles : {S : Type 0} → (S → Option Kernel) → S → DaemonState → S → DaemonState → Type 0
-Handles told s d t e = (l : Kernel) → told t ≡ Some l → (k : Kernel) × (told s ≡ Some k) × (IsKernel k → Stand k d.sweep.standings d.sweep.next → Handled k d l e)
+Handles told s d t e =
+    (l : Kernel) → told t ≡ Some l
+    → (k : Kernel) × (told s ≡ Some k)
+    × (IsKernel k → Stand k d.sweep.standings d.sweep.next → Handled k d l e)
 
--- The calls of the sweep are in parts. Each that failed is told with its number and the count of faults after it, and no other is; and
--- calls are numbered on.
-pub record TellsSweep {S : Type 0} (gives : S → (call : Call) → Answer call → S → Type 0) (calls faults : S → ℕ) (s : S) (d : DaemonState) (t : S) (e : DaemonState) : Type 0 where
+-- The calls of the sweep are in parts. Each that failed is told with its number and the count of
+-- faults after it, and no other is; and calls are numbered on.
+pub record TellsSweep {S : Type 0} (gives : S → (call : Call) → Answer call → S → Type 0)
+    (calls faults : S → ℕ) (s : S) (d : DaemonState) (t : S) (e : DaemonState) : Type 0 where
   pub swept : State Judging
   pub tells : TellsFaults gives calls faults s d.sweep t swept
   pub entries : e.sweep ≡ record swept { entries = swept.entries ++ entry.End d.event ∷ [] }
 
--- where a kernel is told after the event, one was told before it; and where that is sound and the standings are of its devices,
--- each name has at most one `unsettled` entry
-abbrev pub NamesOnceIn : {S : Type 0} → (S → Option Kernel) → S → DaemonState → S → DaemonState → Type 0
-NamesOnceIn told s d t e = (l : Kernel) → told t ≡ Some l → (k : Kernel) × (told s ≡ Some k) × (IsKernel k → Stand k d.sweep.standings d.sweep.next → AllDistinct (unsettled_names e.sweep.entries))
+-- where a kernel is told after the event, one was told before it; and where that is sound and the
+-- standings are of its devices, each name has at most one `unsettled` entry
+abbrev pub NamesOnceIn : {S : Type 0} → (S → Option Kernel) → S → DaemonState → S → DaemonState
+    → Type 0
+NamesOnceIn told s d t e =
+    (l : Kernel) → told t ≡ Some l
+    → (k : Kernel) × (told s ≡ Some k) × (IsKernel k → Stand k d.sweep.standings d.sweep.next
+    → AllDistinct (unsettled_names e.sweep.entries))
 
 -- ---- the order of an event, from the state that the stage before it left
 
--- The facts for which a request of one who may make it is refused without a call. Of several the first in the order of usbguard(1)
--- counts: a rule that can't be read, before a place that isn't there, before a list that is full; a name before its value.
+-- The facts for which a request of one who may make it is refused without a call. Of several the
+-- first in the order of usbguard(1) counts: a rule that can't be read, before a place that isn't
+-- there, before a list that is full; a name before its value.
 pub data Refuses (d : DaemonState) : Request → Refusal → Type 0 where
-  Bad_rule : (place : After) (permanent : Bool) (text : List ℕ) (bad : Fault) → rule_read text ≡ Err bad → Refuses d (request.AppendRule place permanent text) (refusal.BadRule (kind_number bad.kind) bad.place)
-  No_device : (number : ℕ) (verdict : Target) (permanent : Bool) → numbered number d.sweep.standings ≡ None → Refuses d (request.Device number verdict permanent) (refusal.NoDevice number)
-  No_place : (id : ℕ) (permanent : Bool) (text : List ℕ) (rule : Rule) → rule_read text ≡ Ok rule → has_rule id d.sweep.judge.rules ≡ false → Refuses d (request.AppendRule (after.Rule id) permanent text) (refusal.NoRule id)
-  No_rule : (id : ℕ) → has_rule id d.sweep.judge.rules ≡ false → Refuses d (request.RemoveRule id) (refusal.NoRule id)
-  No_parameter : (name : List ℕ) → parameter_of name ≡ None → Refuses d (request.GetParameter name) refusal.BadParameter
-  No_setting : (name value : List ℕ) → parameter_of name ≡ None → Refuses d (request.SetParameter name value) refusal.BadParameter
-  No_value : (name value : List ℕ) (set : ParameterName) → parameter_of name ≡ Some set → value_of set value ≡ None → Refuses d (request.SetParameter name value) refusal.BadValue
-  Full : (place : After) (permanent : Bool) (text : List ℕ) (rule : Rule) → rule_read text ≡ Ok rule → IsThere place d.sweep.judge.rules → 65536 ≤ length d.sweep.judge.rules → Refuses d (request.AppendRule place permanent text) refusal.RulesFull
+  Bad_rule : (place : After) (permanent : Bool) (text : List ℕ) (bad : Fault)
+      → rule_read text ≡ Err bad
+      → Refuses d (request.AppendRule place permanent text)
+      (refusal.BadRule (kind_number bad.kind) bad.place)
+  No_device : (number : ℕ) (verdict : Target) (permanent : Bool)
+      → numbered number d.sweep.standings ≡ None
+      → Refuses d (request.Device number verdict permanent) (refusal.NoDevice number)
+  No_place : (id : ℕ) (permanent : Bool) (text : List ℕ) (rule : Rule) → rule_read text ≡ Ok rule
+      → has_rule id d.sweep.judge.rules ≡ false
+      → Refuses d (request.AppendRule (after.Rule id) permanent text) (refusal.NoRule id)
+  No_rule : (id : ℕ) → has_rule id d.sweep.judge.rules ≡ false
+      → Refuses d (request.RemoveRule id) (refusal.NoRule id)
+  No_parameter : (name : List ℕ) → parameter_of name ≡ None
+      → Refuses d (request.GetParameter name) refusal.BadParameter
+  No_setting : (name value : List ℕ) → parameter_of name ≡ None
+      → Refuses d (request.SetParameter name value) refusal.BadParameter
+  No_value : (name value : List ℕ) (set : ParameterName) → parameter_of name ≡ Some set
+      → value_of set value ≡ None → Refuses d (request.SetParameter name value) refusal.BadValue
+  Full : (place : After) (permanent : Bool) (text : List ℕ) (rule : Rule) → rule_read text ≡ Ok rule
+      → IsThere place d.sweep.judge.rules → 65536 ≤ length d.sweep.judge.rules
+      → Refuses d (request.AppendRule place permanent text) refusal.RulesFull
 
--- what is refused before a call: a line that is no request, before a privilege that is missing, before the facts. Want of memory may come
--- at any place
+-- what is refused before a call: a line that is no request, before a privilege that is missing,
+-- before the facts. Want of memory may come at any place
 pub data WhyRefused (who : Named) (line : List ℕ) (d : DaemonState) : Refusal → Type 0 where
-  Unread : (place : ℕ) → request_read line ≡ Err place → WhyRefused who line d (refusal.BadRequest place)
-  Denied : (asked : Request) (refused : Refusal) → request_read line ≡ Ok asked → denied_of d.access who (needs asked) ≡ Some refused → WhyRefused who line d refused
-  By_facts : (asked : Request) (refused : Refusal) → request_read line ≡ Ok asked → is_granted d.access who (needs asked) ≡ true → Refuses d asked refused → WhyRefused who line d refused
+  Unread : (place : ℕ) → request_read line ≡ Err place
+      → WhyRefused who line d (refusal.BadRequest place)
+  Denied : (asked : Request) (refused : Refusal) → request_read line ≡ Ok asked
+      → denied_of d.access who (needs asked) ≡ Some refused → WhyRefused who line d refused
+  By_facts : (asked : Request) (refused : Refusal) → request_read line ≡ Ok asked
+      → is_granted d.access who (needs asked) ≡ true → Refuses d asked refused
+      → WhyRefused who line d refused
   No_memory : WhyRefused who line d (refusal.Memory false)
 
 -- what a probe that didn't find the device comes to
@@ -126,8 +153,10 @@ ProbeRefuses number (probe.Alive on) refused = ⊥
 ProbeRefuses number probe.Gone refused = refused ≡ refusal.NoDevice number
 ProbeRefuses number probe.Failed refused = (count : ℕ) × (refused ≡ refusal.ProbeFault count)
 
--- a verdict that one who may ordered, on a device of which the probe said that it is gone, or failed
-pub record RefusedByProbe (who : Named) (line : List ℕ) (d : DaemonState) (k l : Kernel) (refused : Refusal) : Type 0 where
+-- a verdict that one who may ordered, on a device of which the probe said that it is gone, or
+-- failed
+pub record RefusedByProbe (who : Named) (line : List ℕ) (d : DaemonState) (k l : Kernel)
+    (refused : Refusal) : Type 0 where
   pub number : ℕ
   pub verdict : Target
   pub permanent : Bool
@@ -159,29 +188,48 @@ change_of d asked = change_asked d.sweep.standings d.sweep.judge (Ok asked)
 abbrev pub StoreRefuses : Judging → Change → Stored → Refusal → Type 0
 StoreRefuses p change stored.NotNeeded refused = ⊥
 StoreRefuses p change stored.Done refused = ⊥
-StoreRefuses p change (stored.Failed count) refused = (is_saved change p.rules ≡ true) × (refused ≡ refusal.StoreFault count)
-StoreRefuses p change stored.TooLong refused = (is_saved change p.rules ≡ true) × (FitsFile (changed_by change p).rules → ⊥) × (refused ≡ refusal.RulesFull)
+StoreRefuses p change (stored.Failed count) refused =
+    (is_saved change p.rules ≡ true) × (refused ≡ refusal.StoreFault count)
+StoreRefuses p change stored.TooLong refused =
+    (is_saved change p.rules ≡ true) × (FitsFile (changed_by change p).rules → ⊥)
+    × (refused ≡ refusal.RulesFull)
 StoreRefuses p change stored.Memory refused = refused ≡ refusal.Memory false
 
--- The facts for which a request that goes on is refused: a device without a record has no rule; a rule that would be made for one finds
--- the list full; and what is asked can be done, but isn't saved.
+-- The facts for which a request that goes on is refused: a device without a record has no rule; a
+-- rule that would be made for one finds the list full; and what is asked can be done, but isn't
+-- saved.
 pub data RefusesBehind (d : DaemonState) (became : Stored) : Request → Refusal → Type 0 where
-  No_record : (number : ℕ) (verdict : Target) (standing : Standing) (kind place : ℕ) → numbered number d.sweep.standings ≡ Some standing → standing.judged ≡ judged.Malformed kind place → became ≡ stored.NotNeeded → RefusesBehind d became (request.Device number verdict true) (refusal.MalformedDevice number)
-  No_room : (number : ℕ) (verdict : Target) (rule : Rule) → change_of d (request.Device number verdict true) ≡ Some (Rules (Insert after.End rule false)) → 65536 ≤ length d.sweep.judge.rules → became ≡ stored.NotNeeded → RefusesBehind d became (request.Device number verdict true) refusal.RulesFull
-  Unstored : (asked : Request) (refused : Refusal) (change : Change) → change_of d asked ≡ Some change → CanChange change d.sweep.judge.rules → StoreRefuses d.sweep.judge change became refused → RefusesBehind d became asked refused
-  Without_memory : (asked : Request) → became ≡ stored.NotNeeded → RefusesBehind d became asked (refusal.Memory false)
+  No_record : (number : ℕ) (verdict : Target) (standing : Standing) (kind place : ℕ)
+      → numbered number d.sweep.standings ≡ Some standing
+      → standing.judged ≡ judged.Malformed kind place → became ≡ stored.NotNeeded
+      → RefusesBehind d became (request.Device number verdict true) (refusal.MalformedDevice number)
+  No_room : (number : ℕ) (verdict : Target) (rule : Rule)
+      → change_of d (request.Device number verdict true)
+      ≡ Some (Rules (Insert after.End rule false))
+      → 65536 ≤ length d.sweep.judge.rules → became ≡ stored.NotNeeded
+      → RefusesBehind d became (request.Device number verdict true) refusal.RulesFull
+  Unstored : (asked : Request) (refused : Refusal) (change : Change)
+      → change_of d asked ≡ Some change → CanChange change d.sweep.judge.rules
+      → StoreRefuses d.sweep.judge change became refused → RefusesBehind d became asked refused
+  Without_memory : (asked : Request) → became ≡ stored.NotNeeded
+      → RefusesBehind d became asked (refusal.Memory false)
 
-pub record RefusedBehind (who : Named) (line : List ℕ) (d : DaemonState) (became : Stored) (k l : Kernel) (refused : Refusal) : Type 0 where
+pub record RefusedBehind (who : Named) (line : List ℕ) (d : DaemonState) (became : Stored)
+    (k l : Kernel) (refused : Refusal) : Type 0 where
   pub asked : Request
   pub reads : request_read line ≡ Ok asked
   pub granted : is_granted d.access who (needs asked) ≡ true
   pub goes : GoesOn d asked k l
   pub why : RefusesBehind d became asked refused
 
--- An order that was refused changes nothing but that this is noted and told, with a save that failed. At most its device was probed.
-pub record RefusesOrder (who : Named) (line : List ℕ) (k : Kernel) (d : DaemonState) (became : Stored) (l : Kernel) (e : DaemonState) : Type 0 where
+-- An order that was refused changes nothing but that this is noted and told, with a save that
+-- failed. At most its device was probed.
+pub record RefusesOrder (who : Named) (line : List ℕ) (k : Kernel) (d : DaemonState)
+    (became : Stored) (l : Kernel) (e : DaemonState) : Type 0 where
   pub refused : Refusal
-  pub why : (WhyRefused who line d refused × (l ≡ k) × (became ≡ stored.NotNeeded)) ⊎ ((RefusedByProbe who line d k l refused × (became ≡ stored.NotNeeded)) ⊎ RefusedBehind who line d became k l refused)
+  pub why : (WhyRefused who line d refused × (l ≡ k) × (became ≡ stored.NotNeeded))
+      ⊎ ((RefusedByProbe who line d k l refused × (became ≡ stored.NotNeeded))
+      ⊎ RefusedBehind who line d became k l refused)
   pub unchanged : IsSome (refused_by became) ⊎ (became ≡ stored.NotNeeded)
   pub sound : IsKernel l
   pub quiet : Quiet k l
@@ -190,7 +238,8 @@ pub record RefusesOrder (who : Named) (line : List ℕ) (k : Kernel) (d : Daemon
 -- a change that is in force can be done, and was saved where it has to be
 abbrev pub IsInForce : Judging → Option Change → Stored → Type 0
 IsInForce p None became = became ≡ stored.NotNeeded
-IsInForce p (Some change) stored.NotNeeded = CanChange change p.rules × (is_saved change p.rules ≡ false)
+IsInForce p (Some change) stored.NotNeeded =
+    CanChange change p.rules × (is_saved change p.rules ≡ false)
 IsInForce p (Some change) stored.Done = CanChange change p.rules × (is_saved change p.rules ≡ true)
 IsInForce p (Some change) became = ⊥
 
@@ -202,10 +251,12 @@ pub record LeavesVerdict (number : ℕ) (verdict : Target) (before after : List 
   pub wanting : said ≡ Some (replies.Refused (refusal.Memory true)) → verdict ≡ target.Reject
   pub marks : LeavesMarks None (has_number number) before after how
 
--- A verdict that was ordered by one who may. The device of that number's standing was there, with that value. If the verdict is to be
--- permanent, its rule is saved and in force. The verdict is set and told, and the device is brought to it; and the reply tells what came
--- of it. Values change by the writes in the log alone.
-pub record CarriesOut (who : Named) (line : List ℕ) (k : Kernel) (d : DaemonState) (became : Stored) (l : Kernel) (e : DaemonState) : Type 0 where
+-- A verdict that was ordered by one who may. The device of that number's standing was there, with
+-- that value. If the verdict is to be permanent, its rule is saved and in force. The verdict is set
+-- and told, and the device is brought to it; and the reply tells what came of it. Values change by
+-- the writes in the log alone.
+pub record CarriesOut (who : Named) (line : List ℕ) (k : Kernel) (d : DaemonState) (became : Stored)
+    (l : Kernel) (e : DaemonState) : Type 0 where
   pub number : ℕ
   pub verdict : Target
   pub permanent : Bool
@@ -224,17 +275,19 @@ pub record CarriesOut (who : Named) (line : List ℕ) (k : Kernel) (d : DaemonSt
   pub after_change : changed ≡ with_changes change (noted_store became d)
   pub how : Settled
   pub kept : Kept
-  pub law : OrderedOne number verdict who on standing middle changed.sweep l (with_kept changed.sweep kept) how
+  pub law : OrderedOne number verdict who on standing middle changed.sweep l
+      (with_kept changed.sweep kept) how
   pub leaves : LeavesVerdict number verdict changed.sweep.standings kept.standings how e.reply
   pub rest : List Entry
-  pub entries : kept.entries ≡ changed.sweep.entries ++ verdict_entry (with_verdict verdict who standing) ∷ rest
+  pub entries : kept.entries
+      ≡ changed.sweep.entries ++ verdict_entry (with_verdict verdict who standing) ∷ rest
   pub bears : AllBear standing.name rest
   pub given : numbers_given rest ≡ []
   pub values : LogsValues k l
   pub state : e ≡ answered_with changed (lines_of change d.sweep.judge.next) (how, kept)
 
--- what an order that needs no call of the kernel comes to: the lines of its reply, what it changes, and whether its user or group is told
--- of what happens from now on
+-- what an order that needs no call of the kernel comes to: the lines of its reply, what it changes,
+-- and whether its user or group is told of what happens from now on
 pub record Outcome : Type 0 where
   pub lines : List (List ℕ)
   pub change : Option Change
@@ -244,7 +297,8 @@ abbrev pub only_lines : List (List ℕ) → Outcome
 only_lines rows = record { lines = rows; change = None; watches = false }
 
 abbrev pub outcome_of_change : DaemonState → Change → Outcome
-outcome_of_change d change = record { lines = change_lines change d.sweep.judge.next; change = Some change; watches = false }
+outcome_of_change d change =
+    record { lines = change_lines change d.sweep.judge.next; change = Some change; watches = false }
 
 -- whether it is on a device
 abbrev pub is_on_device : Request → Bool
@@ -253,45 +307,65 @@ is_on_device asked = false
 
 -- what each request comes to that needs no call
 pub data ComesTo (d : DaemonState) : Request → Outcome → Type 0 where
-  Value : (name : List ℕ) (set : ParameterName) → parameter_of name ≡ Some set → ComesTo d (request.GetParameter name) (only_lines (value_word (parameter_at set d.sweep.judge.classes) ∷ []))
+  Value : (name : List ℕ) (set : ParameterName) → parameter_of name ≡ Some set
+      → ComesTo d (request.GetParameter name)
+      (only_lines (value_word (parameter_at set d.sweep.judge.classes) ∷ []))
   Devices : ComesTo d request.ListDevices (only_lines (device_rows d.sweep.standings))
   List_rules : ComesTo d request.ListRules (only_lines (rule_rows d.sweep.judge.rules))
-  Changes : (asked : Request) (change : Change) → is_on_device asked ≡ false → change_of d asked ≡ Some change → ComesTo d asked (outcome_of_change d change)
+  Changes : (asked : Request) (change : Change) → is_on_device asked ≡ false
+      → change_of d asked ≡ Some change → ComesTo d asked (outcome_of_change d change)
   Watches : ComesTo d request.Watch (record { lines = []; change = None; watches = true })
 
 abbrev pub if_watching : Bool → DaemonState → DaemonState
 if_watching true d = record d { watch = true }
 if_watching false d = d
 
--- An order of one who may give it is carried out without a call of the kernel: nothing changes but what it asks for, once that is saved
--- where it has to be, and the reply tells just that.
-pub record AnswersAtOnce (who : Named) (line : List ℕ) (d : DaemonState) (became : Stored) (e : DaemonState) : Type 0 where
+-- An order of one who may give it is carried out without a call of the kernel: nothing changes but
+-- what it asks for, once that is saved where it has to be, and the reply tells just that.
+pub record AnswersAtOnce (who : Named) (line : List ℕ) (d : DaemonState) (became : Stored)
+    (e : DaemonState) : Type 0 where
   pub asked : Request
   pub reads : request_read line ≡ Ok asked
   pub granted : is_granted d.access who (needs asked) ≡ true
   pub outcome : Outcome
   pub comes : ComesTo d asked outcome
   pub in_force : IsInForce d.sweep.judge outcome.change became
-  pub state : e ≡ if_watching outcome.watches (replying (replies.Lines outcome.lines) (with_changes outcome.change (noted_store became d)))
+  pub state : e
+      ≡ if_watching outcome.watches
+      (replying (replies.Lines outcome.lines) (with_changes outcome.change (noted_store became d)))
 
 -- over kernels from k to l, where that became of the save of what the order changes
 abbrev pub AnswersEvent : Event → Kernel → DaemonState → Stored → Kernel → DaemonState → Type 0
 AnswersEvent (Sweep moment) k d became l e = (l ≡ k) × (became ≡ stored.NotNeeded) × (e ≡ d)
-AnswersEvent (Order moment who line) k d became l e = RefusesOrder who line k d became l e ⊎ (((l ≡ k) × AnswersAtOnce who line d became e) ⊎ CarriesOut who line k d became l e)
+AnswersEvent (Order moment who line) k d became l e =
+    RefusesOrder who line k d became l e
+    ⊎ (((l ≡ k) × AnswersAtOnce who line d became e) ⊎ CarriesOut who line k d became l e)
 
--- where a kernel is told behind it, one was told before it; and where that is sound and the standings are of its devices, this is so
-abbrev pub Answers : {S : Type 0} → (S → Option Kernel) → Event → S → DaemonState → Stored → S → DaemonState → Type 0
-Answers told event s d became t e = (l : Kernel) → told t ≡ Some l → (k : Kernel) × (told s ≡ Some k) × (IsKernel k → Stand k d.sweep.standings d.sweep.next → AnswersEvent event k d became l e)
+-- where a kernel is told behind it, one was told before it; and where that is sound and the
+-- standings are of its devices, this is so
+abbrev pub Answers : {S : Type 0} → (S → Option Kernel) → Event → S → DaemonState → Stored → S
+    → DaemonState → Type 0
+Answers told event s d became t e =
+    (l : Kernel) → told t ≡ Some l
+    → (k : Kernel) × (told s ≡ Some k)
+    × (IsKernel k → Stand k d.sweep.standings d.sweep.next → AnswersEvent event k d became l e)
 
--- the calls of an order that was refused: none, or the probe of a standing's device, whose failure the reply tells
-pub record GoesAsRefusal (d : DaemonState) (became : Stored) (made : List Made) (e : DaemonState) : Type 0 where
+-- the calls of an order that was refused: none, or the probe of a standing's device, whose failure
+-- the reply tells
+pub record GoesAsRefusal (d : DaemonState) (became : Stored) (made : List Made) (e : DaemonState) :
+    Type 0 where
   pub refused : Refusal
-  pub calls : (made ≡ []) ⊎ ((x : Standing) × (t : Told Probe) × Has d.sweep.standings x × (made ≡ answered (Ask_alive x.held.0) t ∷ []))
+  pub calls : (made ≡ [])
+      ⊎ ((x : Standing) × (t : Told Probe) × Has d.sweep.standings x
+      × (made ≡ answered (Ask_alive x.held.0) t ∷ []))
   pub told : failures made ≡ told_in_reply (Err refused)
   pub state : e ≡ replying (replies.Refused refused) (noted_store became d)
 
--- those of one that was carried out: a probe that finds the device, and then those that bring it to its verdict
-pub record GoesAsVerdict {S : Type 0} (gives : S → (call : Call) → Answer call → S → Type 0) (calls faults : S → ℕ) (who : Named) (s : S) (d : DaemonState) (became : Stored) (made : List Made) (t : S) (e : DaemonState) : Type 0 where
+-- those of one that was carried out: a probe that finds the device, and then those that bring it to
+-- its verdict
+pub record GoesAsVerdict {S : Type 0} (gives : S → (call : Call) → Answer call → S → Type 0)
+    (calls faults : S → ℕ) (who : Named) (s : S) (d : DaemonState) (became : Stored)
+    (made : List Made) (t : S) (e : DaemonState) : Type 0 where
   pub number : ℕ
   pub verdict : Target
   pub standing : Standing
@@ -306,42 +380,59 @@ pub record GoesAsVerdict {S : Type 0} (gives : S → (call : Call) → Answer ca
   pub after_change : changed ≡ with_changes change (noted_store became d)
   pub how : Settled
   pub kept : Kept
-  pub goes : GoesAsOrder gives calls faults (with_verdict verdict who standing) on behind changed.sweep.entries t kept.standings kept.entries how
+  pub goes : GoesAsOrder gives calls faults (with_verdict verdict who standing) on behind
+      changed.sweep.entries t kept.standings kept.entries how
   pub made_is : made ≡ answered (Ask_alive standing.held.0) found ∷ goes.made
   pub leaves : LeavesVerdict number verdict changed.sweep.standings kept.standings how e.reply
   pub lines : List (List ℕ)
   pub state : e ≡ answered_with changed lines (how, kept)
 
-abbrev pub GoesAsAnswer : {S : Type 0} → (S → (call : Call) → Answer call → S → Type 0) → (S → ℕ) → (S → ℕ) → Event → S → DaemonState → Stored → List Made → S → DaemonState → Type 0
+abbrev pub GoesAsAnswer : {S : Type 0} → (S → (call : Call) → Answer call → S → Type 0) → (S → ℕ)
+    → (S → ℕ) → Event → S → DaemonState → Stored → List Made → S → DaemonState → Type 0
 GoesAsAnswer gives calls faults (Sweep moment) s d became made t e = (made ≡ []) × (e ≡ d)
-GoesAsAnswer gives calls faults (Order moment who line) s d became made t e = GoesAsRefusal d became made e ⊎ (((made ≡ []) × AnswersAtOnce who line d became e) ⊎ GoesAsVerdict gives calls faults who s d became made t e)
+GoesAsAnswer gives calls faults (Order moment who line) s d became made t e =
+    GoesAsRefusal d became made e
+    ⊎ (((made ≡ []) × AnswersAtOnce who line d became e)
+    ⊎ GoesAsVerdict gives calls faults who s d became made t e)
 
--- The stages of an order: on the kernel, what it comes to; on the disk, what it changes is saved if it has to be, and is then in force; and
--- on the kernel, what is then done.
-pub record RunsOrder {S T : Type 0} (gives : S → (call : Call) → Answer call → S → Type 0) (keeps : T → (call : DiskCall) → DiskTold call → T → Type 0) (who : Named) (line : List ℕ) (s : S) (o : T) (d : DaemonState) (became : Stored) (t : S) (p : T) (a : DaemonState) : Type 0 where
-  pub choice : Choice
-  pub behind : S
-  pub asks : Runs gives s (asking d who line) choice behind
-  pub stores : RunsDisk keeps o (storing d choice.change) became p
-  pub acts : Runs gives behind (acting who (stored_with became choice.change d) (deed_after became choice.deed)) a t
+-- The stages of an order: on the kernel, what it comes to; on the disk, what it changes is saved if
+-- it has to be, and is then in force; and on the kernel, what is then done.
+pub record RunsOrder {S T : Type 0} (gives : S → (call : Call) → Answer call → S → Type 0)
+    (keeps : T → (call : DiskCall) → DiskTold call → T → Type 0) (who : Named) (line : List ℕ)
+    (s : S) (o : T) (d : DaemonState) (became : Stored) (t : S) (p : T) (a : DaemonState) : Type 0
+  where
+    pub choice : Choice
+    pub behind : S
+    pub asks : Runs gives s (asking d who line) choice behind
+    pub stores : RunsDisk keeps o (storing d choice.change) became p
+    pub acts : Runs gives behind
+        (acting who (stored_with became choice.change d) (deed_after became choice.deed)) a t
 
 -- a sweep alone has none
-abbrev pub RunsAnswer : {S T : Type 0} → (S → (call : Call) → Answer call → S → Type 0) → (T → (call : DiskCall) → DiskTold call → T → Type 0) → Event → S → T → DaemonState → Stored → S → T → DaemonState → Type 0
-RunsAnswer gives keeps (Sweep moment) s o d became t p a = (t ≡ s) × (p ≡ o) × (became ≡ stored.NotNeeded) × (a ≡ d)
-RunsAnswer gives keeps (Order moment who line) s o d became t p a = RunsOrder gives keeps who line s o d became t p a
+abbrev pub RunsAnswer : {S T : Type 0} → (S → (call : Call) → Answer call → S → Type 0)
+    → (T → (call : DiskCall) → DiskTold call → T → Type 0) → Event → S → T → DaemonState → Stored
+    → S → T → DaemonState → Type 0
+RunsAnswer gives keeps (Sweep moment) s o d became t p a =
+    (t ≡ s) × (p ≡ o) × (became ≡ stored.NotNeeded) × (a ≡ d)
+RunsAnswer gives keeps (Order moment who line) s o d became t p a =
+    RunsOrder gives keeps who line s o d became t p a
 
 -- ---- a whole event
 
--- The calls of an event, from where it begins, are those of its order and of a sweep in parts, and are numbered from 1. Each that
--- failed is told with its number and the count of faults after it, and no other is; and both numbers rise from one to the next.
-pub record TellsEvent {S : Type 0} (gives : S → (call : Call) → Answer call → S → Type 0) (calls faults : S → ℕ) (event : Event) (s : S) (d : DaemonState) (became : Stored) (m : S) (a : DaemonState) (t : S) (e : DaemonState) : Type 0 where
+-- The calls of an event, from where it begins, are those of its order and of a sweep in parts, and
+-- are numbered from 1. Each that failed is told with its number and the count of faults after it,
+-- and no other is; and both numbers rise from one to the next.
+pub record TellsEvent {S : Type 0} (gives : S → (call : Call) → Answer call → S → Type 0)
+    (calls faults : S → ℕ) (event : Event) (s : S) (d : DaemonState) (became : Stored) (m : S)
+    (a : DaemonState) (t : S) (e : DaemonState) : Type 0 where
   pub order : List Made
   pub along : Along gives s order m
   pub answers : GoesAsAnswer gives calls faults event s d became order m a
   pub swept : State Judging
   pub goes : GoesInParts gives m a.sweep t swept
   pub entries : e.sweep ≡ record swept { entries = swept.entries ++ entry.End a.event ∷ [] }
-  pub exact : failures_told e.sweep.entries ≡ failures (order ++ answered Names goes.listed ∷ goes.later)
+  pub exact : failures_told e.sweep.entries
+      ≡ failures (order ++ answered Names goes.listed ∷ goes.later)
   pub numbered : AreNumbered 0 (order ++ answered Names goes.listed ∷ goes.later)
   pub rises : Rises 0 (faults s) (failures_told e.sweep.entries)
 

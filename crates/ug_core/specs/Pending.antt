@@ -28,8 +28,8 @@ abbrev pub saves_tried : Option Saved → List Saved
 saves_tried None = []
 saves_tried (Some saved) = saved ∷ []
 
--- Whether a save is pending then: the last one that was done or failed decides, and that of an order
--- comes behind a pending one. Where neither was, it is as before.
+-- Whether a save is pending then: the last one that was done or failed decides, and that of an
+-- order comes behind a pending one. Where neither was, it is as before.
 abbrev pub IsPendingThen : Option Saved → Stored → Bool → Bool → Type 0
 IsPendingThen tried stored.Done was now = now ≡ false
 IsPendingThen tried (stored.Failed count) was now = now ≡ true

@@ -30,8 +30,8 @@ use Rattle.ug_core.specs.declared.policy.Policy.{Policy}
 abbrev pub clock_of : TimeZone → ℕ → ℕ
 clock_of zone second = local_second_at zone second
 
--- what judges: the settings for each class of devices, the rules in order, the id of the next one, the local clock, when a device is
--- judged, and the words to come
+-- what judges: the settings for each class of devices, the rules in order, the id of the next one,
+-- the local clock, when a device is judged, and the words to come
 pub record Judging : Type 0 where
   pub classes : Classes
   pub rules : List RuleEntry
@@ -42,9 +42,18 @@ pub record Judging : Type 0 where
 
 -- what a policy judges by, where its generator gives these words
 abbrev pub judging_of : {R : Type 0} → (R → Stream) → Policy R → Judging
-judging_of words p = record { classes = p.classes; rules = p.rules.entries; next = p.rules.next; clock = clock_of p.zone; ctx = p.ctx; stream = words p.rng }
+judging_of words p =
+    record {
+      classes = p.classes;
+      rules = p.rules.entries;
+      next = p.rules.next;
+      clock = clock_of p.zone;
+      ctx = p.ctx;
+      stream = words p.rng;
+    }
 
--- a moment, with its second of the local day; behind the last second that the calendar has, that one counts
+-- a moment, with its second of the local day; behind the last second that the calendar has, that
+-- one counts
 abbrev pub context_at : (ℕ → ℕ) → Moment → Context
 context_at clock moment = record { moment = moment; second = clock (min moment.0 253402207200) }
 
@@ -72,7 +81,8 @@ cause_for false = cause.Inserted
 abbrev pub kept : Bool → Target × Cause
 kept on = if on then (target.Allow, cause.Keep) else (target.Block, cause.Keep)
 
--- the settings decide, or what it had does, or the rules, and the implicit target where none of them does
+-- the settings decide, or what it had does, or the rules, and the implicit target where none of
+-- them does
 abbrev pub by_choice : Present → Bool → Bool → Target → Found → Target × Cause
 by_choice present.Allow was on implicit found = (target.Allow, cause_for was)
 by_choice present.Block was on implicit found = (target.Block, cause_for was)
@@ -81,12 +91,15 @@ by_choice present.Keep was on implicit found = kept on
 by_choice present.Apply was on implicit found = answer_by implicit (decider found)
 
 abbrev pub by_class : Classes → Found → Bool → Bool → Bool → Target × Cause
-by_class classes found controller was on = by_choice (choice_for classes controller was) was on classes.implicit found
+by_class classes found controller was on =
+    by_choice (choice_for classes controller was) was on classes.implicit found
 
 -- a malformed device is blocked
 abbrev pub verdict_of : Judging → List DeviceRecord → Judged → Bool → Bool → Bool → Target × Cause
-verdict_of p records (judged.Malformed kind place) controller was on = (target.Block, cause.Malformed kind place)
-verdict_of p records (judged.Good dev) controller was on = by_class p.classes (found_for p records dev) controller was on
+verdict_of p records (judged.Malformed kind place) controller was on =
+    (target.Block, cause.Malformed kind place)
+verdict_of p records (judged.Good dev) controller was on =
+    by_class p.classes (found_for p records dev) controller was on
 
 -- the rules are asked
 abbrev pub is_apply : Present → Bool
@@ -105,7 +118,8 @@ rules_if asked rules found dev moment = if asked then rules_judged dev moment fo
 
 -- and their random conditions have taken their words
 abbrev pub stream_if : Bool → Stream → Found → DeviceRecord → Stream
-stream_if asked stream found dev = if asked then behind (words_taken dev (reached found)) stream else stream
+stream_if asked stream found dev =
+    if asked then behind (words_taken dev (reached found)) stream else stream
 
 -- how many words a verdict takes
 abbrev pub words_if : Bool → Found → DeviceRecord → ℕ
@@ -113,12 +127,14 @@ words_if asked found dev = if asked then words_taken dev (reached found) else 0
 
 abbrev pub words_needed : Judging → List DeviceRecord → Judged → Bool → Bool → ℕ
 words_needed p records (judged.Malformed kind place) controller was = 0
-words_needed p records (judged.Good dev) controller was = words_if (asks p.classes controller was) (found_for p records dev) dev
+words_needed p records (judged.Good dev) controller was =
+    words_if (asks p.classes controller was) (found_for p records dev) dev
 
 abbrev pub later_of : Judging → List DeviceRecord → Judged → Bool → Bool → Judging
 later_of p records (judged.Malformed kind place) controller was = p
 later_of p records (judged.Good dev) controller was = record p {
-  rules = rules_if (asks p.classes controller was) p.rules (found_for p records dev) dev p.ctx.moment;
+  rules =
+      rules_if (asks p.classes controller was) p.rules (found_for p records dev) dev p.ctx.moment;
   stream = stream_if (asks p.classes controller was) p.stream (found_for p records dev) dev;
 }
 
@@ -128,7 +144,8 @@ judgements_if asked found dev moment = if asked then judgement_found dev moment 
 -- the judgement by rules that a verdict is, where the rules are asked
 abbrev pub judgements_of : Judging → List DeviceRecord → Judged → Bool → Bool → List Judgement
 judgements_of p records (judged.Malformed kind place) controller was = []
-judgements_of p records (judged.Good dev) controller was = judgements_if (asks p.classes controller was) (found_for p records dev) dev p.ctx.moment
+judgements_of p records (judged.Good dev) controller was =
+    judgements_if (asks p.classes controller was) (found_for p records dev) dev p.ctx.moment
 
 abbrev pub policy_answer : Answers Judging
 policy_answer p dev controller was on ss = verdict_of p (allowed_records ss) dev controller was on

@@ -10,7 +10,8 @@ use Rattle.ug_acl.specs.Acls.{Addition, is_allowed}
 
 -- whether one of these privileges is held
 abbrev pub is_granted : List Addition → Named → List (Section × Privilege) → Bool
-is_granted access who needed = list_any (λ (p : Section × Privilege). is_allowed access who p.0 p.1) needed
+is_granted access who needed =
+    list_any (λ (p : Section × Privilege). is_allowed access who p.0 p.1) needed
 
 -- a refusal names the first of them
 abbrev pub first_denied : List (Section × Privilege) → Option Refusal

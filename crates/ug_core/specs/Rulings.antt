@@ -1,4 +1,5 @@
--- Verdicts one after another, each with what it was given by, and the policy between them, which orders change.
+-- Verdicts one after another, each with what it was given by, and the policy between them, which
+-- orders change.
 use Rattle.std.specs.Prelude.{ℕ, ◌+◌, Bool, is_none, List, [], ◌∷◌, ◌++◌}
 use Rattle.ug_types.specs.Names.{parent_of}
 use Rattle.ug_types.specs.declared.record.Judged.{Judged}
@@ -14,8 +15,8 @@ use Rattle.ug_core.specs.Changes.{CanChange, changed_by}
 use Rattle.ug_core.specs.InForce.{Decision}
 use Rattle.ug_core.specs.declared.changes.Change.{Change}
 
--- What a verdict was given by: the device, its record, whether it counted as present and the value that its probe gave; the moment;
--- and the standings that were left, each with its marks.
+-- What a verdict was given by: the device, its record, whether it counted as present and the value
+-- that its probe gave; the moment; and the standings that were left, each with its marks.
 pub record Ruling : Type 0 where
   pub number : ℕ
   pub name : List ℕ
@@ -31,16 +32,29 @@ pub record Ruling : Type 0 where
 abbrev pub at_moment : Moment → Judging → Judging
 at_moment moment p = record p { ctx = context_at p.clock moment }
 
--- what the policy says at the ruling's moment, beside the records of the allowed devices of its standings
+-- what the policy says at the ruling's moment, beside the records of the allowed devices of its
+-- standings
 abbrev pub ruling_answer : Judging → Ruling → Target × Cause
-ruling_answer p r = verdict_of (at_moment r.moment p) (allowed_records r.standings) r.judged (is_none (parent_of r.name)) r.present r.on
+ruling_answer p r =
+    verdict_of (at_moment r.moment p) (allowed_records r.standings) r.judged
+    (is_none (parent_of r.name)) r.present r.on
 
 -- and what becomes of it: histories have the moment, and words are taken
 abbrev pub after_ruling : Judging → Ruling → Judging
-after_ruling p r = later_of (at_moment r.moment p) (allowed_records r.standings) r.judged (is_none (parent_of r.name)) r.present
+after_ruling p r =
+    later_of (at_moment r.moment p) (allowed_records r.standings) r.judged
+    (is_none (parent_of r.name)) r.present
 
 abbrev pub decision_by : Judging → Ruling → Decision
-decision_by p r = record { number = r.number; name = r.name; held = r.held; verdict = (ruling_answer p r).0; cause = (ruling_answer p r).1 }
+decision_by p r =
+    record {
+      number = r.number;
+      name = r.name;
+      held = r.held;
+      verdict = (ruling_answer p r).0;
+      cause =
+          (ruling_answer p r).1;
+    }
 
 -- ---- rulings and changes, one after another
 
@@ -53,7 +67,8 @@ after_steps p [] = p
 after_steps p (Ruled r ∷ steps) = after_steps (after_ruling p r) steps
 after_steps p (Changed change ∷ steps) = after_steps (changed_by change p) steps
 
--- what the steps are told as: a ruling by its decision, by the policy as the steps before it left it
+-- what the steps are told as: a ruling by its decision, by the policy as the steps before it left
+-- it
 pub data Told : Type 0 where
   Decided : Decision → Told
   Was_changed : Change → Told
@@ -78,11 +93,17 @@ changed_alone p (Changed change ∷ steps) = changed_alone (changed_by change p)
 -- the words that rulings took
 abbrev pub words_for : Judging → List PolicyStep → ℕ
 words_for p [] = 0
-words_for p (Ruled r ∷ steps) = words_needed (at_moment r.moment p) (allowed_records r.standings) r.judged (is_none (parent_of r.name)) r.present + words_for (after_ruling p r) steps
+words_for p (Ruled r ∷ steps) =
+    words_needed (at_moment r.moment p) (allowed_records r.standings) r.judged
+    (is_none (parent_of r.name)) r.present
+    + words_for (after_ruling p r) steps
 words_for p (Changed change ∷ steps) = words_for (changed_by change p) steps
 
 -- the judgements by rules among them
 abbrev pub judgements_for : Judging → List PolicyStep → List Judgement
 judgements_for p [] = []
-judgements_for p (Ruled r ∷ steps) = judgements_of (at_moment r.moment p) (allowed_records r.standings) r.judged (is_none (parent_of r.name)) r.present ++ judgements_for (after_ruling p r) steps
+judgements_for p (Ruled r ∷ steps) =
+    judgements_of (at_moment r.moment p) (allowed_records r.standings) r.judged
+    (is_none (parent_of r.name)) r.present
+    ++ judgements_for (after_ruling p r) steps
 judgements_for p (Changed change ∷ steps) = judgements_for (changed_by change p) steps

@@ -27,7 +27,8 @@ use Rattle.ug_core.specs.declared.classes.Classes.{Classes}
 use Rattle.ug_core.specs.declared.start_fault.StartFault.{StartFault}
 use Rattle.ug_core.specs.declared.start_fault.StartFault.TheVariants as fault
 
--- what a start tells of a file that wasn't read, of a text that isn't rules, and of rules that have no text
+-- what a start tells of a file that wasn't read, of a text that isn't rules, and of rules that have
+-- no text
 
 abbrev pub fault_of_recovery : RecoverFault → StartFault
 fault_of_recovery (recover.Failed count) = fault.Disk count
@@ -47,7 +48,8 @@ abbrev pub permanent_entries : ℕ → List Rule → List RuleEntry
 permanent_entries id [] = []
 permanent_entries id (rule ∷ rules) = new_entry id rule false ∷ permanent_entries (id + 1) rules
 
--- the list has just these rules in this order, with ids from 1 on, and nothing was judged by them yet
+-- the list has just these rules in this order, with ids from 1 on, and nothing was judged by them
+-- yet
 pub record HoldsJust (rules : List Rule) (list : Rules) : Type 0 where
   pub entries : list.entries ≡ permanent_entries 1 rules
   pub next : list.next ≡ length rules + 1
@@ -56,10 +58,12 @@ pub record HoldsJust (rules : List Rule) (list : Rules) : Type 0 where
 -- ---- rules that are read right into a list, which takes 65,536: None where there are more
 
 abbrev pub one_listed : Rule → Option (List Rule) → Option (List Rule)
-one_listed rule (Some rules) = if nat_lt (length rules) 65536 then Some (rules ++ rule ∷ []) else None
+one_listed rule (Some rules) =
+    if nat_lt (length rules) 65536 then Some (rules ++ rule ∷ []) else None
 one_listed rule None = None
 
-abbrev pub listed : Option (List Rule) → Result (Option Rule) TextFault → Result (Option (List Rule)) TextFault
+abbrev pub listed : Option (List Rule) → Result (Option Rule) TextFault
+    → Result (Option (List Rule)) TextFault
 listed rules (Ok (Some rule)) = Ok (one_listed rule rules)
 listed rules (Ok None) = Ok rules
 listed rules (Err bad) = Err bad
@@ -70,7 +74,8 @@ listing_line number rules line = listed rules (rule_on_line number line)
 
 -- ---- what a text gives
 
--- the text's rules are no more than a list takes, their canonical text fits into a rule file, and the list holds just them
+-- the text's rules are no more than a list takes, their canonical text fits into a rule file, and
+-- the list holds just them
 pub record HasRulesOf (text : List ℕ) (list : Rules) : Type 0 where
   pub rules : List Rule
   pub reads : file_read text ≡ Ok rules
@@ -89,12 +94,14 @@ pub record ListsText (text : List ℕ) (list : Rules) : Type 0 where
 abbrev pub IsListOf : List ℕ → Result Rules StartFault → Type 0
 IsListOf text (Ok list) = ListsText text list
 IsListOf text (Err (fault.BadRules bad)) = file_read text ≡ Err bad
-IsListOf text (Err fault.TooMany) = (rules : List Rule) × (file_read text ≡ Ok rules) × (65536 < length rules)
+IsListOf text (Err fault.TooMany) =
+    (rules : List Rule) × (file_read text ≡ Ok rules) × (65536 < length rules)
 IsListOf text (Err fault.TooLong) = ⊥
 IsListOf text (Err fault.Memory) = Unit {0}
 IsListOf text (Err (fault.Disk count)) = ⊥
 
--- the text's rules are no more than a list takes, but their canonical text doesn't fit into a rule file
+-- the text's rules are no more than a list takes, but their canonical text doesn't fit into a rule
+-- file
 pub record IsTooLong (text : List ℕ) : Type 0 where
   pub rules : List Rule
   pub reads : file_read text ≡ Ok rules
@@ -105,7 +112,8 @@ pub record IsTooLong (text : List ℕ) : Type 0 where
 abbrev pub StartsWith : List ℕ → Result Rules StartFault → Type 0
 StartsWith text (Ok list) = HasRulesOf text list
 StartsWith text (Err (fault.BadRules bad)) = file_read text ≡ Err bad
-StartsWith text (Err fault.TooMany) = (rules : List Rule) × (file_read text ≡ Ok rules) × (65536 < length rules)
+StartsWith text (Err fault.TooMany) =
+    (rules : List Rule) × (file_read text ≡ Ok rules) × (65536 < length rules)
 StartsWith text (Err fault.TooLong) = IsTooLong text
 StartsWith text (Err fault.Memory) = Unit {0}
 StartsWith text (Err (fault.Disk count)) = ⊥
@@ -116,9 +124,12 @@ StartsAfter (Ok text) (Ok started) = (started.0 ≡ false) × StartsWith text (O
 StartsAfter (Ok text) (Err e) = StartsWith text (Err e)
 StartsAfter (Err e) result = result ≡ Err (fault_of_recovery e)
 
--- The rule file is read once, and nothing else is asked of the disk. What was read is no choice: the one call's answer fixes it. Where
--- the disk is told, that is the rule file's text, and the disk is as it was; a failure is counted.
-pub record Loads {S : Type 0} (keeps : S → (call : DiskCall) → DiskTold call → S → Type 0) (told : S → Option Disk) (faults : S → ℕ) (s : S) (result : Result (Bool × Rules) StartFault) (t : S) : Type 0 where
+-- The rule file is read once, and nothing else is asked of the disk. What was read is no choice:
+-- the one call's answer fixes it. Where the disk is told, that is the rule file's text, and the
+-- disk is as it was; a failure is counted.
+pub record Loads {S : Type 0} (keeps : S → (call : DiskCall) → DiskTold call → S → Type 0)
+    (told : S → Option Disk) (faults : S → ℕ) (s : S) (result : Result (Bool × Rules) StartFault)
+    (t : S) : Type 0 where
   pub read : Result (List ℕ) RecoverFault
   pub runs : RunsDisk keeps s recovering read t
   pub law : Recovers told s read t
@@ -146,19 +157,24 @@ policy_at outset list = record {
 }
 
 -- a new daemon with what was loaded, and with that access
-pub record StartsWithRules (outset : Outset) (loaded : Bool × Rules) (d : DaemonState) : Type 0 where
-  pub started : IsStarted (policy_at outset loaded.1) outset.hub outset.first d
-  pub access : d.access ≡ outset.access
-  pub pending : d.pending ≡ loaded.0
+pub record StartsWithRules (outset : Outset) (loaded : Bool × Rules) (d : DaemonState) : Type 0
+  where
+    pub started : IsStarted (policy_at outset loaded.1) outset.hub outset.first d
+    pub access : d.access ≡ outset.access
+    pub pending : d.pending ≡ loaded.0
 
 -- behind a loading that was refused, the start is refused for the same
-abbrev pub StartsFrom : Outset → Result (Bool × Rules) StartFault → Result DaemonState StartFault → Type 0
+abbrev pub StartsFrom : Outset → Result (Bool × Rules) StartFault → Result DaemonState StartFault
+    → Type 0
 StartsFrom outset (Ok loaded) (Ok d) = StartsWithRules outset loaded d
 StartsFrom outset (Ok loaded) (Err e) = e ≡ fault.Memory
 StartsFrom outset (Err e) result = result ≡ Err e
 
--- The rules are loaded from the disk, and the daemon is new, with just these rules. Only want of memory refuses it behind that.
-pub record Starts {S : Type 0} (keeps : S → (call : DiskCall) → DiskTold call → S → Type 0) (told : S → Option Disk) (faults : S → ℕ) (outset : Outset) (s : S) (result : Result DaemonState StartFault) (t : S) : Type 0 where
+-- The rules are loaded from the disk, and the daemon is new, with just these rules. Only want of
+-- memory refuses it behind that.
+pub record Starts {S : Type 0} (keeps : S → (call : DiskCall) → DiskTold call → S → Type 0)
+    (told : S → Option Disk) (faults : S → ℕ) (outset : Outset) (s : S)
+    (result : Result DaemonState StartFault) (t : S) : Type 0 where
   pub loaded : Result (Bool × Rules) StartFault
   pub loads : Loads keeps told faults s loaded t
   pub starts : StartsFrom outset loaded result

@@ -30,7 +30,9 @@ if_fits text false = Ended stored.TooLong
 
 -- that of the rules once the change is done
 abbrev pub if_saved : Judging → Change → Bool → DiskProg Stored
-if_saved p change true = if_fits (permanent_text (changed_by change p).rules) (nat_le (length (permanent_text (changed_by change p).rules)) rules_limit)
+if_saved p change true =
+    if_fits (permanent_text (changed_by change p).rules)
+    (nat_le (length (permanent_text (changed_by change p).rules)) rules_limit)
 if_saved p change false = Ended stored.NotNeeded
 
 -- memory is taken for all that is to be in force behind the save
@@ -83,7 +85,9 @@ noted_store became d = noted_save became (record d { pending = pending_stored be
 
 -- what was changed is noted
 abbrev pub with_change : Change → DaemonState → DaemonState
-with_change change d = noting (change_entry change d.sweep.judge.next) (record d { sweep = record d.sweep { judge = changed_by change d.sweep.judge } })
+with_change change d =
+    noting (change_entry change d.sweep.judge.next)
+    (record d { sweep = record d.sweep { judge = changed_by change d.sweep.judge } })
 
 abbrev pub with_changes : Option Change → DaemonState → DaemonState
 with_changes None d = d

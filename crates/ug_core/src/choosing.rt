@@ -347,7 +347,8 @@ impl<'z, R: Rng> Daemon<'z, R> {
         permanent: bool,
         judged: &Judged,
     ) -> Choice
-        requires { IsSomeAnd (numbered number (daemon_of self.now).sweep.standings) (λ s. s.judged ≡ judged.now) }
+        requires { IsSomeAnd (numbered number (daemon_of self.now).sweep.standings)
+            (λ s. s.judged ≡ judged.now) }
         ensures runs { Runs Y.gives sysfs.old
             (by_standing (daemon_of self.now).sweep.judge number verdict permanent
             (numbered number (daemon_of self.now).sweep.standings)) result sysfs.new }
@@ -382,7 +383,8 @@ impl<'z, R: Rng> Daemon<'z, R> {
         judged: &Judged,
     ) -> Choice
         requires { IsSome (numbered number (daemon_of self.now).sweep.standings) }
-        ensures chosen { IsChosenForGood (daemon_of self.now).sweep.judge number verdict on judged.now result }
+        ensures chosen { IsChosenForGood (daemon_of self.now).sweep.judge number verdict on
+            judged.now result }
         ensures can_do { CanDo (daemon_of self.now) result.deed }
         ensures lines { HasLines result.deed }
         ensures can_make { CanMake (daemon_of self.now).sweep.judge.rules result.change }

@@ -17,11 +17,20 @@ ghost use Rattle.ug_core.specs.Verdicts.{IsLater, IsVerdict};
 /// A verdict is the one that its cases say. What judges keeps the rules as they were given; and the histories stand for the
 /// judgements before with this one.
 pub fn verdict_law()
-    ensures cases { (p : Judging) (records : List DeviceRecord) (dev : Judged) (controller present on : Bool) (verdict : Target) (cause : Cause) → (verdict_of p records dev controller present on ≡ (verdict, cause)) ↔ IsVerdict p records dev controller present on verdict cause }
-    ensures given { (p : Judging) (records : List DeviceRecord) (dev : Judged) (controller present : Bool) → as_given (later_of p records dev controller present).rules ≡ as_given p.rules }
+    ensures cases { (p : Judging) (records : List DeviceRecord) (dev : Judged)
+        (controller present on : Bool) (verdict : Target) (cause : Cause)
+        → (verdict_of p records dev controller present on ≡ (verdict, cause))
+        ↔ IsVerdict p records dev controller present on verdict cause }
+    ensures given { (p : Judging) (records : List DeviceRecord) (dev : Judged)
+        (controller present : Bool)
+        → as_given (later_of p records dev controller present).rules ≡ as_given p.rules }
     ensures later { (policy p : Judging) (words : ℕ) (judgements : List Judgement) (records : List DeviceRecord) (dev : Judged) (controller present : Bool) → IsLater policy words judgements p
         → IsLater policy (words + words_needed p records dev controller present) (judgements ++ judgements_of p records dev controller present) (later_of p records dev controller present) }
-    ensures history { (p : Judging) (records : List DeviceRecord) (dev : Judged) (controller present : Bool) (judgements : List Judgement) → IsNumbered p.rules p.next → StandsFor p.rules p.next judgements → StandsFor (later_of p records dev controller present).rules p.next (judgements ++ judgements_of p records dev controller present) }
+    ensures history { (p : Judging) (records : List DeviceRecord) (dev : Judged)
+        (controller present : Bool) (judgements : List Judgement)
+        → IsNumbered p.rules p.next → StandsFor p.rules p.next judgements
+        → StandsFor (later_of p records dev controller present).rules p.next
+        (judgements ++ judgements_of p records dev controller present) }
 {}
 
 /// What holds of any run of the daemon from its start. And what is left of a policy after rulings and changes has taken just the rulings'

@@ -62,10 +62,18 @@ fn judge<R: Rng>(
     class: Class,
     table: &Table,
 ) -> (Target, Cause)
-    ensures answer { result ≡ by_class classes (find_decider device.now ctx.now (allowed_records table.now.standings) rules.old.entries (R.stream rng.old)) class.controller class.present class.on }
-    ensures rules { rules.new.entries ≡ rules_if (asks classes class.controller class.present) rules.old.entries (find_decider device.now ctx.now (allowed_records table.now.standings) rules.old.entries (R.stream rng.old)) device.now ctx.now.moment }
+    ensures answer { result
+        ≡ by_class classes (find_decider device.now ctx.now (allowed_records table.now.standings)
+        rules.old.entries (R.stream rng.old)) class.controller class.present class.on }
+    ensures rules { rules.new.entries
+        ≡ rules_if (asks classes class.controller class.present) rules.old.entries (find_decider
+        device.now ctx.now (allowed_records table.now.standings) rules.old.entries
+        (R.stream rng.old)) device.now ctx.now.moment }
     ensures next { rules.new.next ≡ rules.old.next }
-    ensures words { R.stream rng.new ≡ stream_if (asks classes class.controller class.present) (R.stream rng.old) (find_decider device.now ctx.now (allowed_records table.now.standings) rules.old.entries (R.stream rng.old)) device.now }
+    ensures words { R.stream rng.new
+        ≡ stream_if (asks classes class.controller class.present) (R.stream rng.old) (find_decider
+        device.now ctx.now (allowed_records table.now.standings) rules.old.entries
+        (R.stream rng.old)) device.now }
 {
     match classes.choice_for(class) {
         Present::Allow => (Target::Allow, cause_for(class.present)),
@@ -84,7 +92,17 @@ impl<'z, R: Rng> Policy<'z, R> {
     pub fn new(classes: Classes, list: RuleList, zone: TimeZone<'z>, rng: R) -> Policy<'z, R>
         requires readable { All ReadsBack (rules_in list.entries) }
         requires saves { IsSaveable list.entries }
-        ensures { judging_of R.stream result ≡ record { classes = classes; rules = list.entries; next = list.next; clock = clock_of zone.entry; ctx = record { moment = record { 0 = 0 }; second = 0 }; stream = R.stream rng } }
+        ensures { judging_of R.stream result
+            ≡ record {
+              classes = classes;
+              rules = list.entries;
+              next = list.next;
+              clock = clock_of
+                  zone.entry;
+              ctx = record { moment = record { 0 = 0 }; second = 0 };
+              stream = R.stream
+                  rng;
+            } }
     {
         Policy {
             classes,
@@ -141,7 +159,8 @@ impl<'z, R: Rng> Policy<'z, R> {
         device: &DeviceRecord,
         verdict: Target,
     ) -> Result<Edit, NoMemory>
-        ensures edit { IfOk result (λ edit. edit ≡ verdict_edit device.now verdict (judging_of R.stream self.now)) }
+        ensures edit { IfOk result
+            (λ edit. edit ≡ verdict_edit device.now verdict (judging_of R.stream self.now)) }
         ensures reads { IfOk result (λ edit. EditReads edit (judging_of R.stream self.now).rules) }
     {
         let with_port = self.classes.with_port;
@@ -171,7 +190,8 @@ impl<'z, R: Rng> Policy<'z, R> {
     pub fn text_after(&self, alloc: Global, change: &Change) -> Result<Option<Text>, RulesTextFault>
         requires can { CanChange change.now (judging_of R.stream self.now).rules }
         requires reads { ChangeReads change.now (judging_of R.stream self.now).rules }
-        ensures text { IfOk result (λ text. text ≡ text_to_save change.now (judging_of R.stream self.now)) }
+        ensures text { IfOk result
+            (λ text. text ≡ text_to_save change.now (judging_of R.stream self.now)) }
         ensures saves { OnOk result (ChangeSaves change.now (judging_of R.stream self.now)) }
         ensures too_long { result ≡ Err RulesTextFault.TooLong
             → (is_saved change.now (judging_of R.stream self.now).rules ≡ true)
@@ -207,8 +227,10 @@ impl<'z, R: Rng> Policy<'z, R> {
 
     /// The text of a rule file with the rules that aren't temporary, which reads as them again.
     pub fn rules_text(&self, alloc: Global) -> Result<Text, NoMemory>
-        ensures text { IfOk result (λ text. text ≡ permanent_text (judging_of R.stream self.now).rules) }
-        ensures reads { IfOk result (λ text. file_read text ≡ Ok (permanent_rules (judging_of R.stream self.now).rules)) }
+        ensures text { IfOk result
+            (λ text. text ≡ permanent_text (judging_of R.stream self.now).rules) }
+        ensures reads { IfOk result
+            (λ text. file_read text ≡ Ok (permanent_rules (judging_of R.stream self.now).rules)) }
     {
         self.rules.text(alloc)
     }
@@ -230,7 +252,9 @@ impl<'z, R: Rng> Policy<'z, R> {
 
     /// The next verdicts are given at that moment.
     pub fn set_moment(&mut self, moment: Moment)
-        ensures { judging_of R.stream self.new ≡ record (judging_of R.stream self.old) { ctx = context_at (judging_of R.stream self.old).clock moment } }
+        ensures { judging_of R.stream self.new
+            ≡ record (judging_of R.stream self.old)
+            { ctx = context_at (judging_of R.stream self.old).clock moment } }
     {
         self.ctx = Context {
             moment,

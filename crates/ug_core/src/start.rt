@@ -95,7 +95,8 @@ impl<'z, R: Rng + Drop> Daemon<'z, R> {
           words = R.stream rng;
           first = first;
         }) disk.old (seen_by (λ d. daemon_of d) result) disk.new }
-        ensures new { IfOk result (λ d. IsLater (daemon_of d).sweep.judge 0 [] (daemon_of d).sweep.judge) }
+        ensures new { IfOk result
+            (λ d. IsLater (daemon_of d).sweep.judge 0 [] (daemon_of d).sweep.judge) }
         ensures saveable { IfOk result (λ d. IsSaveable (daemon_of d).sweep.judge.rules) }
         ensures number { IfOk result (λ d. d.report.event ≡ 0) }
     {

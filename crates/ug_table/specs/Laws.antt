@@ -55,9 +55,9 @@ abbrev pub IsGone : Kernel → ℕ → Type 0
 IsGone k i = (d : Device) × (slice_get k.devices i ≡ Some d) × (d.gone ≡ true)
 
 -- Between the kernels start and now are an opening of that held file by that name, at which the
--- device of that identity was live, and the same moment or a later one, at which it was live and had
--- that value, with no write in between. Where the device was there at the start, it is the value
--- that it had then.
+-- device of that identity was live, and the same moment or a later one, at which it was live and
+-- had that value, with no write in between. Where the device was there at the start, it is the
+-- value that it had then.
 pub record IsProbed (start now : Kernel) (name : List ℕ) (held i : ℕ) (on : Bool) : Type 0 where
   pub first : Kernel
   pub last : Kernel
@@ -193,7 +193,8 @@ pub record AreLeft (before : List Standing) (entries : List Entry) (ss : List St
     pub judged : (number : ℕ) (name : List ℕ) (held : Held) (verdict : Target) (cause : Cause)
         → Has entries (entry.Judged number name held verdict cause)
         → Stands ss number name held verdict cause ⊎ Has entries (entry.Gone number name)
-    pub ended : (s : Standing) (name : List ℕ) → Has ss s → Has entries (entry.Gone s.number name) → ⊥
+    pub ended : (s : Standing) (name : List ℕ) → Has ss s → Has entries (entry.Gone s.number name)
+        → ⊥
     pub done : (control : Control) → IsOnce control → (s : Standing) → Has ss s
         → IsDoneMarked control before entries s
 
