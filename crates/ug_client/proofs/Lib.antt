@@ -4,6 +4,7 @@ pub mod Front
 pub mod NoticeLines
 pub mod OneAnswer
 pub mod Received
+pub mod Missing
 pub mod Shown
 pub mod Skipping
 pub mod WatchCalls

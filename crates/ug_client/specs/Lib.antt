@@ -4,5 +4,6 @@ pub mod Awaiting
 pub mod Calls
 pub mod NoticeLines
 pub mod Notices
+pub mod ReadSoFar
 pub mod Watching
 pub mod WholeBytes

@@ -22,16 +22,31 @@ fn read_reply(alloc: Global, text: &[u8], at: usize) -> Result<Option<(Reply, us
     }
 }
 
+/// The same, where notices stand in front of the bytes from `at` on. Behind it `at` is the place behind all notices that stand whole.
+pub fn read_behind(
+    alloc: Global,
+    text: &[u8],
+    at: &mut usize,
+) -> Result<Option<(Reply, usize)>, ReplyFault>
+    requires within { at.old ≤ length text.now }
+    requires notices { IsBehindNotices text.now (drop at.old text.now) }
+    ensures within { at.new ≤ length text.now }
+    ensures notices { IsBehindNotices text.now (drop at.new text.now) }
+    ensures answers { Answers text.now result }
+{
+    'notices: loop {
+        match front_of(&text[*at..]) {
+            Front::Notice(n) => *at += n,
+            Front::Begun => return Ok(None),
+            Front::Other => return read_reply(alloc, text, *at),
+        }
+    }
+}
+
 /// The reply that stands behind notices, and the place behind it; nothing while it is to come.
 pub fn read_answer(alloc: Global, text: &[u8]) -> Result<Option<(Reply, usize)>, ReplyFault>
     ensures { Answers text.now result }
 {
     let mut at = 0;
-    'notices: loop {
-        match front_of(&text[at..]) {
-            Front::Notice(n) => at += n,
-            Front::Begun => return Ok(None),
-            Front::Other => return read_reply(alloc, text, at),
-        }
-    }
+    read_behind(alloc, text, &mut at)
 }

@@ -10,6 +10,7 @@ mod notice;
 mod notice_line;
 mod receive;
 mod send;
+mod so_far;
 mod stream;
 mod write;
 

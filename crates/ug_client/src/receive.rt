@@ -4,7 +4,7 @@ ghost use Rattle.std.specs.Io.KnownBytes.{Keeps};
 ghost use Rattle.ug_types.specs.Ends.{Rose};
 ghost use Rattle.ug_client.specs.Awaiting.{Awaits};
 
-use crate::answer::read_answer;
+use crate::so_far::{SoFar, read_on};
 use std::alloc::Global;
 use ug_proto::{Reply, ReplyFault};
 use ug_types::{Link, Taken};
@@ -32,8 +32,10 @@ pub fn await_reply<L: Link>(alloc: Global, link: &mut L, kept: &mut Vec<u8>) -> 
     ensures cause { result ≡ Awaited.LinkFailed → Rose (L.faults link.old) (L.faults link.new) }
 {
     let mut piece = [0u8; 65536];
+    let mut so_far = SoFar { at: 0, missing: 0 };
     'pieces: loop {
-        let room = piece.len().min(ANSWER_LIMIT - kept.len());
+        let from = kept.len();
+        let room = piece.len().min(ANSWER_LIMIT - from);
         if room == 0 {
             return Awaited::NoReply;
         }
@@ -42,7 +44,7 @@ pub fn await_reply<L: Link>(alloc: Global, link: &mut L, kept: &mut Vec<u8>) -> 
                 if kept.extend_from_slice(&piece[..n]).is_err() {
                     return Awaited::Memory;
                 }
-                match read_answer(alloc, kept) {
+                match read_on(alloc, kept, from, &mut so_far) {
                     Ok(Some((reply, place))) => return Awaited::Replied(reply, place),
                     Ok(None) => {}
                     Err(ReplyFault::BadReply) => return Awaited::NoReply,

@@ -1,5 +1,6 @@
 use Rattle.std.proofs.Common.{List, ℕ, ◌≡◌, ◌+◌, ◌≤◌, ◌∙◌, refl, [], ◌++◌, length, take, Option, None, Ok, sym, ap, subst, arith, length-append, length-take}
 use Rattle.std.proofs.lemmas.List.{append-nil, take-append-le}
+use Rattle.std.proofs.Math.Seq.{take-append_seam}
 use Rattle.std.proofs.KnownBytes.{Consumes-nil, Consumes-trans, Consumes-kept, Keeps-refl, Keeps-trans}
 use Rattle.std.specs.Io.KnownBytes.{Consumes}
 use Rattle.ug_proto.specs.declared.reply.Reply.{Reply}
@@ -7,8 +8,10 @@ use Rattle.ug_client.specs.Answers.{Answers, IsAwaiting}
 use Rattle.ug_types.specs.declared.link_call.Receipt.TheVariants as receipt
 use Rattle.ug_client.specs.Awaiting.{Ended, answer_limit}
 use Rattle.ug_client.specs.Calls.{GoesOn}
+use Rattle.ug_client.specs.ReadSoFar.{IsReadSoFar}
 use Rattle.ug_client.proofs.Calls.{no_piece, none_yet, one_piece}
 use Rattle.ug_client.proofs.Ending.{empty_awaits}
+use Rattle.ug_client.proofs.Missing.{nothing_read}
 use Rattle.ug_client.proofs.Received.{came_never, came_replied, ends_awaiting, received_on, taken_on}
 use Rattle.ug_client.proofs.Watched.{grown}
 use Rattle.ug_client.specs.declared.receive.Awaited.TheVariants as awaited
@@ -23,6 +26,7 @@ pieces-init g c =
       source = subst (λ (b : List ℕ). Consumes left left b) (sym c.requires) (Consumes-nil left);
       sent = Keeps-refl (g.L.Link.sent c.args.link.now);
       awaiting = subst IsAwaiting (sym c.requires) empty_awaits;
+      so_far = subst (λ (b : List ℕ). IsReadSoFar b (record { at = 0; missing = 0 })) (sym c.requires) (nothing_read (record { at = 0; missing = 0 }) refl refl);
       short = omega (arith, ap (λ (b : List ℕ). length b) c.requires);
       counted = omega arith;
     }
@@ -89,7 +93,25 @@ returns-in-Ok-Some-clause-awaits g c =
     ends_awaiting (g.L.Link.told c.args.link.now) (g.L.Link.told c.pieces.link) (g.L.Link.told c.receive.new.self) (g.L.Link.left c.args.link.now) (g.L.Link.left c.pieces.link) (g.L.Link.left c.receive.new.self)
     c.pieces.kept.items i.receiving i.source i.awaiting piece short within c.in-Bytes.ensures.told c.in-Bytes.ensures.bytes
     c.extend_from_slice.new.self.items (awaited.Replied c.in-Ok-Some.reply c.in-Ok-Some.place)
-    (came_replied (c.pieces.kept.items ++ piece) c.extend_from_slice.new.self.items c.deref.result.now (g.L.Link.left c.receive.new.self) c.in-Ok-Some.field-0 c.in-Ok-Some.reply c.in-Ok-Some.place e c.deref.ensures.value c.in-Ok-Some.field-0-is c.in-Ok-Some.ensures)
+    (came_replied (c.pieces.kept.items ++ piece) c.extend_from_slice.new.self.items c.deref.result.now (g.L.Link.left c.receive.new.self) c.in-Ok-Some.field-0 c.in-Ok-Some.reply c.in-Ok-Some.place e c.deref.ensures.value c.in-Ok-Some.field-0-is c.in-Ok-Some.ensures.answers)
+
+pub read_on-requires-clause-within : goal.read_on-requires-clause-within
+read_on-requires-clause-within g c =
+    let piece = take c.in-Bytes.n c.receive.new.into in
+    let e : c.extend_from_slice.new.self.items ≡ c.pieces.kept.items ++ piece =
+    grown c.extend_from_slice.result c.extend_from_slice.new.self.items c.pieces.kept.items _ c.extend_from_slice.ensures.items c.if-is_err.ensures.value
+    ∙ ap (λ (b : List ℕ). c.pieces.kept.items ++ b) (take-append-le c.in-Bytes.n c.receive.new.into _ (omega (arith, c.in-Bytes.ensures.size))) in
+    omega (arith, ap (λ (b : List ℕ). length b) (c.deref.ensures.value ∙ e), length-append c.pieces.kept.items piece)
+
+pub read_on-requires-clause-so_far : goal.read_on-requires-clause-so_far
+read_on-requires-clause-so_far g c =
+    let piece = take c.in-Bytes.n c.receive.new.into in
+    let e : c.extend_from_slice.new.self.items ≡ c.pieces.kept.items ++ piece =
+    grown c.extend_from_slice.result c.extend_from_slice.new.self.items c.pieces.kept.items _ c.extend_from_slice.ensures.items c.if-is_err.ensures.value
+    ∙ ap (λ (b : List ℕ). c.pieces.kept.items ++ b) (take-append-le c.in-Bytes.n c.receive.new.into _ (omega (arith, c.in-Bytes.ensures.size))) in
+    let from : c.len-from.result ≡ length c.pieces.kept.items = omega (arith, c.len-from.ensures) in
+    let front : take c.len-from.result c.deref.result.now ≡ c.pieces.kept.items = ap (λ (n : ℕ). take n c.deref.result.now) from ∙ (ap (take (length c.pieces.kept.items)) (c.deref.ensures.value ∙ e) ∙ take-append_seam c.pieces.kept.items piece) in
+    subst (λ (b : List ℕ). IsReadSoFar b c.pieces.so_far) (sym front) c.pieces.invariant.so_far
 
 pub pieces-preserved : goal.pieces-preserved
 pieces-preserved g c =
@@ -102,12 +124,13 @@ pieces-preserved g c =
     ∙ ap (λ (b : List ℕ). c.pieces.kept.items ++ b) (take-append-le c.in-Bytes.n c.receive.new.into _ (omega (arith, c.in-Bytes.ensures.size))) in
     let told0 = g.L.Link.told c.args.link.now in
     let left0 = g.L.Link.left c.args.link.now in
-    let answered : Answers c.deref.result.now (Ok None) = subst (λ (o : Option (Reply × ℕ)). Answers c.deref.result.now (Ok o)) c.in-Ok-None.field-0-is c.in-Ok-None.ensures in
+    let answered : Answers c.deref.result.now (Ok None) = subst (λ (o : Option (Reply × ℕ)). Answers c.deref.result.now (Ok o)) c.in-Ok-None.field-0-is c.in-Ok-None.ensures.answers in
     record {
       receiving = subst (λ (b : List ℕ). GoesOn IsAwaiting 65536 [] told0 (g.L.Link.told c.receive.new.self) b) (sym e) (received_on (g.L.Link.told c.args.link.now) (g.L.Link.told c.pieces.link) (g.L.Link.told c.receive.new.self) (g.L.Link.left c.args.link.now) (g.L.Link.left c.pieces.link) (g.L.Link.left c.receive.new.self) c.pieces.kept.items i.receiving i.source i.awaiting piece short within c.in-Bytes.ensures.told c.in-Bytes.ensures.bytes);
       source = subst (λ (b : List ℕ). Consumes left0 (g.L.Link.left c.receive.new.self) b) (sym e) (taken_on (g.L.Link.told c.args.link.now) (g.L.Link.told c.pieces.link) (g.L.Link.told c.receive.new.self) (g.L.Link.left c.args.link.now) (g.L.Link.left c.pieces.link) (g.L.Link.left c.receive.new.self) c.pieces.kept.items i.receiving i.source i.awaiting piece short within c.in-Bytes.ensures.told c.in-Bytes.ensures.bytes);
       sent = Keeps-trans (g.L.Link.sent c.args.link.now) (g.L.Link.sent c.pieces.link) (g.L.Link.sent c.receive.new.self) i.sent c.in-Bytes.ensures.sent;
       awaiting = subst IsAwaiting c.deref.ensures.value answered;
+      so_far = subst (λ (b : List ℕ). IsReadSoFar b c.read_on.new.so_far) c.deref.ensures.value (c.in-Ok-None.ensures.so_far (ap (λ (o : Option (Reply × ℕ)). Ok o) c.in-Ok-None.field-0-is));
       short = omega (arith, ap (λ (b : List ℕ). length b) e, length-append c.pieces.kept.items piece, short);
       counted = omega (arith, i.counted, c.in-Bytes.ensures.counted);
     }
@@ -124,7 +147,7 @@ returns-in-Err-BadReply-clause-awaits g c =
     ends_awaiting (g.L.Link.told c.args.link.now) (g.L.Link.told c.pieces.link) (g.L.Link.told c.receive.new.self) (g.L.Link.left c.args.link.now) (g.L.Link.left c.pieces.link) (g.L.Link.left c.receive.new.self)
     c.pieces.kept.items i.receiving i.source i.awaiting piece short within c.in-Bytes.ensures.told c.in-Bytes.ensures.bytes
     c.extend_from_slice.new.self.items awaited.NoReply
-    (came_never (c.pieces.kept.items ++ piece) c.extend_from_slice.new.self.items c.deref.result.now (g.L.Link.left c.receive.new.self) c.in-Err-BadReply.field-0 e c.deref.ensures.value c.in-Err-BadReply.field-0-is c.in-Err-BadReply.ensures)
+    (came_never (c.pieces.kept.items ++ piece) c.extend_from_slice.new.self.items c.deref.result.now (g.L.Link.left c.receive.new.self) c.in-Err-BadReply.field-0 e c.deref.ensures.value c.in-Err-BadReply.field-0-is c.in-Err-BadReply.ensures.answers)
 
 pub returns-in-Err-Memory-clause-awaits : goal.returns-in-Err-Memory-clause-awaits
 returns-in-Err-Memory-clause-awaits g c =

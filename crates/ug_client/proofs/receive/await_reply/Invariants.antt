@@ -3,6 +3,7 @@ use Rattle.std.specs.Io.KnownBytes.{Consumes, Keeps}
 use Rattle.ug_client.specs.Answers.{IsAwaiting}
 use Rattle.ug_client.specs.Awaiting.{answer_limit}
 use Rattle.ug_client.specs.Calls.{GoesOn}
+use Rattle.ug_client.specs.ReadSoFar.{IsReadSoFar}
 use Rattle.ug_client.proofs.receive.await_reply.Given as goal
 
 abbrev pub invariant-pieces : goal.invariant-pieces
@@ -11,6 +12,7 @@ invariant-pieces g l = record {
   source : Consumes (g.L.Link.left l.fn.link) (g.L.Link.left l.link) l.kept.items;
   sent : Keeps (g.L.Link.sent l.fn.link) (g.L.Link.sent l.link);
   awaiting : IsAwaiting l.kept.items;
+  so_far : IsReadSoFar l.kept.items l.so_far;
   short : vec_len l.kept ≤ answer_limit;
   counted : g.L.Link.faults l.fn.link ≤ g.L.Link.faults l.link;
 }

@@ -1,6 +1,6 @@
 use Rattle.std.proofs.Common.{◌≤◌, ◌-◌, length, drop}
 use Rattle.ug_client.specs.Notices.{IsBehindNotices}
-use Rattle.ug_client.proofs.answer.read_answer.Given as goal
+use Rattle.ug_client.proofs.answer.read_behind.Given as goal
 
 abbrev pub invariant-notices : goal.invariant-notices
 invariant-notices l = record {
