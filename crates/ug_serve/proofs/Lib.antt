@@ -2,7 +2,14 @@ pub mod Noted
 pub mod Notifying
 pub mod Ordering
 pub mod Running
+pub mod Dues
+pub mod Others
+pub mod Whose
+pub mod ToldLast
+pub mod AllServed
+pub mod SameAccess
 pub mod Said
+pub mod RunServed
 pub mod Served
 pub mod Refused
 pub mod Replied

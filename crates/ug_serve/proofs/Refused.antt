@@ -41,7 +41,7 @@ use Rattle.ug_serve.specs.Opening.{outset_of, SettingsIn, SettingsOf, Started, w
 use Rattle.ug_serve.specs.Refusals.{settings_read, settings_of_text, refusal_of_grants, refusal_of_file, refusal_of_named, refusal_of_name, refusal_of_files, refusal_of_folder, refusal_of_read, refusal_of_rules_text, first_refusal, refusal_behind, refusal_of_texts, IsStatusFor, IsStatusByTexts}
 use Rattle.ug_serve.specs.declared.access.Access.{Access}
 use Rattle.ug_links.specs.declared.links.Links
-use Rattle.ug_serve.specs.Serving.{Objects, objects, first_world, ServesStarted, Listens_not, Listens, Serves, Bad_words, No_room, Not_started, Served}
+use Rattle.ug_serve.specs.Serving.{Objects, objects, first_world, AtSockets, ServesStarted, Listens_not, Listens, Serves, Bad_words, No_room, Not_started, Served}
 use Rattle.ug_serve.specs.Turns.{TurnEvent, Turned, turns_events, Core, TurnWorld, Turns, ServesTurns}
 use Rattle.ug_serve.proofs.Running.{AreHandled, turns_handled, cuts_turns}
 use Rattle.ug_serve.specs.declared.not_started.NotStarted.{NotStarted}
@@ -368,26 +368,26 @@ module _ {F Y D N W C : Type 0} (reads : F → FileStep → F → Type 0) (sysfs
   serves_disk k s made end.Numbers t n h is = turns_disk s made t n (cuts_turns sysfs disk net wait ticks k s made t h) is
   serves_disk k s made end.WaitFailed t n h is = turns_disk s made h.0 n h.1.2 (ap (λ (x : TurnWorld Y D N W C). disk_told x.core.disk) (sym h.2.same) ∙ is)
 
-  started_disk : (k : ℕ) (c : Started) (s : Objects Y D N W C) (made : List Turned) (status : ℕ) (t : Objects Y D N W C) (n : Disk) → ServesStarted sysfs disk net wait ticks k c s made status t → disk_told t.disk ≡ Some n → (m : Disk) × (disk_told s.disk ≡ Some m)
-  started_disk k c s _ _ _ n (Listens_not steps fault l path makes) is = (n, is)
-  started_disk k c s _ _ _ n (Listens steps l made ended w path makes serves) is = serves_disk k (first_world c l s) made ended w n serves is
+  started_disk : (k : ℕ) (c : Started) (s : Objects Y D N W C) (sockets : AtSockets) (made : List Turned) (status : ℕ) (t : Objects Y D N W C) (n : Disk) → ServesStarted sysfs disk net wait ticks k c s sockets made status t → disk_told t.disk ≡ Some n → (m : Disk) × (disk_told s.disk ≡ Some m)
+  started_disk k c s _ _ _ _ n (Listens_not steps fault l path makes) is = (n, is)
+  started_disk k c s _ _ _ _ n (Listens steps l made ended w path makes serves) is = serves_disk k (first_world c l s) made ended w n serves is
 
   same_path : (p path : List ℕ) → Some p ≡ Some path → p ≡ path
   same_path p path e = cc
 
-  pub status_told : (turns : ℕ) (clock : ℕ → ℕ) (words : Stream) (f : F) (s : Objects Y D N W C) (path : Option (List ℕ)) (journal : List Entry) (made : List Turned) (status : ℕ) (g : F) (t : Objects Y D N W C)
-      → Serves reads sysfs disk net wait ticks turns clock words f s path journal made status g t
+  pub status_told : (turns : ℕ) (clock : ℕ → ℕ) (words : Stream) (f : F) (s : Objects Y D N W C) (path : Option (List ℕ)) (journal : List Entry) (sockets : AtSockets) (made : List Turned) (status : ℕ) (g : F) (t : Objects Y D N W C)
+      → Serves reads sysfs disk net wait ticks turns clock words f s path journal sockets made status g t
       → IsStatusByTexts files_told disk_told path s.disk status g t.disk
-  status_told turns clock words f s _ _ _ _ _ _ Bad_words = λ at tree n e is on. let no : ⊥ = cc in absurd no
-  status_told turns clock words f s _ _ _ _ _ _ (No_room path) = λ at tree n e is on. (n, on, status_for (refusal_of_texts tree n.text at) why.Memory tt)
-  status_told turns clock words f s _ _ _ _ _ _ (Not_started path entries cause journal g d ms opens all notes) =
+  status_told turns clock words f s _ _ _ _ _ _ _ Bad_words = λ at tree n e is on. let no : ⊥ = cc in absurd no
+  status_told turns clock words f s _ _ _ _ _ _ _ (No_room path) = λ at tree n e is on. (n, on, status_for (refusal_of_texts tree n.text at) why.Memory tt)
+  status_told turns clock words f s _ _ _ _ _ _ _ (Not_started path entries cause journal g d ms opens all notes) =
       λ at tree n e is on.
       let told_so = opens_told path clock words f s.disk entries (Err cause) g d tree n opens is on in
       (told_so.0, told_so.1, subst (λ (x : List ℕ). IsStatusFor (refusal_of_texts tree told_so.0.text x) (start_status cause)) (same_path path at e) (status_for (refusal_of_texts tree told_so.0.text path) cause told_so.2))
-  status_told turns clock words f s _ _ _ _ _ _ (Served path entries first c g d ms made status t opens all notes serves) =
+  status_told turns clock words f s _ _ _ _ _ _ _ (Served path entries first c g d ms sockets made status t opens all notes serves) =
       λ at tree n p is on.
       let after = objects s.sysfs d s.links s.waiter s.clock ms in
-      let back = started_disk turns c after made status t n serves on in
+      let back = started_disk turns c after sockets made status t n serves on in
       let told_so = opens_told path clock words f s.disk entries (Ok c) g d tree back.0 opens is back.1 in
       let none = ap (refusal_of_texts tree told_so.0.text) (sym (same_path path at p)) ∙ told_so.2 in
-      (told_so.0, told_so.1, subst (λ (x : Option NotStarted). IsStatusFor x status) (sym none) (not_three status (started_status sysfs disk net wait ticks turns c after made status t serves)))
+      (told_so.0, told_so.1, subst (λ (x : Option NotStarted). IsStatusFor x status) (sym none) (not_three status (started_status sysfs disk net wait ticks turns c after sockets made status t serves)))

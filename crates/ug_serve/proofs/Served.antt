@@ -1,5 +1,5 @@
 -- From a start and its turns to the whole run.
-use Rattle.std.proofs.Common.{◌≡◌, ℕ, List, [], ◌∷◌, ◌++◌, length, Option, Some, None, Result, Ok, Err, inl, inr, refl, sym, ◌∙◌, subst, arith}
+use Rattle.std.proofs.Common.{◌≡◌, ℕ, List, [], ◌∷◌, ◌++◌, length, Option, Some, None, Result, Ok, Err, inl, inr, refl, sym, ◌∙◌, subst, append-nil, arith}
 use Rattle.rand_core.specs.Stream.{Stream}
 use Rattle.ug_types.specs.Elements.{Has}
 use Rattle.ug_types.specs.declared.waiter.Waiter
@@ -15,12 +15,15 @@ use Rattle.ug_serve.specs.Lines.{AreNoted}
 use Rattle.ug_serve.specs.Causes.{start_status, refusal_entries}
 use Rattle.ug_serve.specs.Listening.{listening, listening_status}
 use Rattle.ug_serve.specs.Opening.{Started, Opens}
-use Rattle.ug_links.specs.Talk.{Talks, Path}
+use Rattle.ug_links.specs.declared.step.LinkStep.{LinkStep}
+use Rattle.ug_links.specs.Talk.{Talks, Path, Makes, AreSteps}
 use Rattle.ug_links.proofs.Told.{path_made}
 use Rattle.ug_links.specs.declared.links.Links
-use Rattle.ug_serve.specs.Serving.{Objects, objects, objects_of, server_for, first_world, ServesStarted, Listens_not, Listens, Serves, Bad_words, No_room, Not_started, Served, TellsRefusal, RunsDaemon, turns_status, daemon_statuses}
+use Rattle.ug_serve.specs.Serving.{Objects, objects, objects_of, server_for, first_world, AtSockets, at_sockets, no_sockets, run_calls, ServesStarted, Listens_not, Listens, Serves, Bad_words, No_room, Not_started, Served, TellsRefusal, RunsDaemon, turns_status, daemon_statuses}
 use Rattle.ug_sessions.specs.States.{ServerState}
-use Rattle.ug_serve.specs.Turns.{Turned, turns_entries, core_of, TurnWorld, turn_world, ServesTurns}
+use Rattle.ug_serve.specs.Saying.{AreServed, HaveAccess}
+use Rattle.ug_serve.specs.Telling.{turns_calls}
+use Rattle.ug_serve.specs.Turns.{Turned, turns_events, turns_entries, core_of, TurnWorld, turn_world, ServesTurns}
 use Rattle.ug_serve.specs.declared.listening.NotListening.{NotListening}
 use Rattle.ug_serve.specs.declared.listening.NotListening.TheVariants as unheard
 use Rattle.ug_serve.specs.declared.not_started.NotStarted.{NotStarted}
@@ -29,6 +32,8 @@ use Rattle.ug_serve.specs.declared.turn.TurnEnd.{TurnEnd}
 use Rattle.ug_serve.specs.declared.turn.TurnEnd.TheVariants as end
 use Rattle.ug_serve.proofs.Noted.{both_noted}
 use Rattle.ug_serve.proofs.Running.{serves_noted}
+use Rattle.ug_serve.proofs.RunServed.{makes_both, none_served, run_access, run_made, run_serves}
+use Rattle.ug_serve.proofs.Whose.{only_listens}
 
 -- ---- the statuses
 
@@ -119,12 +124,12 @@ module _ {Y D N W C : Type 0} (sysfs : Sysfs.Ghosts Y)
     (turns : ℕ) (c : Started) (s : Objects Y D N W C) where
   open net use {gives as links}
 
-  abbrev After : List Turned → ℕ → Objects Y D N W C → Type 0
-  After made status t = ServesStarted sysfs disk net wait ticks turns c s made status t
+  abbrev After : AtSockets → List Turned → ℕ → Objects Y D N W C → Type 0
+  After sockets made status t = ServesStarted sysfs disk net wait ticks turns c s sockets made status t
 
-  pub started_status : (made : List Turned) (status : ℕ) (t : Objects Y D N W C) → After made status t → Has served_statuses status
-  started_status _ _ _ (Listens_not steps fault n path makes) = links_status fault (listening_status fault) refl
-  started_status _ _ _ (Listens steps n made ended w path makes serves) = ended_status ended (turns_status ended) refl
+  pub started_status : (sockets : AtSockets) (made : List Turned) (status : ℕ) (t : Objects Y D N W C) → After sockets made status t → Has served_statuses status
+  started_status _ _ _ _ (Listens_not steps fault n path makes) = links_status fault (listening_status fault) refl
+  started_status _ _ _ _ (Listens steps n made ended w path makes serves) = ended_status ended (turns_status ended) refl
 
   all_turns : (u : TurnWorld Y D N W C) (made : List Turned) (ended : TurnEnd) (w : TurnWorld Y D N W C)
       → ServesTurns sysfs disk net wait ticks turns u made ended w → turns_status ended ≡ 0 → length made ≡ turns
@@ -132,81 +137,104 @@ module _ {Y D N W C : Type 0} (sysfs : Sysfs.Ghosts Y)
   all_turns u made end.Numbers w h z = absurd (omega (arith, z))
   all_turns u made end.WaitFailed w h z = absurd (omega (arith, z))
 
-  pub started_all : (made : List Turned) (status : ℕ) (t : Objects Y D N W C) → After made status t → status ≡ 0 → length made ≡ turns
-  started_all _ _ _ (Listens_not steps fault n path makes) z = absurd (listening_not_zero fault z)
-  started_all _ _ _ (Listens steps n made ended w path makes serves) z = all_turns (first_world c n s) made ended w serves z
+  pub started_all : (sockets : AtSockets) (made : List Turned) (status : ℕ) (t : Objects Y D N W C) → After sockets made status t → status ≡ 0 → length made ≡ turns
+  started_all _ _ _ _ (Listens_not steps fault n path makes) z = absurd (listening_not_zero fault z)
+  started_all _ _ _ _ (Listens steps n made ended w path makes serves) z = all_turns (first_world c n s) made ended w serves z
 
-  pub started_noted : (made : List Turned) (status : ℕ) (t : Objects Y D N W C) → After made status t → NotesEntries (turns_entries made) s.members t.members
-  started_noted _ _ _ (Listens_not steps fault n path makes) = (refl, refl)
-  started_noted _ _ _ (Listens steps n made ended w path makes serves) = serves_noted sysfs disk net wait ticks turns (first_world c n s) made ended w serves
+  pub started_noted : (sockets : AtSockets) (made : List Turned) (status : ℕ) (t : Objects Y D N W C) → After sockets made status t → NotesEntries (turns_entries made) s.members t.members
+  started_noted _ _ _ _ (Listens_not steps fault n path makes) = (refl, refl)
+  started_noted _ _ _ _ (Listens steps n made ended w path makes serves) = serves_noted sysfs disk net wait ticks turns (first_world c n s) made ended w serves
+
+  pub started_access : (sockets : AtSockets) (made : List Turned) (status : ℕ) (t : Objects Y D N W C) → After sockets made status t → HaveAccess sockets.access (turns_events made)
+  started_access _ _ _ _ (Listens_not steps fault n path makes) = tt
+  started_access _ _ _ _ (Listens steps n made ended w path makes serves) = run_access sysfs disk net wait ticks turns (first_world c n s) made ended w serves
+
+  pub started_calls : (sockets : AtSockets) (made : List Turned) (status : ℕ) (t : Objects Y D N W C) → After sockets made status t → Makes links s.links (run_calls sockets made) t.links
+  started_calls _ _ _ _ (Listens_not steps fault n path makes) = subst (λ (l : List LinkStep). Makes links s.links l n) (sym (append-nil steps)) makes
+  started_calls _ _ _ _ (Listens steps n made ended w path makes serves) = makes_both links s.links steps (turns_calls made) n w.links makes (run_made sysfs disk net wait ticks turns (first_world c n s) made ended w serves)
+
+  pub started_serves : (sockets : AtSockets) (made : List Turned) (status : ℕ) (t : Objects Y D N W C) → After sockets made status t → AreSteps [] (run_calls sockets made) → AreServed sockets.access sockets.principals (run_calls sockets made) made sockets.server
+  started_serves _ _ _ _ (Listens_not steps fault n path makes) = λ may. none_served c.daemon.access c.principals steps (only_listens c.principals steps (Err fault) path) may
+  started_serves _ _ _ _ (Listens steps n made ended w path makes serves) = λ may. run_serves sysfs disk net wait ticks steps (only_listens c.principals steps (Ok tt) path) (first_world c n s) refl refl turns made ended w may serves
 
   -- the calls of the links fail to listen
   pub serves_not : (result : Result (Unit {0}) NotListening) (fault : NotListening) (status : ℕ) (n : N) → result ≡ Err fault → Talks links s.links (listening c.principals) result n → status ≡ listening_status fault
-      → (made : List Turned) × After made status (record s { links = n })
+      → (sockets : AtSockets) × (made : List Turned) × After sockets made status (record s { links = n })
   serves_not result fault status n is talks same =
       let made = path_made links s.links (listening c.principals) result n talks in
-      ([], subst (λ (k : ℕ). After [] k (record s { links = n })) (sym same) (Listens_not made.0 fault n (subst (λ (r : Result (Unit {0}) NotListening). Path (listening c.principals) made.0 r) is made.1) made.2))
+      (at_sockets c made.0 (server_for c.principals), [], subst (λ (k : ℕ). After (at_sockets c made.0 (server_for c.principals)) [] k (record s { links = n })) (sym same) (Listens_not made.0 fault n (subst (λ (r : Result (Unit {0}) NotListening). Path (listening c.principals) made.0 r) is made.1) made.2))
 
   -- they listen, and turns are made
   pub serves_so : (result : Result (Unit {0}) NotListening) (n : N) (v : ServerState) (made : List Turned) (ended : TurnEnd) (w : TurnWorld Y D N W C) (status : ℕ) → result ≡ Ok tt → Talks links s.links (listening c.principals) result n
       → v.principals ≡ c.principals → v.listeners ≡ [] → v.sessions ≡ []
       → ServesTurns sysfs disk net wait ticks turns (turn_world (core_of c.daemon s.sysfs s.disk s.members) v n s.waiter s.clock) made ended w → status ≡ turns_status ended
-      → (made : List Turned) × After made status (objects_of w)
+      → (sockets : AtSockets) × (made : List Turned) × After sockets made status (objects_of w)
   serves_so result n v made ended w status is talks these untried none serves same =
       let asked = path_made links s.links (listening c.principals) result n talks in
       let first : v ≡ server_for c.principals = λ i. record { principals = these i; listeners = untried i; sessions = none i } in
       let over = subst (λ (x : ServerState). ServesTurns sysfs disk net wait ticks turns (turn_world (core_of c.daemon s.sysfs s.disk s.members) x n s.waiter s.clock) made ended w) first serves in
-      (made, subst (λ (k : ℕ). After made k (objects_of w)) (sym same) (Listens asked.0 n made ended w (subst (λ (r : Result (Unit {0}) NotListening). Path (listening c.principals) asked.0 r) is asked.1) asked.2 over))
+      (at_sockets c asked.0 w.server, made, subst (λ (k : ℕ). After (at_sockets c asked.0 w.server) made k (objects_of w)) (sym same) (Listens asked.0 n made ended w (subst (λ (r : Result (Unit {0}) NotListening). Path (listening c.principals) asked.0 r) is asked.1) asked.2 over))
+
+never_served : AreServed [] [] [] [] (server_for [])
+never_served = none_served [] [] [] tt tt
 
 module _ {F Y D N W C : Type 0} (reads : F → FileStep → F → Type 0) (sysfs : Sysfs.Ghosts Y)
     (disk : RuleDisk.Ghosts D) (net : Links.Ghosts N) (wait : Waiter.Ghosts W) (ticks : Clock.Ghosts C)
     (turns : ℕ) (clock : ℕ → ℕ) (words : Stream) (f : F) (s : Objects Y D N W C) where
-  abbrev Done : Option (List ℕ) → List Entry → List Turned → ℕ → F → Objects Y D N W C → Type 0
-  Done path journal made status g t = Serves reads sysfs disk net wait ticks turns clock words f s path journal made status g t
+  abbrev Done : Option (List ℕ) → List Entry → AtSockets → List Turned → ℕ → F → Objects Y D N W C → Type 0
+  Done path journal sockets made status g t = Serves reads sysfs disk net wait ticks turns clock words f s path journal sockets made status g t
 
   abbrev pub Runs : Option (List ℕ) → ℕ → F → Objects Y D N W C → Type 0
   Runs path status g t = RunsDaemon reads sysfs disk net wait ticks turns clock words f s path status g t
 
   -- ---- what follows from the cases
 
-  pub has_status : (path : Option (List ℕ)) (journal : List Entry) (made : List Turned) (status : ℕ) (g : F) (t : Objects Y D N W C) → Done path journal made status g t → Has daemon_statuses status
-  has_status _ _ _ _ _ _ Bad_words = inr (inl refl)
-  has_status _ _ _ _ _ _ (No_room path) = is_start_status why.Memory
-  has_status _ _ _ _ _ _ (Not_started path entries fault journal g d ms opens all notes) = is_start_status fault
-  has_status _ _ _ _ _ _ (Served path entries first c g d ms made status t opens all notes serves) = known_status status (started_status sysfs disk net wait ticks turns c (objects s.sysfs d s.links s.waiter s.clock ms) made status t serves)
+  pub has_status : (path : Option (List ℕ)) (journal : List Entry) (sockets : AtSockets) (made : List Turned) (status : ℕ) (g : F) (t : Objects Y D N W C) → Done path journal sockets made status g t → Has daemon_statuses status
+  has_status _ _ _ _ _ _ _ Bad_words = inr (inl refl)
+  has_status _ _ _ _ _ _ _ (No_room path) = is_start_status why.Memory
+  has_status _ _ _ _ _ _ _ (Not_started path entries fault journal g d ms opens all notes) = is_start_status fault
+  has_status _ _ _ _ _ _ _ (Served path entries first c g d ms sockets made status t opens all notes serves) = known_status status (started_status sysfs disk net wait ticks turns c (objects s.sysfs d s.links s.waiter s.clock ms) sockets made status t serves)
 
-  pub bad_words : (path : Option (List ℕ)) (journal : List Entry) (made : List Turned) (status : ℕ) (g : F) (t : Objects Y D N W C) → Done path journal made status g t → status ≡ 1 → path ≡ None
-  bad_words _ _ _ _ _ _ Bad_words = λ e. refl
-  bad_words _ _ _ _ _ _ (No_room path) = λ e. absurd (start_not_one why.Memory e)
-  bad_words _ _ _ _ _ _ (Not_started path entries fault journal g d ms opens all notes) = λ e. absurd (start_not_one fault e)
-  bad_words _ _ _ _ _ _ (Served path entries first c g d ms made status t opens all notes serves) = λ e. absurd (not_one status (started_status sysfs disk net wait ticks turns c (objects s.sysfs d s.links s.waiter s.clock ms) made status t serves) e)
+  pub bad_words : (path : Option (List ℕ)) (journal : List Entry) (sockets : AtSockets) (made : List Turned) (status : ℕ) (g : F) (t : Objects Y D N W C) → Done path journal sockets made status g t → status ≡ 1 → path ≡ None
+  bad_words _ _ _ _ _ _ _ Bad_words = λ e. refl
+  bad_words _ _ _ _ _ _ _ (No_room path) = λ e. absurd (start_not_one why.Memory e)
+  bad_words _ _ _ _ _ _ _ (Not_started path entries fault journal g d ms opens all notes) = λ e. absurd (start_not_one fault e)
+  bad_words _ _ _ _ _ _ _ (Served path entries first c g d ms sockets made status t opens all notes serves) = λ e. absurd (not_one status (started_status sysfs disk net wait ticks turns c (objects s.sysfs d s.links s.waiter s.clock ms) sockets made status t serves) e)
 
-  pub other_words : (path : Option (List ℕ)) (journal : List Entry) (made : List Turned) (status : ℕ) (g : F) (t : Objects Y D N W C) → Done path journal made status g t → path ≡ None → Has (1 ∷ 6 ∷ []) status
-  other_words _ _ _ _ _ _ Bad_words = λ e. inl refl
-  other_words _ _ _ _ _ _ (No_room path) = λ e. inr (inl refl)
-  other_words _ _ _ _ _ _ (Not_started path entries fault journal g d ms opens all notes) = λ e. let no : ⊥ = cc in absurd no
-  other_words _ _ _ _ _ _ (Served path entries first c g d ms made status t opens all notes serves) = λ e. let no : ⊥ = cc in absurd no
+  pub other_words : (path : Option (List ℕ)) (journal : List Entry) (sockets : AtSockets) (made : List Turned) (status : ℕ) (g : F) (t : Objects Y D N W C) → Done path journal sockets made status g t → path ≡ None → Has (1 ∷ 6 ∷ []) status
+  other_words _ _ _ _ _ _ _ Bad_words = λ e. inl refl
+  other_words _ _ _ _ _ _ _ (No_room path) = λ e. inr (inl refl)
+  other_words _ _ _ _ _ _ _ (Not_started path entries fault journal g d ms opens all notes) = λ e. let no : ⊥ = cc in absurd no
+  other_words _ _ _ _ _ _ _ (Served path entries first c g d ms sockets made status t opens all notes serves) = λ e. let no : ⊥ = cc in absurd no
 
   -- ---- the runs
 
   pub runs_without_words : Runs None 1 f s
   runs_without_words = record {
     journal = [];
+    sockets = no_sockets;
     made = [];
     serves = Bad_words;
     noted = (refl, refl);
     all_made = λ e. absurd (omega (arith, e));
     told_refused = λ e. absurd (omega (arith, e));
+    access = tt;
+    calls = refl;
+    sessions = λ h. never_served;
   }
 
   pub runs_without_room : (path : Option (List ℕ)) (status : ℕ) → status ≡ start_status why.Memory → Runs path status f s
   runs_without_room path status is = subst (λ (n : ℕ). Runs path n f s) (sym is) (record {
     journal = [];
+    sockets = no_sockets;
     made = [];
     serves = No_room path;
     noted = (refl, refl);
     all_made = λ e. absurd (omega (arith, e));
     told_refused = λ e. absurd (omega (arith, e));
+    access = tt;
+    calls = refl;
+    sessions = λ h. never_served;
   })
 
   pub runs_refused : (path : List ℕ) (entries : List Entry) (fault : NotStarted) (g : F) (d : D) (ms ns : List Member) (status : ℕ)
@@ -217,23 +245,31 @@ module _ {F Y D N W C : Type 0} (reads : F → FileStep → F → Type 0) (sysfs
       let all = both_noted entries (refusal_entries fault) s.members ms ns noted refused in
       subst (λ (n : ℕ). Runs (Some path) n g (objects s.sysfs d s.links s.waiter s.clock ns)) (sym is) (record {
         journal = all.noted;
+        sockets = no_sockets;
         made = [];
         serves = Not_started path entries fault all.noted g d ns opens all.all all.notes;
         noted = all.notes;
         all_made = λ e. absurd (start_not_zero fault e);
         told_refused = tells_refusal fault entries all.noted all.all;
+        access = tt;
+        calls = refl;
+        sessions = λ h. never_served;
       })
 
-  pub runs_served : (path : List ℕ) (entries : List Entry) (c : Started) (g : F) (d : D) (ms : List Member) (made : List Turned) (status : ℕ) (t : Objects Y D N W C)
+  pub runs_served : (path : List ℕ) (entries : List Entry) (c : Started) (g : F) (d : D) (ms : List Member) (sockets : AtSockets) (made : List Turned) (status : ℕ) (t : Objects Y D N W C)
       → Opens reads disk path clock words f s.disk entries (Ok c) g d
       → AreNoted entries s.members ms
-      → ServesStarted sysfs disk net wait ticks turns c (objects s.sysfs d s.links s.waiter s.clock ms) made status t
+      → ServesStarted sysfs disk net wait ticks turns c (objects s.sysfs d s.links s.waiter s.clock ms) sockets made status t
       → Runs (Some path) status g t
-  runs_served path entries c g d ms made status t opens noted serves = record {
+  runs_served path entries c g d ms sockets made status t opens noted serves = record {
     journal = noted.noted ++ turns_entries made;
+    sockets = sockets;
     made = made;
-    serves = Served path entries noted.noted c g d ms made status t opens noted.all noted.notes serves;
-    noted = notes_on [] noted.noted (turns_entries made) s.members ms t.members [] [] noted.notes (started_noted sysfs disk net wait ticks turns c (objects s.sysfs d s.links s.waiter s.clock ms) made status t serves);
-    all_made = started_all sysfs disk net wait ticks turns c (objects s.sysfs d s.links s.waiter s.clock ms) made status t serves;
-    told_refused = λ h. absurd (not_three status (started_status sysfs disk net wait ticks turns c (objects s.sysfs d s.links s.waiter s.clock ms) made status t serves) h);
+    serves = Served path entries noted.noted c g d ms sockets made status t opens noted.all noted.notes serves;
+    noted = notes_on [] noted.noted (turns_entries made) s.members ms t.members [] [] noted.notes (started_noted sysfs disk net wait ticks turns c (objects s.sysfs d s.links s.waiter s.clock ms) sockets made status t serves);
+    all_made = started_all sysfs disk net wait ticks turns c (objects s.sysfs d s.links s.waiter s.clock ms) sockets made status t serves;
+    access = started_access sysfs disk net wait ticks turns c (objects s.sysfs d s.links s.waiter s.clock ms) sockets made status t serves;
+    calls = started_calls sysfs disk net wait ticks turns c (objects s.sysfs d s.links s.waiter s.clock ms) sockets made status t serves;
+    sessions = started_serves sysfs disk net wait ticks turns c (objects s.sysfs d s.links s.waiter s.clock ms) sockets made status t serves;
+    told_refused = λ h. absurd (not_three status (started_status sysfs disk net wait ticks turns c (objects s.sysfs d s.links s.waiter s.clock ms) sockets made status t serves) h);
   }

@@ -8,8 +8,7 @@ ghost use Rattle.ug_core.specs.Event.{daemon_of};
 ghost use Rattle.ug_serve.specs.Opening.{started, words_of_seed};
 ghost use Rattle.ug_serve.specs.Turns.{Turned};
 ghost use Rattle.ug_serve.specs.Refusals.{IsStatusByTexts};
-ghost use Rattle.ug_serve.specs.Saying.{TurnsServe};
-ghost use Rattle.ug_serve.specs.Serving.{RunsDaemon, ServesStarted, daemon_statuses, objects, turns_status};
+ghost use Rattle.ug_serve.specs.Serving.{AtSockets, RunsDaemon, ServesStarted, daemon_statuses, objects, turns_status};
 ghost use Rattle.ug_serve.specs.Telling.{TurnsTell};
 ghost use Rattle.ug_arguments.specs.Commands.{settings_path};
 
@@ -52,11 +51,11 @@ fn serve_started<Y: Sysfs, D: RuleDisk, N: Links, W: Waiter, C: Clock>(
     turns: u64,
 ) -> u8
     requires { length first.principals < 2 ^ 32 }
-    ensures serves { (made : List Turned)
+    ensures serves { (sockets : AtSockets) × (made : List Turned)
         × ServesStarted Y.Sysfs D.RuleDisk N.Links W.Waiter C.Clock turns
         (started first.entry.principals (daemon_of first.entry.daemon))
         (objects sysfs.old disk.old links.old waiter.old clock.old
-        (members (λ b. ⟦<dyn Auditor as Auditor>⟧ b.vtable) panel.old)) made result
+        (members (λ b. ⟦<dyn Auditor as Auditor>⟧ b.vtable) panel.old)) sockets made result
         (objects sysfs.new disk.new links.new waiter.new clock.new
         (members (λ b. ⟦<dyn Auditor as Auditor>⟧ b.vtable) panel.new)) }
     ensures statuses { Has (0 ∷ 6 ∷ 10 ∷ 11 ∷ []) result }
@@ -218,7 +217,6 @@ pub fn run_daemon<Y: Sysfs, D: RuleDisk, F: ConfFiles, N: Links, W: Waiter, C: C
         ⊎ Rose (W.faults waiter.old) (W.faults waiter.new) }
 
     ensures carries { TurnsTell Y.Sysfs D.RuleDisk N.Links W.Waiter C.Clock }
-    ensures sessions { TurnsServe Y.Sysfs D.RuleDisk N.Links W.Waiter C.Clock }
 {
     match read_daemon_words(alloc, words) {
         Err(WordsFault::Bad) => 1,

@@ -6,7 +6,6 @@ use Rattle.ug_serve.specs.Opening.{words_of_seed}
 use Rattle.ug_serve.specs.Serving.{objects}
 use Rattle.ug_serve.proofs.Running.{turns_tell}
 use Rattle.ug_serve.proofs.Refused.{status_told}
-use Rattle.ug_serve.proofs.Said.{turns_serve}
 use Rattle.ug_serve.proofs.Served.{Runs, bad_words, completes, has_status, none_is_some, other_words, runs_without_room, runs_without_words}
 use Rattle.ug_serve.proofs.daemon.run_daemon.Goals as goal
 
@@ -41,9 +40,6 @@ returns-in-Err-Bad-clause-complete g c = λ words taken files disk links waiter.
 pub returns-in-Err-Bad-clause-carries : goal.returns-in-Err-Bad-clause-carries
 returns-in-Err-Bad-clause-carries g c = turns_tell g.Y.Sysfs g.D.RuleDisk g.N.Links g.W.Waiter g.C.Clock g.met.N.Links.tells g.met.W.Waiter.tells g.met.C.Clock.tells
 
-pub returns-in-Err-Bad-clause-sessions : goal.returns-in-Err-Bad-clause-sessions
-returns-in-Err-Bad-clause-sessions g c = turns_serve g.Y.Sysfs g.D.RuleDisk g.N.Links g.W.Waiter g.C.Clock
-
 pub returns-in-Err-Memory-clause-runs : goal.returns-in-Err-Memory-clause-runs
 returns-in-Err-Memory-clause-runs g c =
     runs_without_room g.F.ConfFiles.gives g.Y.Sysfs g.D.RuleDisk g.N.Links g.W.Waiter g.C.Clock
@@ -61,16 +57,13 @@ returns-in-Err-Memory-clause-refused g c =
     c.args.turns (clock_of c.args.zone) (words_of_seed c.args.seed) c.args.files.now (objects c.args.sysfs.now c.args.disk.now c.args.links.now c.args.waiter.now c.args.clock.now (members (λ b. goal.Auditor-dyn g (b.vtable, b.value)) c.args.panel.now)) (settings_path (map (λ (w : Bor (List ℕ)). w.now) c.args.words.now)) c.status.result c.status.ensures in
     status_told g.F.ConfFiles.gives g.Y.Sysfs g.D.RuleDisk g.N.Links g.W.Waiter g.C.Clock
     g.F.ConfFiles.told g.met.F.ConfFiles.tells c.args.turns (clock_of c.args.zone) (words_of_seed c.args.seed) c.args.files.now (objects c.args.sysfs.now c.args.disk.now c.args.links.now c.args.waiter.now c.args.clock.now (members (λ b. goal.Auditor-dyn g (b.vtable, b.value)) c.args.panel.now))
-    (settings_path (map (λ (w : Bor (List ℕ)). w.now) c.args.words.now)) r.journal r.made c.status.result c.args.files.now (objects c.args.sysfs.now c.args.disk.now c.args.links.now c.args.waiter.now c.args.clock.now (members (λ b. goal.Auditor-dyn g (b.vtable, b.value)) c.args.panel.now)) r.serves
+    (settings_path (map (λ (w : Bor (List ℕ)). w.now) c.args.words.now)) r.journal r.sockets r.made c.status.result c.args.files.now (objects c.args.sysfs.now c.args.disk.now c.args.links.now c.args.waiter.now c.args.clock.now (members (λ b. goal.Auditor-dyn g (b.vtable, b.value)) c.args.panel.now)) r.serves
 
 pub returns-in-Err-Memory-clause-complete : goal.returns-in-Err-Memory-clause-complete
 returns-in-Err-Memory-clause-complete g c = λ words taken files disk links waiter. inr (inl (sym c.status.ensures))
 
 pub returns-in-Err-Memory-clause-carries : goal.returns-in-Err-Memory-clause-carries
 returns-in-Err-Memory-clause-carries g c = turns_tell g.Y.Sysfs g.D.RuleDisk g.N.Links g.W.Waiter g.C.Clock g.met.N.Links.tells g.met.W.Waiter.tells g.met.C.Clock.tells
-
-pub returns-in-Err-Memory-clause-sessions : goal.returns-in-Err-Memory-clause-sessions
-returns-in-Err-Memory-clause-sessions g c = turns_serve g.Y.Sysfs g.D.RuleDisk g.N.Links g.W.Waiter g.C.Clock
 
 pub returns-in-Ok-clause-runs : goal.returns-in-Ok-clause-runs
 returns-in-Ok-clause-runs g c =
@@ -84,7 +77,7 @@ returns-in-Ok-clause-statuses g c =
     let r = subst (λ (p : Option (List ℕ)). Runs g.F.ConfFiles.gives g.Y.Sysfs g.D.RuleDisk g.N.Links g.W.Waiter g.C.Clock c.args.turns (clock_of c.args.zone) (words_of_seed c.args.seed) c.args.files.now (objects c.args.sysfs.now c.args.disk.now c.args.links.now c.args.waiter.now c.args.clock.now (members (λ b. goal.Auditor-dyn g (b.vtable, b.value)) c.args.panel.now)) p c.serve.result c.serve.new.files (objects c.serve.new.sysfs c.serve.new.disk c.serve.new.links c.serve.new.waiter c.serve.new.clock (members (λ b. goal.Auditor-dyn g (b.vtable, b.value)) c.serve.new.panel))) path c.serve.ensures.runs in
     has_status g.F.ConfFiles.gives g.Y.Sysfs g.D.RuleDisk g.N.Links g.W.Waiter g.C.Clock
     c.args.turns (clock_of c.args.zone) (words_of_seed c.args.seed) c.args.files.now (objects c.args.sysfs.now c.args.disk.now c.args.links.now c.args.waiter.now c.args.clock.now (members (λ b. goal.Auditor-dyn g (b.vtable, b.value)) c.args.panel.now))
-    (settings_path (map (λ (w : Bor (List ℕ)). w.now) c.args.words.now)) r.journal r.made c.serve.result c.serve.new.files (objects c.serve.new.sysfs c.serve.new.disk c.serve.new.links c.serve.new.waiter c.serve.new.clock (members (λ b. goal.Auditor-dyn g (b.vtable, b.value)) c.serve.new.panel)) r.serves
+    (settings_path (map (λ (w : Bor (List ℕ)). w.now) c.args.words.now)) r.journal r.sockets r.made c.serve.result c.serve.new.files (objects c.serve.new.sysfs c.serve.new.disk c.serve.new.links c.serve.new.waiter c.serve.new.clock (members (λ b. goal.Auditor-dyn g (b.vtable, b.value)) c.serve.new.panel)) r.serves
 
 pub returns-in-Ok-clause-bad_words : goal.returns-in-Ok-clause-bad_words
 returns-in-Ok-clause-bad_words g c =
@@ -92,7 +85,7 @@ returns-in-Ok-clause-bad_words g c =
     let r = subst (λ (p : Option (List ℕ)). Runs g.F.ConfFiles.gives g.Y.Sysfs g.D.RuleDisk g.N.Links g.W.Waiter g.C.Clock c.args.turns (clock_of c.args.zone) (words_of_seed c.args.seed) c.args.files.now (objects c.args.sysfs.now c.args.disk.now c.args.links.now c.args.waiter.now c.args.clock.now (members (λ b. goal.Auditor-dyn g (b.vtable, b.value)) c.args.panel.now)) p c.serve.result c.serve.new.files (objects c.serve.new.sysfs c.serve.new.disk c.serve.new.links c.serve.new.waiter c.serve.new.clock (members (λ b. goal.Auditor-dyn g (b.vtable, b.value)) c.serve.new.panel))) path c.serve.ensures.runs in
     bad_words g.F.ConfFiles.gives g.Y.Sysfs g.D.RuleDisk g.N.Links g.W.Waiter g.C.Clock
     c.args.turns (clock_of c.args.zone) (words_of_seed c.args.seed) c.args.files.now (objects c.args.sysfs.now c.args.disk.now c.args.links.now c.args.waiter.now c.args.clock.now (members (λ b. goal.Auditor-dyn g (b.vtable, b.value)) c.args.panel.now))
-    (settings_path (map (λ (w : Bor (List ℕ)). w.now) c.args.words.now)) r.journal r.made c.serve.result c.serve.new.files (objects c.serve.new.sysfs c.serve.new.disk c.serve.new.links c.serve.new.waiter c.serve.new.clock (members (λ b. goal.Auditor-dyn g (b.vtable, b.value)) c.serve.new.panel)) r.serves
+    (settings_path (map (λ (w : Bor (List ℕ)). w.now) c.args.words.now)) r.journal r.sockets r.made c.serve.result c.serve.new.files (objects c.serve.new.sysfs c.serve.new.disk c.serve.new.links c.serve.new.waiter c.serve.new.clock (members (λ b. goal.Auditor-dyn g (b.vtable, b.value)) c.serve.new.panel)) r.serves
 
 pub returns-in-Ok-clause-other_words : goal.returns-in-Ok-clause-other_words
 returns-in-Ok-clause-other_words g c =
@@ -100,7 +93,7 @@ returns-in-Ok-clause-other_words g c =
     let r = subst (λ (p : Option (List ℕ)). Runs g.F.ConfFiles.gives g.Y.Sysfs g.D.RuleDisk g.N.Links g.W.Waiter g.C.Clock c.args.turns (clock_of c.args.zone) (words_of_seed c.args.seed) c.args.files.now (objects c.args.sysfs.now c.args.disk.now c.args.links.now c.args.waiter.now c.args.clock.now (members (λ b. goal.Auditor-dyn g (b.vtable, b.value)) c.args.panel.now)) p c.serve.result c.serve.new.files (objects c.serve.new.sysfs c.serve.new.disk c.serve.new.links c.serve.new.waiter c.serve.new.clock (members (λ b. goal.Auditor-dyn g (b.vtable, b.value)) c.serve.new.panel))) path c.serve.ensures.runs in
     other_words g.F.ConfFiles.gives g.Y.Sysfs g.D.RuleDisk g.N.Links g.W.Waiter g.C.Clock
     c.args.turns (clock_of c.args.zone) (words_of_seed c.args.seed) c.args.files.now (objects c.args.sysfs.now c.args.disk.now c.args.links.now c.args.waiter.now c.args.clock.now (members (λ b. goal.Auditor-dyn g (b.vtable, b.value)) c.args.panel.now))
-    (settings_path (map (λ (w : Bor (List ℕ)). w.now) c.args.words.now)) r.journal r.made c.serve.result c.serve.new.files (objects c.serve.new.sysfs c.serve.new.disk c.serve.new.links c.serve.new.waiter c.serve.new.clock (members (λ b. goal.Auditor-dyn g (b.vtable, b.value)) c.serve.new.panel)) r.serves
+    (settings_path (map (λ (w : Bor (List ℕ)). w.now) c.args.words.now)) r.journal r.sockets r.made c.serve.result c.serve.new.files (objects c.serve.new.sysfs c.serve.new.disk c.serve.new.links c.serve.new.waiter c.serve.new.clock (members (λ b. goal.Auditor-dyn g (b.vtable, b.value)) c.serve.new.panel)) r.serves
 
 pub returns-in-Ok-clause-refused : goal.returns-in-Ok-clause-refused
 returns-in-Ok-clause-refused g c =
@@ -108,7 +101,7 @@ returns-in-Ok-clause-refused g c =
     let r = subst (λ (p : Option (List ℕ)). Runs g.F.ConfFiles.gives g.Y.Sysfs g.D.RuleDisk g.N.Links g.W.Waiter g.C.Clock c.args.turns (clock_of c.args.zone) (words_of_seed c.args.seed) c.args.files.now (objects c.args.sysfs.now c.args.disk.now c.args.links.now c.args.waiter.now c.args.clock.now (members (λ b. goal.Auditor-dyn g (b.vtable, b.value)) c.args.panel.now)) p c.serve.result c.serve.new.files (objects c.serve.new.sysfs c.serve.new.disk c.serve.new.links c.serve.new.waiter c.serve.new.clock (members (λ b. goal.Auditor-dyn g (b.vtable, b.value)) c.serve.new.panel))) path c.serve.ensures.runs in
     status_told g.F.ConfFiles.gives g.Y.Sysfs g.D.RuleDisk g.N.Links g.W.Waiter g.C.Clock
     g.F.ConfFiles.told g.met.F.ConfFiles.tells c.args.turns (clock_of c.args.zone) (words_of_seed c.args.seed) c.args.files.now (objects c.args.sysfs.now c.args.disk.now c.args.links.now c.args.waiter.now c.args.clock.now (members (λ b. goal.Auditor-dyn g (b.vtable, b.value)) c.args.panel.now))
-    (settings_path (map (λ (w : Bor (List ℕ)). w.now) c.args.words.now)) r.journal r.made c.serve.result c.serve.new.files (objects c.serve.new.sysfs c.serve.new.disk c.serve.new.links c.serve.new.waiter c.serve.new.clock (members (λ b. goal.Auditor-dyn g (b.vtable, b.value)) c.serve.new.panel)) r.serves
+    (settings_path (map (λ (w : Bor (List ℕ)). w.now) c.args.words.now)) r.journal r.sockets r.made c.serve.result c.serve.new.files (objects c.serve.new.sysfs c.serve.new.disk c.serve.new.links c.serve.new.waiter c.serve.new.clock (members (λ b. goal.Auditor-dyn g (b.vtable, b.value)) c.serve.new.panel)) r.serves
 
 pub returns-in-Ok-clause-complete : goal.returns-in-Ok-clause-complete
 returns-in-Ok-clause-complete g c = λ words taken files disk links waiter.
@@ -117,16 +110,13 @@ returns-in-Ok-clause-complete g c = λ words taken files disk links waiter.
     let one =
     bad_words g.F.ConfFiles.gives g.Y.Sysfs g.D.RuleDisk g.N.Links g.W.Waiter g.C.Clock
     c.args.turns (clock_of c.args.zone) (words_of_seed c.args.seed) c.args.files.now (objects c.args.sysfs.now c.args.disk.now c.args.links.now c.args.waiter.now c.args.clock.now (members (λ b. goal.Auditor-dyn g (b.vtable, b.value)) c.args.panel.now))
-    (settings_path (map (λ (w : Bor (List ℕ)). w.now) c.args.words.now)) r.journal r.made c.serve.result c.serve.new.files (objects c.serve.new.sysfs c.serve.new.disk c.serve.new.links c.serve.new.waiter c.serve.new.clock (members (λ b. goal.Auditor-dyn g (b.vtable, b.value)) c.serve.new.panel)) r.serves in
+    (settings_path (map (λ (w : Bor (List ℕ)). w.now) c.args.words.now)) r.journal r.sockets r.made c.serve.result c.serve.new.files (objects c.serve.new.sysfs c.serve.new.disk c.serve.new.links c.serve.new.waiter c.serve.new.clock (members (λ b. goal.Auditor-dyn g (b.vtable, b.value)) c.serve.new.panel)) r.serves in
     let known =
     has_status g.F.ConfFiles.gives g.Y.Sysfs g.D.RuleDisk g.N.Links g.W.Waiter g.C.Clock
     c.args.turns (clock_of c.args.zone) (words_of_seed c.args.seed) c.args.files.now (objects c.args.sysfs.now c.args.disk.now c.args.links.now c.args.waiter.now c.args.clock.now (members (λ b. goal.Auditor-dyn g (b.vtable, b.value)) c.args.panel.now))
-    (settings_path (map (λ (w : Bor (List ℕ)). w.now) c.args.words.now)) r.journal r.made c.serve.result c.serve.new.files (objects c.serve.new.sysfs c.serve.new.disk c.serve.new.links c.serve.new.waiter c.serve.new.clock (members (λ b. goal.Auditor-dyn g (b.vtable, b.value)) c.serve.new.panel)) r.serves in
+    (settings_path (map (λ (w : Bor (List ℕ)). w.now) c.args.words.now)) r.journal r.sockets r.made c.serve.result c.serve.new.files (objects c.serve.new.sysfs c.serve.new.disk c.serve.new.links c.serve.new.waiter c.serve.new.clock (members (λ b. goal.Auditor-dyn g (b.vtable, b.value)) c.serve.new.panel)) r.serves in
     completes c.serve.result known (λ e. words (one e)) taken
     (λ e. files (c.serve.ensures.files_failed e)) (λ e. disk (c.serve.ensures.disk_failed e)) (λ e. elim (c.serve.ensures.wait_failed e) [ inl h ↦ links h | inr h ↦ waiter h ])
 
 pub returns-in-Ok-clause-carries : goal.returns-in-Ok-clause-carries
 returns-in-Ok-clause-carries g c = turns_tell g.Y.Sysfs g.D.RuleDisk g.N.Links g.W.Waiter g.C.Clock g.met.N.Links.tells g.met.W.Waiter.tells g.met.C.Clock.tells
-
-pub returns-in-Ok-clause-sessions : goal.returns-in-Ok-clause-sessions
-returns-in-Ok-clause-sessions g c = turns_serve g.Y.Sysfs g.D.RuleDisk g.N.Links g.W.Waiter g.C.Clock

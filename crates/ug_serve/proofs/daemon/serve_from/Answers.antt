@@ -19,8 +19,8 @@ returns-in-Ok-clause-runs g c =
     let served = c.serve_started.ensures.serves in
     runs_served g.F.ConfFiles.gives g.Y.Sysfs g.D.RuleDisk g.N.Links g.W.Waiter g.C.Clock
     c.args.turns (clock_of c.args.zone) (words_of_seed c.args.seed) c.args.files.now (objects c.args.sysfs.now c.args.disk.now c.args.links.now c.args.waiter.now c.args.clock.now (members (λ b. goal.Auditor-dyn g (b.vtable, b.value)) c.args.panel.now)) c.args.path.now
-    starts.0 (started c.in-Ok.first.principals (daemon_of c.in-Ok.first.daemon)) c.start.new.files c.start.new.disk (members (λ b. goal.Auditor-dyn g (b.vtable, b.value)) c.start.new.panel) served.0 c.serve_started.result
-    (objects c.serve_started.new.sysfs c.serve_started.new.disk c.serve_started.new.links c.serve_started.new.waiter c.serve_started.new.clock (members (λ b. goal.Auditor-dyn g (b.vtable, b.value)) c.serve_started.new.panel)) starts.1 starts.2 served.1
+    starts.0 (started c.in-Ok.first.principals (daemon_of c.in-Ok.first.daemon)) c.start.new.files c.start.new.disk (members (λ b. goal.Auditor-dyn g (b.vtable, b.value)) c.start.new.panel) served.0 served.1 c.serve_started.result
+    (objects c.serve_started.new.sysfs c.serve_started.new.disk c.serve_started.new.links c.serve_started.new.waiter c.serve_started.new.clock (members (λ b. goal.Auditor-dyn g (b.vtable, b.value)) c.serve_started.new.panel)) starts.1 starts.2 served.2
 
 pub returns-in-Ok-clause-files_failed : goal.returns-in-Ok-clause-files_failed
 returns-in-Ok-clause-files_failed g c = λ e. absurd (not_four c.serve_started.result c.serve_started.ensures.statuses e)
