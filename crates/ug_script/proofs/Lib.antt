@@ -32,4 +32,5 @@ pub mod LineReads
 pub mod Turns
 pub mod Schedules
 pub mod MoveLines
+pub mod Births
 pub mod Against

@@ -14,4 +14,5 @@ pub mod Journal
 pub mod Example
 pub mod RuleFiles
 pub mod Schedules
+pub mod Births
 pub mod Against

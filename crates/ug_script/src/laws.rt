@@ -26,6 +26,7 @@ ghost use Rattle.ug_script.specs.declared.step.Step.TheVariants as step;
 ghost use Rattle.ug_script.specs.Grammar.{grant_of, IsAccess, step_of_line};
 ghost use Rattle.ug_script.specs.LineGrammar.{AsksFor};
 ghost use Rattle.ug_script.specs.LineExamples.{fails, off_with_files, on_by_itself, on_disk, schedules};
+ghost use Rattle.ug_script.specs.Births.{StaysBorn};
 ghost use Rattle.ug_script.specs.Journal.{StaysRecorded};
 ghost use Rattle.ug_script.specs.Laws.{StaysLawful};
 ghost use Rattle.ug_script.specs.Schedules.{DoesAtOnce, StaysScheduled};
@@ -97,6 +98,12 @@ pub fn moves_law()
 /// order. As long as no daemon was started nothing was written, so that `input too long` stands alone.
 pub fn schedule_law()
     ensures { (w : World) → w.moves ≡ [] → w.fails ≡ [] → StaysScheduled w }
+{}
+
+/// Wherever lines have led, the kernel's devices are those that the moves of the lines bore, in the order in which these had their turn,
+/// with the facts of the lines; and a move that could do nothing did nothing.
+pub fn births_law()
+    ensures { (w : World) → w.moves ≡ [] → IsSound w.kernel.devices → StaysBorn w }
 {}
 
 /// From a sound kernel each event of a script is fair and leaves each device settled or named, and the journal of all events

@@ -30,8 +30,8 @@ mod words;
 pub use generator::generate_policy;
 pub use interpreter::Interpreter;
 pub use laws::{
-    access_law, birth_law, default_law, line_words_law, lines_law, moves_law, refusal_law,
-    schedule_law, script_law, words_law, worked_law,
+    access_law, birth_law, births_law, default_law, line_words_law, lines_law, moves_law,
+    refusal_law, schedule_law, script_law, words_law, worked_law,
 };
 pub use parse::parse_line;
 pub use runner::Runner;
