@@ -3,7 +3,7 @@ pub mod Moments
 pub mod NamesRead
 pub mod Readable
 pub mod AccessLines
-pub mod WellFormed
+pub mod KeptRules
 pub mod Phases
 pub mod Halts
 pub mod EventSteps

@@ -13,6 +13,7 @@ pub mod Laws
 pub mod Journal
 pub mod Example
 pub mod RuleFiles
+pub mod RuleLines
 pub mod Schedules
 pub mod Births
 pub mod Against

@@ -1,5 +1,5 @@
 -- What a script's setup lines give, and the policy that a daemon starts with then.
-use Rattle.std.specs.Prelude.{◌≡◌, ℕ, ◌+◌, ◌≤◌, nat_le, ℤ, pos, neg_ℤ, ◌+ℤ◌, int_le, unsigned_abs, replicate, Bool, false, is_none, ◌&&◌, nat_lt, if◌then◌else◌, List, [], ◌∷◌, ◌++◌, length, drop, map, flat_map, Option, Some, None, IfSome, IsTrue, All, Result, Ok, Err}
+use Rattle.std.specs.Prelude.{◌≡◌, ℕ, ◌+◌, nat_le, ℤ, pos, neg_ℤ, ◌+ℤ◌, int_le, unsigned_abs, replicate, Bool, false, is_none, ◌&&◌, nat_lt, if◌then◌else◌, List, [], ◌∷◌, ◌++◌, length, drop, map, flat_map, Option, Some, None, Result, Ok, Err}
 use Rattle.std.specs.Int.{int_rem_euclid}
 use Rattle.rand_chacha.specs.ChaCha.{next_word, of_seed}
 use Rattle.rand_core.specs.Steps.{stream_of, steps_u32}
@@ -9,7 +9,6 @@ use Rattle.ug_types.specs.declared.control.Write.{Write}
 use Rattle.ug_types.specs.declared.rule.Rule as types
 use Rattle.ug_acl.specs.Acls.{Addition, addition}
 use Rattle.ug_acl.specs.Pairs.{all_pairs}
-use Rattle.ug_rule.specs.Grammar.{WellFormed}
 use Rattle.ug_conf.specs.Faults.{SettingFault}
 use Rattle.ug_conf.specs.Settings.{defaults}
 use Rattle.ug_conf.specs.Draft.{Draft, draft_of, line_read}
@@ -50,12 +49,6 @@ no_setup = record { rules = []; settings = record { draft = draft_of defaults []
 -- less than a day
 abbrev pub is_offset : ℤ → Bool
 is_offset offset = int_le (neg_ℤ (pos 86399)) offset && int_le offset (pos 86399)
-
--- no more rules than a daemon takes, each of which is the rule of some line, and a zone of less than a day
-pub record IsSetupKept (rules : List types.Rule) (zone : Option ℤ) : Type 0 where
-  pub few : length rules ≤ 65536
-  pub well_formed : All WellFormed rules
-  pub offset : IfSome zone (λ offset. IsTrue (is_offset offset))
 
 -- ---- one line more, None where it may not stand there
 

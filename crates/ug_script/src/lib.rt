@@ -15,6 +15,7 @@ mod plan_lines;
 mod plugs;
 mod progress;
 mod quoting;
+mod rule_lines;
 mod runner;
 mod running;
 mod session;

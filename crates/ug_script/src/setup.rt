@@ -1,10 +1,11 @@
 // What the lines give that stand before all others.
-ghost use Rattle.std.specs.Prelude.{◌≡◌, ◌<◌, ◌≤◌, ◌++◌, ◌∷◌, [], Some, length, All, IfOk, OnOk};
+ghost use Rattle.std.specs.Prelude.{◌≡◌, ◌++◌, ◌∷◌, [], Some, IfOk};
 ghost use Rattle.ug_script.specs.Grammar.{AsksForRule};
 ghost use Rattle.ug_script.specs.Setup as lines;
 ghost use Rattle.ug_script.specs.Setup.{Adds, no_setup, one_line_more};
 ghost use Rattle.ug_rule.specs.Grammar.{WellFormed};
 
+use crate::rule_lines::RuleLines;
 use crate::step::{AccessLine, SetupLine, StepFault};
 use crate::words::is_entry;
 use std::alloc::Global;
@@ -15,10 +16,11 @@ use ug_types::{NoMemory, Rule};
 /// The most rules that a daemon starts with.
 const MOST_RULES: usize = 65_536;
 
-/// The rules in order, the settings so far, what was granted in order, and the seed and the zone, where they were given.
+/// The rules in order, of which the text is kept, the settings so far, what was granted in order, and the seed and the zone, where
+/// they were given.
 #[derive(Drop)]
 pub struct Setup {
-    pub rules: Vec<Rule>,
+    pub rules: RuleLines,
     pub settings: SettingsReader,
     pub access: Vec<AccessLine>,
     pub seed: Option<[u8; 32]>,
@@ -26,13 +28,14 @@ pub struct Setup {
 }
 
 impl Model for Setup {
-    ghost use Rattle.ug_script.specs.Setup.{IsSetupKept, SetupState};
+    ghost use Rattle.std.specs.Prelude.{IfSome, IsTrue};
+    ghost use Rattle.ug_script.specs.Setup.{SetupState, is_offset};
 
     ghost Value = { SetupState };
 
-    ghost view = { λ s. record { rules = s.rules.items; settings = s.settings; access = s.access.items; seed = s.seed; zone = s.zone } };
+    ghost view = { λ s. record { rules = s.rules; settings = s.settings; access = s.access.items; seed = s.seed; zone = s.zone } };
 
-    ghost invariant = { λ s. IsSetupKept s.rules.items s.zone };
+    ghost invariant = { λ s. IfSome s.zone (λ offset. IsTrue (is_offset offset)) };
 }
 
 fn is_offset(seconds: i32) -> bool
@@ -41,25 +44,13 @@ fn is_offset(seconds: i32) -> bool
     -86399 <= seconds && seconds <= 86399
 }
 
-#[tactic(auto, using(crate::proofs::WellFormed::well_more))]
-fn push_rule(rules: &mut Vec<Rule>, rule: Rule) -> Result<(), NoMemory>
-    requires { length rules.old.items < 65536 }
-    ensures ok { OnOk result (rules.new.items ≡ rules.old.items ++ rule ∷ []) }
-    ensures few { length rules.new.items ≤ 65536 }
-    ensures well_formed { All WellFormed rules.old.items → WellFormed rule
-        → All WellFormed rules.new.items }
-{
-    rules.push(rule)?;
-    Ok(())
-}
-
 impl Setup {
     /// No line was taken.
     pub fn new(alloc: Global) -> Result<Setup, NoMemory>
         ensures { IfOk result (λ setup. setup ≡ no_setup) }
     {
         Ok(Setup {
-            rules: Vec::new(alloc),
+            rules: RuleLines::new(alloc),
             settings: SettingsReader::new(alloc)?,
             access: Vec::new(alloc),
             seed: None,
@@ -100,7 +91,7 @@ impl Setup {
         if self.rules.len() >= MOST_RULES {
             return Err(StepFault::Bad);
         }
-        match push_rule(&mut self.rules, rule) {
+        match self.rules.push(&rule) {
             Ok(()) => Ok(()),
             Err(_) => Err(StepFault::Memory),
         }

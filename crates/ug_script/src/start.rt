@@ -21,9 +21,12 @@ use rand_core::{Rng, SeedableRng};
 use std::alloc::Global;
 use ug_conf::{Settings, default_settings};
 use ug_core::{Daemon, StartFault};
-use ug_print::{RulesTextFault, rules_text};
+use ug_print::RulesTextFault;
 use ug_store::MemDisk;
 use ug_types::NoMemory;
+
+/// The greatest number of bytes of a rule file.
+const RULES_LIMIT: usize = 67_108_864;
 
 /// Why no daemon starts over a disk.
 #[derive(Clone, Copy, Debug, PartialEq, Eq)]
@@ -113,8 +116,11 @@ fn disk_of(alloc: Global, setup: &Setup) -> Result<MemDisk, RulesTextFault>
     ensures fits { OnOk result (fits_file setup.now ≡ true) }
     ensures too_long { result ≡ Err RulesTextFault.TooLong → fits_file setup.now ≡ false }
 {
-    let text = rules_text(alloc, setup.rules.as_slice())?;
-    match MemDisk::with_text(alloc, text.bytes()) {
+    let text = setup.rules.text();
+    if text.len() > RULES_LIMIT {
+        return Err(RulesTextFault::TooLong);
+    }
+    match MemDisk::with_text(alloc, text) {
         Ok(disk) => Ok(disk),
         Err(_) => Err(RulesTextFault::Memory),
     }
