@@ -26,6 +26,8 @@ impl Machine<u64> for Echo {
 
     ghost because = { λ p line fault. Unit {0} };
 
+    ghost holds = { λ p line. Unit {0} };
+
     fn step<K: Sink>(&mut self, _alloc: Global, world: &mut u64, line: &[u8], out: &mut K) -> Ran {
         if line.len() == 3 {
             return Ran::Bad;

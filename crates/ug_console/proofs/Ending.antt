@@ -228,7 +228,7 @@ module _ {M : Type 0} (step : M → List ℕ → Outcome M) (closing : M → Opt
       }
 
   -- nothing was read
-  pub reads-none : (m0 : M) (left held : Option (List ℕ)) (line : List ℕ) (n : ℕ) → line ≡ [] → n ≡ 0 → Reads step m0 left left held held line n m0
+  unfoldable pub reads-none : (m0 : M) (left held : Option (List ℕ)) (line : List ℕ) (n : ℕ) → line ≡ [] → n ≡ 0 → Reads step m0 left left held held line n m0
   reads-none m0 left held line n e w = record {
     taken = [];
     text = [];
@@ -241,7 +241,7 @@ module _ {M : Type 0} (step : M → List ℕ → Outcome M) (closing : M → Opt
   }
 
   -- one more piece
-  stands-piece : (m0 : M) (taken text line : List ℕ) (n : ℕ) (m : M) (bytes added line1 : List ℕ) (n1 : ℕ) (m1 : M) → Stands step m0 taken text line n m → Fed step line n m bytes line1 n1 m1 added ran.Done → Stands step m0 (taken ++ bytes) (text ++ added) line1 n1 m1
+  pub stands-piece : (m0 : M) (taken text line : List ℕ) (n : ℕ) (m : M) (bytes added line1 : List ℕ) (n1 : ℕ) (m1 : M) → Stands step m0 taken text line n m → Fed step line n m bytes line1 n1 m1 added ran.Done → Stands step m0 (taken ++ bytes) (text ++ added) line1 n1 m1
   stands-piece m0 taken text line n m bytes added line1 n1 m1 st (f, e) = record {
     played = ap (λ (ls : List (List ℕ)). plays step (Going 0 [] m0) ls) (whole_from-append [] taken bytes)
         ∙ (plays-front m0 taken text line n m (whole_from (rest_from [] taken) bytes) st
@@ -249,7 +249,7 @@ module _ {M : Type 0} (step : M → List ℕ → Outcome M) (closing : M → Opt
     begun = e ∙ (ap (λ (l : List ℕ). rest_from l bytes) st.begun ∙ sym (rest_from-append [] taken bytes));
   }
 
-  pub reads-piece : (m0 : M) (left0 left1 left2 held0 held1 held2 : Option (List ℕ)) (line : List ℕ) (n : ℕ) (m : M) (bytes line1 : List ℕ) (n1 : ℕ) (m1 : M)
+  unfoldable pub reads-piece : (m0 : M) (left0 left1 left2 held0 held1 held2 : Option (List ℕ)) (line : List ℕ) (n : ℕ) (m : M) (bytes line1 : List ℕ) (n1 : ℕ) (m1 : M)
       → Reads step m0 left0 left1 held0 held1 line n m → Consumes left1 left2 bytes → Feeds step line n m held1 bytes ran.Done line1 n1 m1 held2 → Reads step m0 left0 left2 held0 held2 line1 n1 m1
   reads-piece m0 left0 left1 left2 held0 held1 held2 line n m bytes line1 n1 m1 r c f = record {
     taken = r.taken ++ bytes;

@@ -3,5 +3,6 @@ pub mod Feeding
 pub mod Faults
 pub mod Ending
 pub mod Outputs
+pub mod Taking
 pub mod Refusing
 pub mod WholeInputs

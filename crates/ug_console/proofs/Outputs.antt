@@ -113,6 +113,14 @@ answers step closing m0 left0 left held0 held m e r all base a b =
     let l = left-known left0 left all r.taken a r.source in
     told step closing m0 all base left r.taken l.more r.text held m e l.split l.is (held-known held0 held base r.text b r.sink) r.told
 
+pub done-only : (e : Ended) → status_of e ≡ 0 → e ≡ Done
+done-only Done z = refl
+done-only Bad z = absurd (omega (arith, z))
+done-only TooLong z = absurd (omega (arith, z))
+done-only ReadFault z = absurd (omega (arith, z))
+done-only WriteFault z = absurd (omega (arith, z))
+done-only Memory z = absurd (omega (arith, z))
+
 pub read-only : (e : Ended) → status_of e ≡ 4 → e ≡ ReadFault
 read-only Done z = absurd (omega (arith, z))
 read-only Bad z = absurd (omega (arith, z))

@@ -1,21 +1,22 @@
 -- Why a line isn't taken, behind the lines before it and before the bytes behind it.
-use Rattle.std.proofs.Common.{◌≡◌, ℕ, ◌+◌, ◌<◌, ◌≤◌, List, [], ◌∷◌, ◌++◌, length, take, drop, Bool, true, false, nat_eq, Option, Some, None, ◌⊎◌, inl, inr, refl, sym, ap, subst, ◌∙◌, append_assoc, arith, length-append}
-use Rattle.std.proofs.lemmas.List.{append-nil, take-append-drop}
+use Rattle.std.proofs.Common.{◌≡◌, ℕ, ◌+◌, ◌<◌, ◌≤◌, List, [], ◌∷◌, ◌++◌, length, take, drop, true, false, nat_eq, Option, Some, None, ◌⊎◌, inl, inr, refl, sym, ap, subst, ◌∙◌, append_assoc, arith, length-append}
+use Rattle.std.proofs.lemmas.List.{take-append-drop}
 use Rattle.std.proofs.Math.Seq.{take-add}
 use Rattle.std.specs.Io.KnownBytes.{Consumes, IsAtEnd, Keeps}
 use Rattle.ug_lines.specs.Lines.{whole_from, rest_from, last_line, lines_from, lines_of}
 use Rattle.ug_lines.specs.Splitting.{IsLine}
 use Rattle.ug_lines.proofs.Lines.{Begins, begins, whole_from-end, rest_from-end, lines_from-append}
 use Rattle.ug_lines.proofs.Splitting.{lines_from-run}
-use Rattle.ug_console.specs.Fold.{Fault, BadLine, InputTooLong, Outcome, Stage, Going, plays, is_within}
+use Rattle.ug_console.specs.Fold.{Fault, Outcome, Stage, Going, plays, is_within}
 use Rattle.ug_console.specs.Refusals.{AtEnd, AtLine, RefusesLine, RefusesLines, fault_in, fault_told}
-use Rattle.ug_console.specs.Runs.{Closes, Extends, Feeds, Lasts, Says, Stands, Reads, words_of, ended_of}
+use Rattle.ug_console.specs.Runs.{Closes, Extends, Feeds, Lasts, Says, Reads, ended_of}
 use Rattle.ug_console.specs.declared.machine.Ran.{Ran}
 use Rattle.ug_console.specs.declared.machine.Ran.TheVariants as ran
 use Rattle.ug_console.specs.declared.results.Ended.{Ended}
 use Rattle.ug_console.specs.declared.results.Ended.TheVariants as ended
 use Rattle.ug_console.proofs.Outputs.{left-known}
 use Rattle.ug_console.proofs.Stages.{plays-append, past_count, past_length}
+use Rattle.ug_console.proofs.Taking.{all-taken}
 
 module _ {M : Type 0} (step : M → List ℕ → Outcome M) (because : M → List ℕ → Fault → Type 0) where
   -- a line past a limit
@@ -191,16 +192,10 @@ module _ {M : Type 0} (step : M → List ℕ → Outcome M) (because : M → Lis
         (behind (Going 0 [] m0) (Going n reads.text m) (whole_from [] reads.taken) (lines_from (rest_from [] reads.taken) (bytes ++ b.more)) fault reads.stands.played
         (subst (λ (l : List ℕ). RefusesLine step because (Going n reads.text m) (lines_from l (bytes ++ b.more)) fault) reads.stands.begun (h fault (told-so h2 h3 words r result fault s e) reads.text b.more)))))
 
-    kept-end : (left1 left2 : Option (List ℕ)) (more : List ℕ) → Keeps left1 left2 → IsAtEnd left2 → left1 ≡ Some more → more ≡ []
-    kept-end None left2 more k e is = let none : ⊥ = cc in absurd none
-    kept-end (Some xs) None more k e is = absurd k
-    kept-end (Some xs) (Some ys) more k e is = cc
-
     pub ended-all : (m0 : M) (left0 left1 left2 held0 held1 : Option (List ℕ)) (line : List ℕ) (n : ℕ) (m : M) (result : Ended) → Reads step m0 left0 left1 held0 held1 line n m → Keeps left1 left2 → IsAtEnd left2 → RefusingEnd line n m result
         → (all : List ℕ) → left0 ≡ Some all → RefusingAll (Going 0 [] m0) (lines_of all) result
     ended-all m0 left0 left1 left2 held0 held1 line n m result reads k e h all is fault f =
-        let a = left-known left0 left1 all reads.taken is reads.source in
-        let whole : all ≡ reads.taken = a.split ∙ (ap (λ (x : List ℕ). reads.taken ++ x) (kept-end left1 left2 a.more k e a.is) ∙ append-nil reads.taken) in
+        let whole : all ≡ reads.taken = all-taken step m0 left0 left1 left2 held0 held1 line n m reads k e all is in
         subst (λ (x : List ℕ). RefusesLines step closing because (Going 0 [] m0) (lines_of x) fault) (sym whole)
         (behind-all (Going 0 [] m0) (Going n reads.text m) (whole_from [] reads.taken) (last_line (rest_from [] reads.taken)) fault reads.stands.played
         (subst (λ (l : List ℕ). RefusesLines step closing because (Going n reads.text m) (last_line l) fault) reads.stands.begun (h reads.text fault f)))

@@ -1,6 +1,6 @@
--- Why a line isn't taken, in the words of the machine that refuses it.
-use Rattle.std.specs.Prelude.{ℕ, ◌≡◌, Bool, true, List, ◌∷◌, ◌++◌, Option, Some, None}
-use Rattle.ug_console.specs.Fold.{Fault, BadLine, InputTooLong, Outcome, Stage, Going, is_within, plays}
+-- Why a line isn't taken, and what is so of each line that is, in the words of the machine.
+use Rattle.std.specs.Prelude.{ℕ, ◌≡◌, true, List, [], ◌∷◌, ◌++◌, Option, Some, None}
+use Rattle.ug_console.specs.Fold.{Fault, BadLine, InputTooLong, Outcome, Stage, Going, Halted, advance, is_within, plays}
 use Rattle.ug_console.specs.declared.machine.Ran.{Ran}
 use Rattle.ug_console.specs.declared.machine.Ran.TheVariants as ran
 use Rattle.ug_console.specs.declared.results.Ended.{Ended}
@@ -46,3 +46,15 @@ pub data RefusesLines {M : Type 0} (step : M → List ℕ → Outcome M)
   AtEnd : (count : ℕ) (text : List ℕ) (machine : M)
       → plays step start lines ≡ Going count text machine → closing machine ≡ None
       → RefusesLines step closing because start lines fault
+
+-- so it is of the line, if lines are still taken
+abbrev pub HoldsAt : {M : Type 0} → (M → List ℕ → Type 0) → Stage M → List ℕ → Type 0
+HoldsAt holds (Going count text machine) line = holds machine line
+HoldsAt holds (Halted fault count text machine) line = Unit {0}
+
+-- and of each of these lines, one after another
+abbrev pub HoldsOfEach : {M : Type 0} → (M → List ℕ → Outcome M) → (M → List ℕ → Type 0) → Stage M
+    → List (List ℕ) → Type 0
+HoldsOfEach step holds stage [] = Unit {0}
+HoldsOfEach step holds stage (line ∷ lines) =
+    HoldsAt holds stage line × HoldsOfEach step holds (advance step stage line) lines

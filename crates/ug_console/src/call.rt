@@ -2,7 +2,7 @@
 ghost use Rattle.std.specs.Prelude.{◌≡◌, ◌≢◌, ◌≤◌, ◌+◌, ◌*◌, ◌++◌, ℕ, List, Some, [], ◌∷◌, length, vec_len};
 ghost use Rattle.ug_types.specs.Ends.{Rose};
 ghost use Rattle.ug_console.specs.Fold.{Fault, Going, bad_line};
-ghost use Rattle.ug_console.specs.Refusals.{RefusesLines, fault_told};
+ghost use Rattle.ug_console.specs.Refusals.{HoldsOfEach, RefusesLines, fault_told};
 ghost use Rattle.ug_console.specs.Runs.{words_of, ended_of, Says, Finishes, Replays};
 ghost use Rattle.ug_console.specs.Statuses.{status_of, Answers};
 ghost use Rattle.ug_lines.specs.Lines.{last_line, lines_of};
@@ -59,6 +59,10 @@ fn finish<K: Sink, W, M: Machine<W>>(
         → RefusesLines M.step_of M.closing M.because
         (Going splitter.old.lines text (M.state machine.old, world.old))
         (last_line splitter.old.line.items) fault }
+    ensures taken { result ≡ Ended.Done → (text : List ℕ)
+        → HoldsOfEach M.step_of M.holds
+        (Going splitter.old.lines text (M.state machine.old, world.old))
+        (last_line splitter.old.line.items) }
     ensures not_read { result ≢ Ended.ReadFault }
     ensures counted { K.faults out.old ≤ K.faults out.new }
     ensures cause { result ≡ Ended.WriteFault → Rose (K.faults out.old) (K.faults out.new) }
@@ -90,6 +94,9 @@ pub fn replay<S: Source, K: Sink, W, M: Machine<W>>(
         → (fault : Fault) → fault_told result ≡ Some fault
         → RefusesLines M.step_of M.closing M.because
         (Going 0 [] (M.state machine.old, world.old)) (lines_of all) fault }
+    ensures taken { (all : List ℕ) → S.left input.old ≡ Some all → result ≡ Ended.Done
+        → HoldsOfEach M.step_of M.holds
+        (Going 0 [] (M.state machine.old, world.old)) (lines_of all) }
     ensures read { result ≡ Ended.ReadFault → Rose (S.faults input.old) (S.faults input.new) }
     ensures written { result ≡ Ended.WriteFault → Rose (K.faults out.old) (K.faults out.new) }
 {
@@ -124,6 +131,9 @@ pub fn run<S: Source, K: Sink, W, M: Machine<W>>(
     ensures refused { (all : List ℕ) → S.left input.old ≡ Some all → result ≡ 2
         → (fault : Fault) × RefusesLines M.step_of M.closing M.because
         (Going 0 [] (M.state machine.old, world.old)) (lines_of all) fault }
+    ensures taken { (all : List ℕ) → S.left input.old ≡ Some all → result ≡ 0
+        → HoldsOfEach M.step_of M.holds
+        (Going 0 [] (M.state machine.old, world.old)) (lines_of all) }
     ensures read { result ≡ 4 → Rose (S.faults input.old) (S.faults input.new) }
     ensures written { result ≡ 5 → Rose (K.faults out.old) (K.faults out.new) }
     ensures others { (ended : Ended) × (result ≡ status_of ended) }

@@ -4,9 +4,9 @@ ghost use Rattle.ug_types.specs.Ends.{Rose};
 ghost use Rattle.ug_lines.specs.Splitting.{IsLine};
 ghost use Rattle.ug_console.specs.Fold as fold;
 ghost use Rattle.ug_console.specs.Fold.{Fault, Going};
-ghost use Rattle.ug_console.specs.Refusals.{RefusesLine, fault_in};
+ghost use Rattle.ug_console.specs.Refusals.{HoldsOfEach, RefusesLine, fault_in};
 ghost use Rattle.ug_console.specs.Runs.{Extends, Feeds, Lasts};
-ghost use Rattle.ug_lines.specs.Lines.{last_line, lines_from};
+ghost use Rattle.ug_lines.specs.Lines.{last_line, lines_from, whole_from};
 
 use crate::machine::{Machine, Ran};
 use std::alloc::Global;
@@ -101,6 +101,10 @@ impl Splitter {
             → RefusesLine M.step_of M.because
             (Going self.old.lines text (M.state machine.old, world.old))
             (lines_from self.old.line.items ((10 ∷ []) ++ more)) fault }
+        ensures taken { result ≡ Ran.Done → (text : List ℕ)
+            → HoldsOfEach M.step_of M.holds
+            (Going self.old.lines text (M.state machine.old, world.old))
+            (whole_from self.old.line.items (10 ∷ [])) }
         ensures kept { result ≡ Ran.Done → M.keeps (M.state machine.new) world.new }
         ensures further { result ≡ Ran.Done → self.new.lines ≡ self.old.lines + 1 }
         ensures counted { K.faults out.old ≤ K.faults out.new }
@@ -139,6 +143,10 @@ impl Splitter {
             → RefusesLine M.step_of M.because
             (Going self.old.lines text (M.state machine.old, world.old))
             (lines_from self.old.line.items (part.now ++ more)) fault }
+        ensures taken { result ≡ Ran.Done → (text : List ℕ)
+            → HoldsOfEach M.step_of M.holds
+            (Going self.old.lines text (M.state machine.old, world.old))
+            (whole_from self.old.line.items part.now) }
         ensures kept { result ≡ Ran.Done → M.keeps (M.state machine.new) world.new }
         ensures further { result ≡ Ran.Done
             → self.old.lines * 1048578 + vec_len self.old.line + length part.now ≤ self.new.lines *
@@ -174,6 +182,10 @@ impl Splitter {
             → RefusesLine M.step_of M.because
             (Going self.old.lines text (M.state machine.old, world.old))
             (lines_from self.old.line.items (piece.now ++ more)) fault }
+        ensures taken { result ≡ Ran.Done → (text : List ℕ)
+            → HoldsOfEach M.step_of M.holds
+            (Going self.old.lines text (M.state machine.old, world.old))
+            (whole_from self.old.line.items piece.now) }
         ensures kept { result ≡ Ran.Done → M.keeps (M.state machine.new) world.new }
         ensures further { result ≡ Ran.Done
             → self.old.lines * 1048578 + vec_len self.old.line + length piece.now ≤ self.new.lines *
@@ -210,6 +222,10 @@ impl Splitter {
             → RefusesLine M.step_of M.because
             (Going self.old.lines text (M.state machine.old, world.old))
             (last_line self.old.line.items) fault }
+        ensures taken { result ≡ Ran.Done → (text : List ℕ)
+            → HoldsOfEach M.step_of M.holds
+            (Going self.old.lines text (M.state machine.old, world.old))
+            (last_line self.old.line.items) }
         ensures counted { K.faults out.old ≤ K.faults out.new }
         ensures cause { result ≡ Ran.SinkFailed → Rose (K.faults out.old) (K.faults out.new) }
     {

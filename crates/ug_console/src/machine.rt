@@ -41,6 +41,9 @@ pub trait Machine<W> {
     /// What speaks against a line that is refused, whatever it comes to by `step_of`.
     ghost because: { State × W → List ℕ → Fault → Type 0 };
 
+    /// What is so of a line that it takes, whatever that comes to by `step_of`.
+    ghost holds: { State × W → List ℕ → Type 0 };
+
     /// Takes a line, and writes its text.
     fn step<K: Sink>(&mut self, alloc: Global, world: &mut W, line: &[u8], out: &mut K) -> Ran
         requires { keeps (state self.old) world.old }
@@ -49,6 +52,7 @@ pub trait Machine<W> {
         ensures kept { result ≡ Ran.Done → keeps (state self.new) world.new }
         ensures why { (fault : Fault) → fault_in result ≡ Some fault
             → because (state self.old, world.old) line.now fault }
+        ensures taken { result ≡ Ran.Done → holds (state self.old, world.old) line.now }
         ensures counted { K.faults out.old ≤ K.faults out.new }
         ensures cause { result ≡ Ran.SinkFailed → Rose (K.faults out.old) (K.faults out.new) };
 

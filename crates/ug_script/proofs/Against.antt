@@ -5,7 +5,7 @@ use Rattle.std.proofs.lemmas.Option.{same_Some}
 use Rattle.std.specs.Cmp.Lexicographic.{pointwise, same_text}
 use Rattle.ug_decimals.proofs.Numerals.{text_itself}
 use Rattle.ug_sysfs.specs.World.{World, moved}
-use Rattle.ug_console.specs.Fold.{Fault, BadLine, InputTooLong, Outcome, Writes, Refused, Stage, Going, Halted, of_first, plays}
+use Rattle.ug_console.specs.Fold.{Fault, BadLine, InputTooLong, Writes, Refused, Stage, Going, Halted, of_first, plays}
 use Rattle.ug_console.specs.Refusals.{AtEnd, AtLine, RefusesLines, fault_in}
 use Rattle.ug_console.specs.Runs.{Steps}
 use Rattle.ug_console.specs.declared.machine.Ran.{Ran}
@@ -17,10 +17,10 @@ use Rattle.ug_script.specs.declared.step.Step.TheVariants as step
 use Rattle.ug_script.specs.Against.{AreRefused, BehindSetup, LacksNumbers, NoHeader, NoRoom, NoStep, NotTaken, RefusesScript, SpeaksAgainst, starts_daemon}
 use Rattle.ug_script.specs.Grammar.{step_of_line}
 use Rattle.ug_script.specs.Laws.{StaysLawful}
-use Rattle.ug_script.specs.Replay.{StartsAgain, bad, event_by, first_step, header, in_script, line_added, planned, quiet, restarted, script_end, script_step, taken_if, with_devices, with_plan}
+use Rattle.ug_script.specs.Replay.{StartsAgain, bad, event_by, header, in_script, line_added, planned, quiet, restarted, script_end, script_step, taken_if, with_devices, with_plan}
 use Rattle.ug_script.specs.Script.{Phase, SettingUp, Unstarted, Started, Script, can_start, daemon_in, disk_in, fits_file, fresh, has_started, takes_setup, with_setup_closed}
 use Rattle.ug_script.specs.Setup.{SetupState, one_line_more, rules_from}
-use Rattle.ug_script.specs.Summing.{Summary, no_totals, summary_end, summary_step, totals_of}
+use Rattle.ug_script.specs.Summing.{Summary, no_totals, summary_end, summary_step}
 use Rattle.ug_script.proofs.Summed.{summed, sums_up}
 
 -- ---- a refused line

@@ -15,7 +15,7 @@ use Rattle.ug_play.proofs.Plays.{TellsWant, played, refused, runs_out}
 use Rattle.ug_play.proofs.Wants.{memory_more}
 use Rattle.ug_kernel.proofs.Ways.{Went, ways_more, ways_run}
 use Rattle.ug_print.specs.RuleTexts.{rules_limit}
-use Rattle.ug_rules.specs.RuleFile.{permanent_text}
+use Rattle.ug_rules.specs.RuleFile.{CanSave, permanent_text}
 use Rattle.ug_store.specs.PlayDisk.{play_disk}
 use Rattle.ug_store.specs.Scripted.{DiskWorld, MemKeeps, coming_up}
 use Rattle.ug_store.specs.Store.{RunsDisk, saving}
@@ -26,6 +26,7 @@ use Rattle.ug_core.specs.Answering.{acting, asking, deed_after}
 use Rattle.ug_core.specs.Changes.{changed_by, is_saved}
 use Rattle.ug_core.specs.Event.{DaemonState, handling, has_numbers, if_pending, ready, trying}
 use Rattle.ug_core.specs.Laws.{RunsAnswer, RunsOrder}
+use Rattle.ug_core.specs.Stops.{IsReadable}
 use Rattle.ug_core.specs.Storing.{after_saving, if_fits, if_saved, stored_with, storing}
 use Rattle.ug_core.specs.declared.changes.Change.{Change}
 use Rattle.ug_core.specs.declared.choosing.Choice.{Choice}
@@ -38,9 +39,12 @@ use Rattle.ug_console.specs.Runs.{Steps, Closes}
 use Rattle.ug_console.specs.declared.machine.Ran.{Ran}
 use Rattle.ug_console.specs.declared.machine.Ran.TheVariants.{Done, Bad, TooLong, SinkFailed, Memory}
 use Rattle.ug_console.specs.Fold.{Fault, Outcome, Writes, Refused}
+use Rattle.ug_script.specs.declared.step.Step.TheVariants.{Event}
+use Rattle.ug_script.specs.Journal.{happened_from}
+use Rattle.ug_script.specs.LinesRead.{StepReads}
 use Rattle.ug_script.specs.Setup.{SetupState, StartsOn, after_reading, rules_disk, rules_from, started}
 use Rattle.ug_script.specs.Script.{Script, Phase, SettingUp, Unstarted, Started, daemon_by, disk_by, has_started, fits_file}
-use Rattle.ug_script.specs.Replay.{IsEventPlayed, OrderPlayed, Played, answered_by, begun_again, came_of, finished, event_by, event_from, event_taken, halted, in_script, stop_in, stopped_of, stopped_text, swept_behind, swept_over, tells, tried_by, with_choice, with_played, with_store}
+use Rattle.ug_script.specs.Replay.{IsEventPlayed, OrderPlayed, Played, answered_by, answered_from, begun_again, begun_disk, came_of, finished, event_by, event_from, event_taken, halted, in_script, stop_in, stopped_of, stopped_text, swept_behind, swept_over, tells, tried_by, with_choice, with_played, with_store}
 use Rattle.ug_script.proofs.Halts.{halted_told}
 use Rattle.ug_script.proofs.Answers.{ActsSo, Asks, CanAct, SweepsSo, acting_ways, asking_ways, asks_can, asks_short, handling_ways, is_short_deed, short_asks, stored_can, stored_so}
 
@@ -251,8 +255,35 @@ module _ (event : daemon.Event) (d : DaemonState) (s : World) (o : DiskWorld) (t
     ]
   ]
 
+  -- where nothing tells want of memory, the save of its order became what is fixed
+  became_so : (w : World) → s ≡ halted q (begun w) → tells_memory e.sweep.entries ≡ false → t.ran_out ≡ false → p.ran_out ≡ false → became ≡ (answered_from event d w o).became
+  became_so w same quiet ran kept = elim (is_played (λ (x : Option Saved). x ≡ Some saved.Memory) (trying d) o tried q (trying_ends d) tries) [
+    | inl x ↦ elim (order_played event (ready event tried d) s q became m p a h) [
+      | inl y ↦
+          ap (λ (u : OrderPlayed). u.became) y
+          ∙ ap (λ (u : World). (answered_by event (ready event tried d) u q).became) same
+          ∙ ap (λ (u : Option Saved). (answered_by event (ready event u d) (halted q (begun w)) q).became) x.0
+          ∙ ap (λ (u : DiskWorld). (answered_by event (ready event (tried_by d o).0 d) (halted u (begun w)) u).became) x.1
+      | inr y ↦ elim y [
+        | inl z ↦ absurd (both_ways (tells_memory e.sweep.entries) quiet (tells_on a e swept_on z))
+        | inr z ↦ elim z [
+          | inl out ↦ absurd (both_ways t.ran_out ran (runs_out (handling a) v e t k (ap (λ (u : World). u.ran_out) resumed ∙ halted_told p m ∙ out)))
+          | inr out ↦ absurd (both_ways p.ran_out kept out)
+        ]
+      ]
+    ]
+    | inr y ↦ elim y [
+      | inl z ↦ absurd (both_ways (tells_memory e.sweep.entries) quiet (tells_on a e swept_on (tells_on (ready event tried d) a (answer_goes_on event (ready event tried d) s q became m p a h) (short_try event d tried z))))
+      | inr z ↦ absurd (both_ways p.ran_out kept (answer_stays_out event (ready event tried d) s q became m p a h z))
+    ]
+  ]
+
 pub event_played : (event : daemon.Event) (d : DaemonState) (w s : World) (o : DiskWorld) (tried : Option Saved) (q : DiskWorld) → RunsDisk MemKeeps o (trying d) tried q → (became : Stored) (m : World) (p : DiskWorld) (a : DaemonState) → RunsAnswer Gives MemKeeps event s q (ready event tried d) became m p a → (v : World) → v ≡ halted p m → (e : DaemonState) (t : World) → Runs Gives v (handling a) e t → (start : World) → start ≡ begun w → s ≡ halted q start → IsEventPlayed event d w o e t p
 event_played event d w s o tried q tries became m p a h v resumed e t k start begins same = by_try event d s o tried q tries became m p a h v resumed e t k w (same ∙ ap (λ (u : World). halted q u) begins)
+
+pub event_became : (event : daemon.Event) (d : DaemonState) (w s : World) (o : DiskWorld) (tried : Option Saved) (q : DiskWorld) → RunsDisk MemKeeps o (trying d) tried q → (became : Stored) (m : World) (p : DiskWorld) (a : DaemonState) → RunsAnswer Gives MemKeeps event s q (ready event tried d) became m p a → (v : World) → v ≡ halted p m → (e : DaemonState) (t : World) → Runs Gives v (handling a) e t → (start : World) → start ≡ begun w → s ≡ halted q start
+    → tells_memory e.sweep.entries ≡ false → t.ran_out ≡ false → p.ran_out ≡ false → became ≡ (answered_from event d w o).became
+event_became event d w s o tried q tries became m p a h v resumed e t k start begins same = became_so event d s o tried q tries became m p a h v resumed e t k w (same ∙ ap (λ (u : World). halted q u) begins)
 
 -- ---- its text
 
@@ -342,3 +373,15 @@ pub first_numbers : (setup : SetupState) (phase : Phase) (d : DaemonState) (o : 
 first_numbers setup SettingUp d o w new is on h = subst (λ (x : DiskWorld). has_numbers (started setup) w.faults x.faults ≡ false) on (subst (λ (x : DaemonState). has_numbers x w.faults o.faults ≡ false) is h)
 first_numbers setup Unstarted d o w new is on h = subst (λ (x : DiskWorld). has_numbers (started setup) w.faults x.faults ≡ false) on (subst (λ (x : DaemonState). has_numbers x w.faults o.faults ≡ false) is h)
 first_numbers setup (Started e disk) d o w new is on h = let none : ⊥ = cc in absurd none
+
+-- and so its rules can be read again
+pub first_reads : (event : daemon.Event) (setup : SetupState) (phase : Phase) (d : DaemonState) (o : DiskWorld) (plan : List Planned) (w : World) → has_started phase ≡ false → d ≡ started setup → o ≡ rules_disk setup → CanSave setup.rules → IsReadable (happened_from event d w (begun_disk plan o)) → StepReads (Some (Event event)) (record { setup = setup; phase = phase; planned = plan }) w
+first_reads event setup phase d o plan w new is on saves h = (λ n. saves, by_phase phase new)
+  where
+    this : IsReadable (happened_from event (started setup) w (begun_disk plan (rules_disk setup)))
+    this = subst (λ (x : DiskWorld). IsReadable (happened_from event (started setup) w (begun_disk plan x))) on (subst (λ (x : DaemonState). IsReadable (happened_from event x w (begun_disk plan o))) is h)
+
+    by_phase : (phase : Phase) → has_started phase ≡ false → IsReadable (happened_from event (daemon_by setup phase) w (begun_disk plan (disk_by setup phase)))
+    by_phase SettingUp new = this
+    by_phase Unstarted new = this
+    by_phase (Started e disk) new = let none : ⊥ = cc in absurd none

@@ -1,7 +1,8 @@
 -- The events of a script's lines are a chain from the daemon that the setup lines gave, what is written is the text of their entries,
 -- and a script without failures names nobody and judges each device once. Wherever lines lead, the script is lawful.
+use Rattle.std.proofs.lemmas.Bool.{leb-true}
 use Rattle.std.proofs.lemmas.Bool.Decides.{nat_tests}
-use Rattle.std.proofs.Common.{◌≡◌, ℕ, ◌+◌, ◌*◌, ◌<◌, ◌≤◌, arith, Bool, true, false, ◌&&◌, ◌||◌, cond, nat_eq, nat_lt, nat_le, map, List, [], ◌∷◌, ◌++◌, length, Option, Some, None, inl, inr, refl, sym, ◌∙◌, ap, subst, append_assoc, append-nil}
+use Rattle.std.proofs.Common.{◌≡◌, ℕ, ◌+◌, ◌*◌, ◌<◌, ◌≤◌, arith, Bool, true, false, ◌&&◌, ◌||◌, cond, nat_eq, nat_lt, nat_le, map, List, [], ◌∷◌, ◌++◌, length, flat_map, Option, Some, None, inl, inr, refl, sym, ◌∙◌, ap, subst, append_assoc, append-nil}
 use Rattle.std.specs.Cmp.Lexicographic.{pointwise}
 use Rattle.std.specs.List.{list_any}
 use Rattle.ug_types.specs.Elements.{Has}
@@ -28,6 +29,7 @@ use Rattle.ug_core.specs.Policy.{Judging}
 use Rattle.ug_core.specs.Answering.{acting, asking, deed_after}
 use Rattle.ug_core.specs.Durable.{IsKept}
 use Rattle.ug_core.specs.Event.{DaemonState, handling, has_numbers, ready, trying}
+use Rattle.ug_core.specs.Stops.{AllReadable}
 use Rattle.ug_core.specs.Storing.{stored_with, storing}
 use Rattle.ug_core.specs.Chain.{Happened, Chain, journal}
 use Rattle.std.proofs.Common.{Result, Ok, Err}
@@ -40,15 +42,16 @@ use Rattle.ug_store.specs.PlayDisk.{play_disk}
 use Rattle.ug_store.specs.declared.mishap.Planned.{Planned}
 use Rattle.ug_store.proofs.PlayedDisk.{play_runs_disk, play_stays_possible, play_stays_told}
 use Rattle.ug_rule.specs.Files.{file_read}
-use Rattle.ug_store.specs.MemLaw.{mem_did}
+use Rattle.ug_rules.specs.RuleFile.{IsRuleFile, permanent_rules}
 use Rattle.ug_store.specs.Scripted.{DiskWorld, MemKeeps, coming_up, disk_told, forgetting}
 use Rattle.ug_print.specs.RuleTexts.{rules_limit, rules_text_of}
 use Rattle.ug_types.specs.declared.rule.Rule.{Rule}
 use Rattle.ug_sysfs.specs.World.{Gives}
 use Rattle.ug_play.proofs.Plays.{play_runs}
 use Rattle.ug_core.specs.Chain.{IsEvent, StaysOnDisk}
-use Rattle.ug_core.proofs.Kept.{kept_event, stays_there}
-use Rattle.ug_core.proofs.Plain.{SameRules, event_keeps_pending, event_keeps_rules}
+use Rattle.ug_core.proofs.Kept.{stays_there}
+use Rattle.ug_core.proofs.Plain.{event_keeps_pending}
+use Rattle.ug_core.proofs.Readable.{all_permanent}
 use Rattle.ug_core.proofs.Tried.{tries_save}
 use Rattle.ug_core.proofs.Verdicts.{steps_later}
 use Rattle.ug_core.proofs.SoFar.{journal_append}
@@ -59,15 +62,16 @@ use Rattle.ug_script.specs.declared.step.Plan.TheVariants as plan
 use Rattle.ug_script.specs.declared.step.Step.{Step}
 use Rattle.ug_script.specs.declared.step.Step.TheVariants.{Skip, Setup, Move, Schedule, Event, Restart}
 use Rattle.ug_script.specs.Grammar.{step_of_line}
-use Rattle.ug_script.specs.Setup.{Beside, SetupState, no_setup, one_line_more, beside_of, after_reading, policy_of, rules_disk, rules_from, rules_if_read, started, started_at, steps_of, with_rules}
+use Rattle.ug_script.specs.Setup.{Beside, SetupState, no_setup, one_line_more, beside_of, after_reading, policy_of, rules_disk, rule_asked, rules_from, rules_if_read, started, started_at, steps_of, with_rules}
 use Rattle.ug_script.specs.Script.{Script, Phase, fresh, takes_setup, has_started, closed_phase, with_setup_closed, daemon_by, daemon_in, disk_by, disk_in, can_start}
 use Rattle.ug_script.specs.Replay.{header, outcome_of, outcome_text, quiet, bad, line_added, with_devices, with_plan, with_played, with_restart, planned, Played, answered_by, answered_from, answered_of, begun_again, came_of, disk_of, event_from, event_of, finished, halted, in_script, left_played, restarted, stopped_of, stopped_text, taken, taken_if, tried_by, script_step}
 use Rattle.ug_script.specs.Laws.{calls_of, faults_of, StaysLawful}
 use Rattle.ug_script.specs.Journal.{happened_at, left_by, left_behind, EventsOfRuns, RunEnd, no_events, with_end, with_events, with_stop, runs_by, runs_after, runs_in, stop_of, text_to_stop, journals, journal_of, events_text, run_text, runs_text, text_of_runs, RunStart, first_start, HoldsAtStart, IsDaemonRun, EndedRun, AreSuccessive, JudgesOnce, is_quiet, AreQuiet, Recorded, StaysRecorded}
+use Rattle.ug_script.proofs.FileTexts.{StandsBehind, event_file, event_stands, event_text, in_force_stands, readable_front, stands_so}
 use Rattle.ug_script.proofs.OnEntries.{event_on_entries}
 use Rattle.ug_script.proofs.Phases.{open_unstarted, closed_daemon, closed_disk, closed_started}
 use Rattle.ug_script.proofs.Halts.{halted_moves}
-use Rattle.ug_script.proofs.Lawful.{Holds, HoldsOf, answered_holds, answers, event_adds, made_by, swept_tells, halted_holds, handled, event_disk, event_holds, event_nobody, event_saved, move_holds, order_runs, plan_holds, no_standing, start_of, swept_from}
+use Rattle.ug_script.proofs.Lawful.{Holds, HoldsOf, answered_holds, answers, made_by, swept_tells, halted_holds, handled, event_disk, event_holds, event_nobody, event_saved, move_holds, order_runs, plan_holds, no_standing, start_of, swept_from}
 use Rattle.ug_script.proofs.Stopped.{lawful_event}
 use Rattle.ug_script.proofs.Numbers.{Fits, FitsOf, fits_more, event_fits, started_fits, fits_numbers}
 use Rattle.ug_script.proofs.Setups.{IsGiven, InSetup, given_first, given_still, given_added, given_setup, policy_new}
@@ -98,6 +102,7 @@ record Kept (first : World) (n : ℕ) (done : List (Option Step)) (runs : Events
   unmoved : AreQuiet done → first.moves ≡ [] → w.moves ≡ []
   unplanned : AreQuiet done → s.planned ≡ []
   saved : AreQuiet done → (daemon_in s).pending ≡ false
+  stands : IsRuleFile start.rules start.text → AllReadable runs.last → StandsBehind runs.last (daemon_in s) (disk_in s).disk.text
 
 abbrev KeptAfter : World → ℕ → List (Option Step) → EventsOfRuns → List ℕ → Outcome (Option Script × World) → Type 0
 KeptAfter first n done runs text (Writes more (Some s, w)) = Kept first n done runs (text ++ more) s w
@@ -154,6 +159,7 @@ setup_kept first n done runs text s w step setup lt opened h given =
       unmoved = λ q. h.unmoved (quiet_front done step q).0;
       unplanned = λ q. h.unplanned (quiet_front done step q).0;
       saved = λ q. ap (λ (d : DaemonState). d.pending) new;
+      stands = λ f r. in_force_stands runs.last (daemon_by setup s.phase) (disk_by setup s.phase).disk.text setup.rules (subst (λ (c : List ℕ). IsRuleFile setup.rules c) (sym (ap (λ (x : DiskWorld). x.disk.text) on)) f) (sym (ap (λ (d : DaemonState). permanent_rules d.sweep.judge.rules) new ∙ all_permanent 1 setup.rules));
     }
 
 added_kept : (first : World) (n : ℕ) (done : List (Option Step)) (runs : EventsOfRuns) (text : List ℕ) (s : Script) (w : World) (step : Option Step) (o : Option SetupState) → n < 1048576 → takes_setup s.phase ≡ true → Kept first n done runs text s w → InSetup (IsGiven (n + 1) (done ++ step ∷ [])) o → KeptAfter first (n + 1) (done ++ step ∷ []) runs text (line_added o s w)
@@ -196,6 +202,7 @@ on_kept first n done runs text s w v step phase plan lt h same on begun given ho
       unmoved = unmoved;
       unplanned = unplanned;
       saved = λ q. ap (λ (d : DaemonState). d.pending) same ∙ h.saved (quiet_front done step q).0;
+      stands = λ f r. subst (λ (x : DiskWorld). StandsBehind runs.last (daemon_by s.setup phase) x.disk.text) (sym on) (subst (λ (d : DaemonState). StandsBehind runs.last d (disk_in s).disk.text) (sym same) (h.stands f r));
     }
 
 closed_now : {X : Type 0} → false ≡ true → X
@@ -217,14 +224,12 @@ is_event first n done runs text event s w h =
     let p = event_from event d w o in
     let m : World = halted a.disk a.world in
     let runs = play_runs (handling a.daemon) m in
-    let swept : SameRules a.daemon.sweep.judge p.daemon.sweep = event_keeps_rules Gives m a.daemon p.daemon p.world runs in
-    let adds = event_adds event d w o in
     let made = made_by event d w o h.holds in
     let tells = swept_tells a.daemon m in
     record {
       answers = answers event d w o h.holds;
       handled = handled event d w o h.holds;
-      file = kept_event Gives MemKeeps disk_told mem_did event (start_of d w o) o d tried q a.became a.world a.disk a.daemon p.daemon adds.0 (play_runs_disk (trying d) o) (order_runs event (ready event tried d) (start_of d w o) q) adds.1 swept;
+      file = event_file event d w o;
       saves = tries_save Gives calls_of faults_of MemKeeps event o d tried q (start_of d w o) a.became made.made a.world a.disk a.daemon m p.world p.daemon tells.swept (play_runs_disk (trying d) o) (order_runs event (ready event tried d) (start_of d w o) q) made.goes tells.tells.goes tells.entries (event_keeps_pending Gives m a.daemon p.daemon p.world runs);
     }
 
@@ -261,6 +266,13 @@ journal_more runs h =
     ap (λ (es : List Entry). journals runs.ended ++ es) (journal_append runs.last (h ∷ []) ∙ ap (λ (es : List Entry). journal runs.last ++ es) (append-nil h.after.sweep.entries))
     ∙ sym (append_assoc (journals runs.ended) (journal runs.last) h.after.sweep.entries)
 
+-- the rule file behind it
+event_stood : (first : World) (n : ℕ) (done : List (Option Step)) (runs : EventsOfRuns) (text : List ℕ) (event : events.Event) (s : Script) (w : World) (h : Kept first n done runs text s w) → IsRuleFile h.start.rules h.start.text → AllReadable (runs.last ++ happened_at event s w ∷ []) → StandsBehind (runs.last ++ happened_at event s w ∷ []) (event_of event s w).daemon (event_of event s w).disk.disk.text
+event_stood first n done runs text event s w h f r =
+    let this : Happened = happened_at event s w in
+    let k = readable_front runs.last this r in
+    event_stands runs.last this k.1 (disk_in s).disk.text (event_of event s w).disk.disk.text (event_text event (daemon_in s) w (disk_of s) h.kept) (h.stands f k.0)
+
 event_kept : (first : World) (n : ℕ) (done : List (Option Step)) (runs : EventsOfRuns) (text : List ℕ) (event : events.Event) (s : Script) (w : World) → n < 1048576 → Kept first n done runs text s w
     → Kept first (n + 1) (done ++ Some (Event event) ∷ []) (with_events (happened_at event s w ∷ []) runs) (text ++ outcome_text (outcome_of (event_of event s w).daemon)) (with_played s (left_played (event_of event s w))) (over (event_of event s w).world)
 event_kept first n done runs text event s w lt h =
@@ -296,6 +308,7 @@ event_kept first n done runs text event s w lt h =
       saved = λ q.
           let quiet = (quiet_front done step q).0 in
           event_saved event d w o h.kept (h.unplanned quiet, refl) (h.saved quiet);
+      stands = event_stood first n done runs text event s w h;
     }
 
 -- ---- a restart
@@ -335,27 +348,34 @@ run_ended beside policy first (one ∷ runs) b run r h = (h.0, run_ended beside 
 told_now : (o : DiskWorld) → o.ran_out ≡ false → disk_told o ≡ Some o.disk
 told_now o none = rw none refl
 
--- the rules that a daemon starts with are those of the text, and no more than it takes
-from_text : (text : List ℕ) (rules : List Rule) → rules_from text ≡ Ok rules → (file_read text ≡ Ok rules) × (length rules ≤ 65536)
-from_text text rules h = by_length (nat_le (length text) file_limit) h
-  where
-    taken_from : (others : List Rule) (few fits : Bool) → nat_le (length others) 65536 ≡ few → cond (few && fits) (Ok others) (Err InputTooLong) ≡ Ok rules → (others ≡ rules) × (length rules ≤ 65536)
-    taken_from others true true e k =
-        let same : others ≡ rules = cc in
-        let few : length others ≤ 65536 = grind (arith, nat_tests, e) in
-        (same, subst (λ (rs : List Rule). length rs ≤ 65536) same few)
-    taken_from others true false e k = let none : ⊥ = cc in absurd none
-    taken_from others false fits e k = let none : ⊥ = cc in absurd none
+-- the rules are no more than a daemon takes, and a rule file has room for them
+abbrev AreTaken : List Rule → Type 0
+AreTaken rules = (length rules ≤ 65536) × (length (rules_text_of rules) ≤ rules_limit)
 
-    by_read : (r : Result (List Rule) TextFault) → file_read text ≡ r → rules_if_read r ≡ Ok rules → (file_read text ≡ Ok rules) × (length rules ≤ 65536)
+-- a text that a daemon starts with is a rule file
+from_text : (text : List ℕ) (rules : List Rule) → rules_from text ≡ Ok rules → IsRuleFile rules text
+from_text text rules h = by_length (nat_le (length text) file_limit) refl h
+  where
+    taken_from : (others : List Rule) (few fits : Bool) → nat_le (length others) 65536 ≡ few → nat_le (length (rules_text_of others)) rules_limit ≡ fits → cond (few && fits) (Ok others) (Err InputTooLong) ≡ Ok rules → (others ≡ rules) × AreTaken rules
+    taken_from others true true e f k =
+        let same : others ≡ rules = cc in
+        let few : length others ≤ 65536 = leb-true (length others) 65536 e in
+        let short : length (rules_text_of others) ≤ rules_limit = leb-true (length (rules_text_of others)) rules_limit f in
+        (same, (subst (λ (rs : List Rule). length rs ≤ 65536) same few, subst (λ (rs : List Rule). length (rules_text_of rs) ≤ rules_limit) same short))
+    taken_from others true false e f k = let none : ⊥ = cc in absurd none
+    taken_from others false fits e f k = let none : ⊥ = cc in absurd none
+
+    by_read : (r : Result (List Rule) TextFault) → file_read text ≡ r → rules_if_read r ≡ Ok rules → (file_read text ≡ Ok rules) × AreTaken rules
     by_read (Ok others) is k =
-        let x = taken_from others (nat_le (length others) 65536) (nat_le (length (rules_text_of others)) rules_limit) refl k in
+        let x = taken_from others (nat_le (length others) 65536) (nat_le (length (rules_text_of others)) rules_limit) refl refl k in
         (is ∙ ap (λ (rs : List Rule). Ok rs) x.0, x.1)
     by_read (Err bad) is k = let none : ⊥ = cc in absurd none
 
-    by_length : (b : Bool) → cond b (rules_if_read (file_read text)) (Err InputTooLong) ≡ Ok rules → (file_read text ≡ Ok rules) × (length rules ≤ 65536)
-    by_length true k = by_read (file_read text) refl k
-    by_length false k = let none : ⊥ = cc in absurd none
+    by_length : (b : Bool) → nat_le (length text) file_limit ≡ b → cond b (rules_if_read (file_read text)) (Err InputTooLong) ≡ Ok rules → IsRuleFile rules text
+    by_length true e k =
+        let x = by_read (file_read text) refl k in
+        record { reads = x.0; within = leb-true (length text) file_limit e; fits = x.1.1; few = x.1.0 }
+    by_length false e k = let none : ⊥ = cc in absurd none
 
 told_reading : (o : DiskWorld) → o.ran_out ≡ false → disk_told (after_reading o) ≡ Some (after_reading o).disk
 told_reading o none = rw none refl
@@ -392,7 +412,7 @@ restart_kept first n done runs text s w rules lt loaded h =
       daemon = d;
       is = run;
       next = b;
-      behind = record { file = o.disk; told = refl; text = refl; reads = read.0; kept = left_images beside policy h.start runs.last w.kernel o.disk d run o.disk.text h.possible; unsure = refl; number = refl; kernel = refl };
+      behind = record { file = o.disk; told = refl; text = refl; stands = read; rules = λ f r. stands_so runs.last d o.disk.text rules read.reads (h.stands f r); kept = left_images beside policy h.start runs.last w.kernel o.disk d run o.disk.text h.possible; unsure = refl; number = refl; kernel = refl };
     } in
     let file : Disk = (after_reading o).disk in
     let given : IsGiven (n + 1) (done ++ step ∷ []) s.setup = given_still n done step s.setup refl refl refl refl refl h.given in
@@ -405,12 +425,12 @@ restart_kept first n done runs text s w rules lt loaded h =
           let low : w.faults ≤ 2199023255552 * n = (h.fits e).few_faults in
           let low_disk : o.faults ≤ 2 * n = (h.fits e).few_disk_faults in
           let events : d.event ≤ n + 1 = (h.fits e).few_events in
-          started_fits (n + 1) d.event rules w.faults o.faults (omega (arith, events)) read.1 (omega (arith, low)) (omega (arith, low_disk));
+          started_fits (n + 1) d.event rules w.faults o.faults (omega (arith, events)) read.few (omega (arith, low)) (omega (arith, low_disk));
       given = given;
       kept = h.kept;
       possible = h.possible;
       start = b;
-      few_rules = read.1;
+      few_rules = read.few;
       file = file;
       at_start = record { text = refl; left = λ text is. inr (left_images beside policy h.start runs.last w.kernel o.disk d run text is) };
       ended = run_ended beside policy (first_start s.setup.rules first.kernel) runs.ended h.start (record { events = runs.last; stop = None }) this h.ended;
@@ -422,6 +442,7 @@ restart_kept first n done runs text s w rules lt loaded h =
       unmoved = λ q. h.unmoved (quiet_front done step q).0;
       unplanned = λ q. h.unplanned (quiet_front done step q).0;
       saved = λ q. refl;
+      stands = λ f r. in_force_stands [] (started_at d.event beside (with_rules rules policy)) o.disk.text rules f (sym (all_permanent 1 rules));
     }
 
 -- ---- a stop
@@ -463,7 +484,7 @@ stop_kept first n done runs text event s w call rules lt loaded h =
       daemon = p.daemon;
       is = run;
       next = b;
-      behind = record { file = p.disk.disk; told = refl; text = refl; reads = read.0; kept = left_images beside policy h.start hs k p.disk.disk p.daemon run p.disk.disk.text (event_possible event d w o h.kept h.possible); unsure = refl; number = refl; kernel = refl };
+      behind = record { file = p.disk.disk; told = refl; text = refl; stands = read; rules = λ f r. stands_so hs p.daemon p.disk.disk.text rules read.reads (event_stood first n done runs text event s w h f r); kept = left_images beside policy h.start hs k p.disk.disk p.daemon run p.disk.disk.text (event_possible event d w o h.kept h.possible); unsure = refl; number = refl; kernel = refl };
     } in
     let up : DiskWorld = coming_up p.disk in
     let file : Disk = (after_reading up).disk in
@@ -478,12 +499,12 @@ stop_kept first n done runs text event s w call rules lt loaded h =
           let low : p.world.faults ≤ 2199023255552 * (n + 1) = f.few_faults in
           let low_disk : p.disk.faults ≤ 2 * (n + 1) = f.few_disk_faults in
           let events : p.daemon.event ≤ (n + 1) + 1 = f.few_events in
-          started_fits (n + 1) p.daemon.event rules p.world.faults p.disk.faults events read.1 low low_disk;
+          started_fits (n + 1) p.daemon.event rules p.world.faults p.disk.faults events read.few low low_disk;
       given = given_still n done step s.setup refl refl refl refl refl h.given;
       kept = told;
       possible = inl refl;
       start = b;
-      few_rules = read.1;
+      few_rules = read.few;
       file = file;
       at_start = record { text = refl; left = λ text is. inl (only_image is) };
       ended = run_ended beside policy (first_start s.setup.rules first.kernel) runs.ended h.start (record { events = hs; stop = Some call }) ending h.ended;
@@ -497,6 +518,7 @@ stop_kept first n done runs text event s w call rules lt loaded h =
       unmoved = λ q e. refl;
       unplanned = λ q. refl;
       saved = λ q. refl;
+      stands = λ f r. in_force_stands [] (started_at p.daemon.event beside (with_rules rules policy)) p.disk.disk.text rules f (sym (all_permanent 1 rules));
     }
 
 -- an event, whether the machine stopped in it or not
@@ -665,6 +687,7 @@ kept_fresh first h = record {
   unmoved = λ x e. e;
   unplanned = λ x. refl;
   saved = λ x. refl;
+  stands = λ f r. in_force_stands [] (started no_setup) (rules_text_of []) [] f refl;
 }
 
 -- lines one after another
@@ -738,3 +761,10 @@ stays_lawful first run sound lines n text s w e =
       possible = h.possible;
       numbers = λ f. fits_numbers n (daemon_in s) w (disk_in s) h.few (h.fits f);
     }
+
+-- the rules of the setup are those of the `rule` lines; and before a daemon was started there is no run
+pub rules_given : (w : World) → w.ran_out ≡ false → IsKernel w.kernel → (lines : List (List ℕ)) (n : ℕ) (text : List ℕ) (s : Script) (v : World) → plays script_step (Going 0 [] (None, w)) lines ≡ Going n text (Some s, v) → s.setup.rules ≡ flat_map rule_asked (steps_of lines)
+rules_given first run sound lines n text s w e = (kept_all first run sound lines n text s w e).given.rules
+
+pub unstarted_runs : (w : World) → w.ran_out ≡ false → IsKernel w.kernel → (lines : List (List ℕ)) (n : ℕ) (text : List ℕ) (s : Script) (v : World) → plays script_step (Going 0 [] (None, w)) lines ≡ Going n text (Some s, v) → has_started s.phase ≡ false → runs_in w lines ≡ no_events
+unstarted_runs first run sound lines n text s w e = (kept_all first run sound lines n text s w e).none

@@ -17,7 +17,9 @@ pub mod Spent
 pub mod Numbers
 pub mod Setups
 pub mod Skimmed
+pub mod FileTexts
 pub mod Journals
+pub mod Carrying
 pub mod Filed
 mod FirstStop
 mod WholeLines

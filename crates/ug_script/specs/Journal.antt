@@ -13,38 +13,41 @@ use Rattle.ug_core.specs.Chain.{Happened, Chain, journal, IsRun, IsJudgedOnce, u
 use Rattle.ug_core.specs.Event.{DaemonState, has_numbers}
 use Rattle.ug_core.specs.Policy.{Judging}
 use Rattle.ug_core.specs.Rulings.{CanTake, PolicyStep, after_steps, changed_alone, judgements_for, words_for}
+use Rattle.ug_core.specs.Stops.{AllReadable, WasUnsaved}
 use Rattle.ug_core.specs.Verdicts.{IsLater}
 use Rattle.ug_core.specs.declared.daemon.Event as events
 use Rattle.ug_lines.specs.Lines.{lines_of}
 use Rattle.ug_print.specs.RuleTexts.{rules_text_of}
-use Rattle.ug_rule.specs.Files.{file_read}
-use Rattle.ug_rules.specs.RuleFile.{permanent_text}
+use Rattle.ug_rules.specs.RuleFile.{IsRuleFile, permanent_rules, permanent_text}
 use Rattle.ug_store.specs.Disk.{Disk, IsImage}
-use Rattle.ug_store.specs.Scripted.{disk_told}
+use Rattle.ug_store.specs.Scripted.{DiskWorld, disk_told}
 use Rattle.ug_console.specs.Fold.{Outcome, Writes, Refused, Going, plays}
 use Rattle.ug_script.specs.declared.step.Step.{Step}
 use Rattle.ug_script.specs.declared.step.Step.TheVariants.{Schedule, Event, Restart}
 use Rattle.ug_script.specs.Grammar.{step_of_line}
 use Rattle.ug_script.specs.Script.{Script, can_start, daemon_in, disk_in}
-use Rattle.ug_script.specs.Laws.{tried_of}
-use Rattle.ug_script.specs.Replay.{answered_of, event_of, outcome_of, outcome_text, script_step, stop_in, stopped_text}
+use Rattle.ug_script.specs.Replay.{answered_from, disk_of, event_from, event_of, outcome_of, outcome_text, script_step, stop_in, stopped_text, tried_by}
 use Rattle.ug_script.specs.Setup.{steps_of, conf_asked, rule_asked, IsSetup, Beside, started_at, with_rules}
+
+-- an event of a daemon over a kernel and a disk that are ready for it
+abbrev pub happened_from : events.Event → DaemonState → World → DiskWorld → Happened
+happened_from event d w o = record {
+  event = event;
+  tried = (tried_by d o).0;
+  kernel = w.kernel;
+  disk = disk_told o;
+  before = d;
+  became = (answered_from event d w o).became;
+  kernel_answered = (answered_from event d w o).world.kernel;
+  answered = (answered_from event d w o).daemon;
+  kernel_after = (event_from event d w o).world.kernel;
+  disk_after = disk_told (event_from event d w o).disk;
+  after = (event_from event d w o).daemon;
+}
 
 -- an event, with what is scheduled for it
 abbrev pub happened_at : events.Event → Script → World → Happened
-happened_at event s w = record {
-  event = event;
-  tried = tried_of s;
-  kernel = w.kernel;
-  disk = disk_told (disk_in s);
-  before = daemon_in s;
-  became = (answered_of event s w).became;
-  kernel_answered = (answered_of event s w).world.kernel;
-  answered = (answered_of event s w).daemon;
-  kernel_after = (event_of event s w).world.kernel;
-  disk_after = disk_told (event_of event s w).disk;
-  after = (event_of event s w).daemon;
-}
+happened_at event s w = happened_from event (daemon_in s) w (disk_of s)
 
 abbrev pub happens_at : events.Event → Script → World → List Happened
 happens_at event s w =
@@ -168,13 +171,25 @@ abbrev pub unsure_from : Option ℕ → List (List ℕ) → List (List ℕ)
 unsure_from None texts = texts
 unsure_from (Some call) texts = []
 
--- The next run begins where that one came to, with the number of the event that was next then. Its rules are those of the rule file, whose
--- text is one of those that a crash might have left.
-pub record StartsBehind (b : RunStart) (run : RunEnd) (k : Kernel) (p : Option Disk) (e : DaemonState) (c : RunStart) : Type 0 where
+-- The rules are the permanent ones that are in force behind these events; or these after just one
+-- order of them, which one who may asked for: the machine stopped in its save, or that failed, as
+-- its reply tells, and no save was done since.
+abbrev pub CarriesOn : List types.Rule → List Happened → DaemonState → Type 0
+CarriesOn rules hs e =
+    (rules ≡ permanent_rules e.sweep.judge.rules) ⊎ WasUnsaved hs e.sweep.judge.rules rules
+
+-- The next run begins where that one came to, with the number of the event that was next then. Its
+-- rules are those of the rule file, whose text is one of those that a crash might have left. Where
+-- the rules that the run began with can be read again from their text, and those that each of its
+-- events found, wrote and left, the next run carries it on.
+pub record StartsBehind (b : RunStart) (run : RunEnd) (k : Kernel) (p : Option Disk)
+    (e : DaemonState) (c : RunStart) : Type 0 where
   pub file : Disk
   pub told : p ≡ Some file
   pub text : c.text ≡ file.text
-  pub reads : file_read c.text ≡ Ok c.rules
+  pub stands : IsRuleFile c.rules c.text
+  pub rules : IsRuleFile b.rules b.text → AllReadable run.events
+      → CarriesOn c.rules run.events e
   pub kept : Has (left_behind b run.events e) c.text
   pub unsure : c.unsure ≡ unsure_from run.stop (left_behind b run.events e)
   pub number : c.number ≡ e.event

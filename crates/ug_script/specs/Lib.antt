@@ -11,6 +11,8 @@ pub mod Generating
 pub mod Summing
 pub mod Laws
 pub mod Journal
+pub mod LinesRead
+pub mod CarriedOn
 pub mod Example
 pub mod RuleFiles
 pub mod RuleLines

@@ -3,6 +3,9 @@ ghost use Rattle.std.specs.Prelude.{◌≡◌, ◌≤◌, ◌++◌, ◌∷◌, [
 ghost use Rattle.ug_types.specs.Ends.{Rose};
 ghost use Rattle.ug_console.specs.Runs.{Closes, Steps};
 ghost use Rattle.ug_core.specs.Event.{daemon_of, has_numbers};
+ghost use Rattle.ug_core.specs.Stops.{IsReadable};
+ghost use Rattle.ug_play.specs.Play.{tells_memory};
+ghost use Rattle.ug_script.specs.Journal.{happened_from};
 ghost use Rattle.ug_script.specs.RuleFiles.{IsStillOn};
 ghost use Rattle.ug_store.specs.Scripted.{coming_up, plan_at, stops_by};
 ghost use Rattle.ug_sysfs.specs.World.{World, over};
@@ -56,6 +59,10 @@ fn handle(alloc: Global, session: &mut Session, event: &Event, kernel: &mut SimK
     requires { has_numbers (daemon_of session.old.daemon) kernel.old.faults session.old.disk.faults ≡ true }
     ensures played { IsEventPlayed event.now (daemon_of session.old.daemon) kernel.old session.old.disk
         (daemon_of session.new.daemon) kernel.new session.new.disk }
+    ensures readable { tells_memory (daemon_of session.new.daemon).sweep.entries ≡ false
+        → kernel.new.ran_out ≡ false → session.new.disk.ran_out ≡ false
+        → IsReadable (happened_from event.now (daemon_of session.old.daemon) kernel.old
+        session.old.disk) }
     ensures all { session.new.daemon.report.entries.entries
         ≡ (daemon_of session.new.daemon).sweep.entries }
 {
@@ -208,6 +215,8 @@ fn play_event<K: Sink>(
         (event_from event.now (daemon_of session.old.daemon) kernel.old session.old.disk))
         (record { daemon = daemon_of session.new.daemon; world = kernel.new; disk = session.new.disk })
         (K.held out.old) (K.held out.new) result }
+    ensures readable { result ≡ Ran.Done → IsReadable (happened_from event.now
+        (daemon_of session.old.daemon) kernel.old session.old.disk) }
     ensures taken { (¬ (result ≡ Ran.Bad)) × (¬ (result ≡ Ran.TooLong)) }
     ensures counted { K.faults out.old ≤ K.faults out.new }
     ensures cause { result ≡ Ran.SinkFailed → Rose (K.faults out.old) (K.faults out.new) }
@@ -241,6 +250,8 @@ fn run_event<K: Sink>(
         (replay.begun_disk plan.now session.old.disk)))
         (record { daemon = daemon_of session.new.daemon; world = kernel.new; disk = session.new.disk })
         (K.held out.old) (K.held out.new) result }
+    ensures readable { result ≡ Ran.Done → IsReadable (happened_from event.now
+        (daemon_of session.old.daemon) kernel.old (replay.begun_disk plan.now session.old.disk)) }
     ensures taken { (¬ (result ≡ Ran.Bad)) × (¬ (result ≡ Ran.TooLong)) }
     ensures counted { K.faults out.old ≤ K.faults out.new }
     ensures cause { result ≡ Ran.SinkFailed → Rose (K.faults out.old) (K.faults out.new) }
@@ -264,6 +275,8 @@ pub fn next_event<K: Sink>(
     ensures ran { Steps (event_by setup.now event.now plan.now (daemon_of session.old.daemon) kernel.old session.old.disk)
         (record { daemon = daemon_of session.new.daemon; world = kernel.new; disk = session.new.disk })
         (K.held out.old) (K.held out.new) result }
+    ensures readable { result ≡ Ran.Done → IsReadable (happened_from event.now
+        (daemon_of session.old.daemon) kernel.old (replay.begun_disk plan.now session.old.disk)) }
     ensures numbers { result ≡ Ran.Bad
         → has_numbers (daemon_of session.old.daemon) kernel.old.faults session.old.disk.faults ≡ false }
     ensures short { ¬ (result ≡ Ran.TooLong) }

@@ -43,6 +43,8 @@ impl Machine<SimKernel> for Generator {
 
     ghost because = { λ p line fault. Unit {0} };
 
+    ghost holds = { λ p line. Unit {0} };
+
     fn step<K: Sink>(
         &mut self,
         alloc: Global,

@@ -8,6 +8,7 @@ ghost use Rattle.ug_sysfs.specs.World.{World};
 ghost use Rattle.ug_script.specs.Against.{LacksNumbers, SpeaksAgainst};
 ghost use Rattle.ug_script.specs.Generating.{generate_end, generate_step};
 ghost use Rattle.ug_script.specs.Grammar.{step_of_line};
+ghost use Rattle.ug_script.specs.LinesRead.{LineReads};
 ghost use Rattle.ug_script.specs.Replay.{Begins, StartsAgain, done_line, first_step, has_begun, interpreter_state, script_step, script_end};
 
 use crate::progress::Running;
@@ -70,6 +71,8 @@ impl Interpreter {
             (interpreter_state self.new, kernel.new) (K.held out.old) (K.held out.new) result }
         ensures why { (s : Script) → interpreter_state self.old ≡ Some s
             → StartsAgain (step_of_line line.now) s kernel.old result }
+        ensures readable { result ≡ Ran.Done
+            → LineReads (interpreter_state self.old, kernel.old) line.now }
         ensures counted { K.faults out.old ≤ K.faults out.new }
         ensures cause { result ≡ Ran.SinkFailed → Rose (K.faults out.old) (K.faults out.new) }
     {
@@ -156,6 +159,8 @@ impl Machine<SimKernel> for Interpreter {
     ghost keeps = { λ m w. Unit {0} };
 
     ghost because = { λ p line fault. SpeaksAgainst p line fault ⊎ LacksNumbers p line };
+
+    ghost holds = { LineReads };
 
     fn step<K: Sink>(
         &mut self,

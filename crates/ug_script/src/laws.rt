@@ -13,6 +13,7 @@ ghost use Rattle.ug_sysfs.specs.World.{World};
 ghost use Rattle.ug_audit.specs.declared.entry.Entry.TheVariants as entry;
 ghost use Rattle.ug_audit.specs.declared.entry.Fault.TheVariants as fault;
 ghost use Rattle.ug_script.specs.Against.{AreRefused};
+ghost use Rattle.ug_script.specs.CarriedOn.{StaysCarried};
 ghost use Rattle.ug_script.specs.Example.{first_played, event_at, event_with, plugged_in, replaced, failing, first_with_none, born_later, tenth_fails};
 ghost use Rattle.ug_sysfs.specs.declared.script.Move.{Move};
 ghost use Rattle.ug_sysfs.specs.declared.script.Move.TheVariants as move;
@@ -107,10 +108,12 @@ pub fn births_law()
 {}
 
 /// From a sound kernel each event of a script is fair and leaves each device settled or named, and the journal of all events
-/// explains each write.
+/// explains each write. Where the rules of each line can be read again from their texts, each run of the daemon begins with those that were
+/// in force, or with these after just one order in progress or in doubt.
 pub fn script_law()
     ensures lawful { (w : World) → w.ran_out ≡ false → IsKernel w.kernel → StaysLawful w }
     ensures recorded { (w : World) → w.ran_out ≡ false → IsKernel w.kernel → StaysRecorded w }
+    ensures carried { (w : World) → w.ran_out ≡ false → IsKernel w.kernel → StaysCarried w }
 {}
 
 /// Each line against which something speaks is refused, and for that fault.

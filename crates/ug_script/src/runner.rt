@@ -6,6 +6,7 @@ ghost use Rattle.ug_console.specs.Runs.{Closes};
 ghost use Rattle.ug_script.specs.Generating as generating;
 ghost use Rattle.ug_script.specs.Generating.{generate_end};
 ghost use Rattle.ug_script.specs.Grammar.{step_of_line};
+ghost use Rattle.ug_script.specs.LinesRead.{LineReads};
 ghost use Rattle.ug_script.specs.Script.{Script};
 ghost use Rattle.ug_script.specs.Replay.{StartsAgain, TakesLine, runner_state, script_end, script_step};
 
@@ -44,6 +45,8 @@ impl Runner {
             (K.held out.old) (K.held out.new) result (runner_state self.new) kernel.new }
         ensures why { (s : Script) → (runner_state self.old).script ≡ Some s → fold.is_within self.old.lines line.now ≡ true
             → StartsAgain (step_of_line line.now) s kernel.old result }
+        ensures readable { result ≡ Ran.Done
+            → LineReads ((runner_state self.old).script, kernel.old) line.now }
         ensures counted { K.faults out.old ≤ K.faults out.new }
         ensures cause { result ≡ Ran.SinkFailed → Rose (K.faults out.old) (K.faults out.new) }
     {
@@ -86,6 +89,8 @@ impl Runner {
         ensures why { (s : Script) → (runner_state self.old).so_far ≡ Ran.Done → (runner_state self.old).script ≡ Some s
             → fold.is_within (runner_state self.old).lines line.now ≡ true
             → StartsAgain (step_of_line line.now) s kernel.old result }
+        ensures readable { (runner_state self.old).so_far ≡ Ran.Done → result ≡ Ran.Done
+            → LineReads ((runner_state self.old).script, kernel.old) line.now }
         ensures counted { K.faults out.old ≤ K.faults out.new }
         ensures cause { (runner_state self.old).so_far ≡ Ran.Done → result ≡ Ran.SinkFailed
             → Rose (K.faults out.old) (K.faults out.new) }

@@ -6,6 +6,9 @@ ghost use Rattle.ug_sysfs.specs.World.{World, moved};
 ghost use Rattle.ug_script.specs.Generating as generating;
 ghost use Rattle.ug_script.specs.Generating.{skimmed, skimmed_if};
 ghost use Rattle.ug_script.specs.Grammar.{AsksForRule, AsksForRules, step_of_line};
+ghost use Rattle.ug_core.specs.Stops.{IsReadable};
+ghost use Rattle.ug_script.specs.Journal.{happened_from};
+ghost use Rattle.ug_script.specs.LinesRead.{FirstReads, StepReads};
 ghost use Rattle.ug_script.specs.Replay as replay;
 ghost use Rattle.ug_script.specs.Script as script;
 ghost use Rattle.ug_script.specs.Script.{can_start, daemon_in, disk_in, fresh, phase_of, with_setup_closed};
@@ -62,6 +65,9 @@ fn planned_event<K: Sink>(
     ensures ran { Steps (event_by setup.now event.now plan.old.items (daemon_of session.old.daemon) kernel.old session.old.disk)
         (record { daemon = daemon_of session.new.daemon; world = kernel.new; disk = session.new.disk })
         (K.held out.old) (K.held out.new) result }
+    ensures readable { result ≡ Ran.Done → IsReadable (happened_from event.now
+        (daemon_of session.old.daemon) kernel.old
+        (replay.begun_disk plan.old.items session.old.disk)) }
     ensures numbers { result ≡ Ran.Bad
         → has_numbers (daemon_of session.old.daemon) kernel.old.faults session.old.disk.faults ≡ false }
     ensures short { ¬ (result ≡ Ran.TooLong) }
@@ -167,6 +173,8 @@ impl Running {
         requires { script.has_started (phase_of self.old.phase) ≡ false }
         ensures ran { Steps (event_taken event.now (script_of self.old) kernel.old)
             (Some (script_of self.new), kernel.new) (K.held out.old) (K.held out.new) result }
+        ensures readable { result ≡ Ran.Done
+            → StepReads (Some (Step.Event event.now)) (script_of self.old) kernel.old }
         ensures numbers { result ≡ Ran.Bad → has_numbers (daemon_in (script_of self.old)) kernel.old.faults
             (disk_in (script_of self.old)).faults ≡ false }
         ensures short { result ≡ Ran.TooLong → can_start (script_of self.old).setup (script_of self.old).phase ≡ false }
@@ -192,6 +200,7 @@ impl Running {
         requires { script.has_started (phase_of self.old.phase) ≡ false }
         ensures silent { ¬ (result ≡ Ran.SinkFailed) }
         ensures given { ¬ (result ≡ Ran.Bad) }
+        ensures readable { result ≡ Ran.Done → FirstReads (script_of self.old) }
         ensures short { result ≡ Ran.TooLong → can_start (script_of self.old).setup (script_of self.old).phase ≡ false }
         ensures ran { (w : World) (held : Option (List ℕ)) → Steps (restart_taken (script_of self.old) w)
             (Some (script_of self.new), w) held held result }
@@ -212,6 +221,7 @@ impl Running {
     fn restart(&mut self, alloc: Global) -> Ran
         ensures silent { ¬ (result ≡ Ran.SinkFailed) }
         ensures given { ¬ (result ≡ Ran.Bad) }
+        ensures readable { result ≡ Ran.Done → FirstReads (script_of self.old) }
         ensures short { result ≡ Ran.TooLong → can_start (script_of self.old).setup (script_of self.old).phase ≡ false }
         ensures ran { (w : World) (held : Option (List ℕ)) → Steps (restart_taken (script_of self.old) w)
             (Some (script_of self.new), w) held held result }
@@ -231,6 +241,8 @@ impl Running {
     ) -> Ran
         ensures ran { Steps (event_taken event.now (script_of self.old) kernel.old)
             (Some (script_of self.new), kernel.new) (K.held out.old) (K.held out.new) result }
+        ensures readable { result ≡ Ran.Done
+            → StepReads (Some (Step.Event event.now)) (script_of self.old) kernel.old }
         ensures numbers { result ≡ Ran.Bad → has_numbers (daemon_in (script_of self.old)) kernel.old.faults
             (disk_in (script_of self.old)).faults ≡ false }
         ensures short { result ≡ Ran.TooLong → can_start (script_of self.old).setup (script_of self.old).phase ≡ false }
@@ -276,6 +288,8 @@ impl Running {
         ensures ran { Steps (taken_if (step_of_line line.now) (script_of self.old) kernel.old)
             (Some (script_of self.new), kernel.new) (K.held out.old) (K.held out.new) result }
         ensures why { StartsAgain (step_of_line line.now) (script_of self.old) kernel.old result }
+        ensures readable { result ≡ Ran.Done
+            → StepReads (step_of_line line.now) (script_of self.old) kernel.old }
         ensures counted { K.faults out.old ≤ K.faults out.new }
         ensures cause { result ≡ Ran.SinkFailed → Rose (K.faults out.old) (K.faults out.new) }
     {
@@ -298,6 +312,8 @@ impl Running {
         ensures ran { Steps (taken step (script_of self.old) kernel.old)
             (Some (script_of self.new), kernel.new) (K.held out.old) (K.held out.new) result }
         ensures why { StartsAgain (Some step) (script_of self.old) kernel.old result }
+        ensures readable { result ≡ Ran.Done
+            → StepReads (Some step) (script_of self.old) kernel.old }
         ensures counted { K.faults out.old ≤ K.faults out.new }
         ensures cause { result ≡ Ran.SinkFailed → Rose (K.faults out.old) (K.faults out.new) }
     {

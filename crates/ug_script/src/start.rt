@@ -1,7 +1,7 @@
 // The daemons that a script starts.
 ghost use Rattle.std.specs.Prelude.{◌≡◌, ◌≤◌, length, pos, true, false, Err, Ok, IfOk, IfSome, IsTrue, OnErr, OnOk};
 ghost use Rattle.ug_console.specs.Fold.{BadLine, InputTooLong};
-ghost use Rattle.ug_rules.specs.RuleFile.{IsSaveable};
+ghost use Rattle.ug_rules.specs.RuleFile.{CanSave, IsSaveable};
 ghost use Rattle.ug_script.specs.RuleFiles.{IsStillOn};
 ghost use Rattle.ug_core.specs.Event.{daemon_of};
 ghost use Rattle.ug_core.specs.Policy.{clock_of};
@@ -174,6 +174,7 @@ pub fn start_daemon(alloc: Global, setup: &Setup) -> Result<Session, RulesTextFa
     ensures daemon { IfOk result (λ s. daemon_of s.daemon ≡ started setup.now) }
     ensures disk { IfOk result (λ s. s.disk ≡ rules_disk setup.now) }
     ensures fits { OnOk result (fits_file setup.now ≡ true) }
+    ensures saves { OnOk result (CanSave setup.now.rules) }
     ensures too_long { result ≡ Err RulesTextFault.TooLong → fits_file setup.now ≡ false }
 {
     let few = are_few(setup);

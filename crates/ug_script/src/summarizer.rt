@@ -6,6 +6,7 @@ ghost use Rattle.ug_console.specs.declared.results.Ended.{Ended};
 ghost use Rattle.ug_kernel.specs.Kernel.{IsKernel};
 ghost use Rattle.ug_lines.specs.Lines.{lines_of};
 ghost use Rattle.ug_script.specs.Against.{LacksNumbers, RefusesScript, SpeaksAgainst};
+ghost use Rattle.ug_script.specs.LinesRead.{LineReads};
 ghost use Rattle.ug_script.specs.Summing.{Summary, TellsSummary, no_totals, summary_end, summary_of, summary_step};
 
 use crate::interpreter::Interpreter;
@@ -47,6 +48,8 @@ impl Machine<SimKernel> for Summarizer {
 
     ghost because = { λ p line fault.
         SpeaksAgainst (p.0.0, p.1) line fault ⊎ LacksNumbers (p.0.0, p.1) line };
+
+    ghost holds = { λ p line. LineReads (p.0.0, p.1) line };
 
     fn step<K: Sink>(
         &mut self,

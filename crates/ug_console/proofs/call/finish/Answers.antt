@@ -3,6 +3,7 @@ use Rattle.ug_console.proofs.Faults.{rose-concluded}
 use Rattle.ug_console.proofs.Ending.{finish-closed, finish-stopped}
 use Rattle.ug_console.specs.Runs.{words_of}
 use Rattle.ug_console.proofs.Refusing.{end-closed, end-stopped}
+use Rattle.ug_console.proofs.Taking.{unended}
 use Rattle.ug_console.proofs.call.finish.Goals as goal
 
 pub returns-in-Done-clause-told : goal.returns-in-Done-clause-told
@@ -20,6 +21,7 @@ returns-in_default g c = record {
       c.last.result c.last.new.self.lines (g.M.Machine.state c.last.new.machine, c.last.new.world) (g.K.Sink.held c.last.new.out) (g.K.Sink.held c.conclude-in_default.new.out) c.conclude-in_default.result c.in_default.not-Done c.last.ensures.told c.conclude-in_default.ensures.told;
   why = end-stopped g.M.Machine.step_of g.M.Machine.because g.M.Machine.closing c.args.splitter.now.line.items c.args.splitter.now.lines (g.M.Machine.state c.args.machine.now, c.args.world.now)
       c.last.result (g.K.Sink.held c.last.new.out) (g.K.Sink.held c.conclude-in_default.new.out) (words_of c.last.result c.last.new.self.lines) c.conclude-in_default.result c.last.ensures.why c.conclude-in_default.ensures.told;
+  taken = λ e. absurd (unended c.last.result (g.K.Sink.held c.last.new.out) (g.K.Sink.held c.conclude-in_default.new.out) (words_of c.last.result c.last.new.self.lines) c.conclude-in_default.result c.in_default.not-Done c.conclude-in_default.ensures.told e);
   not_read = c.conclude-in_default.ensures.not_read;
   counted = omega (arith, c.last.ensures.counted, c.conclude-in_default.ensures.counted);
   cause = λ e. rose-concluded c.last.result (g.K.Sink.faults c.args.out.now) (g.K.Sink.faults c.last.new.out) (g.K.Sink.faults c.conclude-in_default.new.out) c.last.ensures.counted c.conclude-in_default.ensures.counted c.last.ensures.cause (λ n. c.conclude-in_default.ensures.cause n e);

@@ -1,10 +1,13 @@
-use Rattle.std.proofs.Common.{◌≤◌, ◌+◌, ◌*◌, ◌-◌, vec_len}
+use Rattle.std.proofs.Common.{◌≤◌, ◌+◌, ◌*◌, ◌-◌, [], vec_len}
+use Rattle.ug_lines.specs.Lines.{whole_lines}
+use Rattle.ug_console.specs.Fold.{Going}
+use Rattle.ug_console.specs.Refusals.{HoldsOfEach}
 use Rattle.ug_console.specs.Runs.{Reads}
 use Rattle.ug_console.proofs.call.replay.Given as goal
 
 abbrev pub invariant-pieces : goal.invariant-pieces
 invariant-pieces g l = record {
-  reads : Reads g.M.Machine.step_of (g.M.Machine.state l.fn.machine, l.fn.world) (g.S.Source.left l.fn.input) (g.S.Source.left l.input) (g.K.Sink.held l.fn.out) (g.K.Sink.held l.out) l.splitter.line.items l.splitter.lines (g.M.Machine.state l.machine, l.world);
+  reads : (reads : Reads g.M.Machine.step_of (g.M.Machine.state l.fn.machine, l.fn.world) (g.S.Source.left l.fn.input) (g.S.Source.left l.input) (g.K.Sink.held l.fn.out) (g.K.Sink.held l.out) l.splitter.line.items l.splitter.lines (g.M.Machine.state l.machine, l.world)) × HoldsOfEach g.M.Machine.step_of g.M.Machine.holds (Going 0 [] (g.M.Machine.state l.fn.machine, l.fn.world)) (whole_lines reads.taken);
   kept : g.M.Machine.keeps (g.M.Machine.state l.machine) l.world;
   source : g.S.Source.faults l.fn.input ≤ g.S.Source.faults l.input;
   sink : g.K.Sink.faults l.fn.out ≤ g.K.Sink.faults l.out;

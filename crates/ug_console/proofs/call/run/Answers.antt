@@ -1,6 +1,6 @@
 use Rattle.std.proofs.Common.{ℕ, subst, sym, ◌∙◌}
 use Rattle.ug_console.specs.Statuses.{Answers}
-use Rattle.ug_console.proofs.Outputs.{answers, read-only, refused-only, written-only}
+use Rattle.ug_console.proofs.Outputs.{answers, done-only, read-only, refused-only, written-only}
 use Rattle.ug_console.proofs.call.run.Goals as goal
 
 pub returns-clause-answers : goal.returns-clause-answers
@@ -10,6 +10,9 @@ returns-clause-answers g c = λ all base a b.
 
 pub returns-clause-refused : goal.returns-clause-refused
 returns-clause-refused g c = λ all is e. let fault = refused-only c.replay.result (sym c.status.ensures ∙ e) in (fault.0, c.replay.ensures.why all is fault.0 fault.1)
+
+pub returns-clause-taken : goal.returns-clause-taken
+returns-clause-taken g c = λ all is e. c.replay.ensures.taken all is (done-only c.replay.result (sym c.status.ensures ∙ e))
 
 pub returns-clause-read : goal.returns-clause-read
 returns-clause-read g c = λ e. c.replay.ensures.read (read-only c.replay.result (sym c.status.ensures ∙ e))

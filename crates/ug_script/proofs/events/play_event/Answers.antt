@@ -17,3 +17,9 @@ returns-clause-ran g c =
     let x : Played = event_from c.args.event.now (daemon_of c.args.session.now.daemon) c.args.kernel.now c.args.session.now.disk in
     let same : p ≡ x = event_fixed c.args.event.now (daemon_of c.args.session.now.daemon) c.args.kernel.now c.args.session.now.disk p.daemon p.world p.disk c.handle.ensures.played (search rules) (search rules) (search rules) in
     came_ended c.args.setup.now c.args.plan.now p x (daemon_of c.write_event.new.session.daemon) c.end_event.new.self c.write_event.new.session.disk (g.K.Sink.held c.args.out.now) (g.K.Sink.held c.write_event.new.out) c.write_event.result same (sym c.stopped.ensures ∙ c.if-stopped.false) c.end_event.ensures (c.write_event.ensures.ran p.world)
+
+pub returns-then-stopped-clause-readable : goal.returns-then-stopped-clause-readable
+returns-then-stopped-clause-readable g c done = c.handle.ensures.readable (search rules) (search rules) (search rules)
+
+pub returns-clause-readable : goal.returns-clause-readable
+returns-clause-readable g c done = c.handle.ensures.readable (search rules) (search rules) (search rules)

@@ -1,5 +1,6 @@
 use Rattle.std.proofs.Common.{◌≤◌, ◌+◌, ◌*◌, ◌-◌, length, take, vec_len}
 use Rattle.ug_console.specs.Runs.{Feeds}
+use Rattle.ug_console.proofs.Taking.{Taking}
 use Rattle.ug_console.specs.declared.machine.Ran.TheVariants.{Done}
 use Rattle.ug_console.proofs.feed.Splitter.feed.Given as goal
 
@@ -8,6 +9,7 @@ invariant-loop-at g l = record {
   within : l.at ≤ length l.piece;
   fed : Feeds g.M.Machine.step_of l.fn.self.line.items l.fn.self.lines (g.M.Machine.state l.fn.machine, l.fn.world) (g.K.Sink.held l.fn.out) (take l.at l.piece) Done
       l.self.line.items l.self.lines (g.M.Machine.state l.machine, l.world) (g.K.Sink.held l.out);
+  taken : Taking g.M.Machine.step_of g.M.Machine.holds l.fn.self.line.items l.fn.self.lines (g.M.Machine.state l.fn.machine, l.fn.world) (take l.at l.piece);
   kept : g.M.Machine.keeps (g.M.Machine.state l.machine) l.world;
   further : l.fn.self.lines * 1048578 + vec_len l.fn.self.line + l.at ≤ l.self.lines * 1048578 + vec_len l.self.line;
   counted : g.K.Sink.faults l.fn.out ≤ g.K.Sink.faults l.out;

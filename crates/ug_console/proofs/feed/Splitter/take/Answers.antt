@@ -3,6 +3,7 @@ use Rattle.ug_console.specs.Runs.{Feeds}
 use Rattle.ug_lines.proofs.Splitting.{part-line, part-ended}
 use Rattle.ug_console.proofs.Feeding.{fed-run, Feeds-then, Feeds-more}
 use Rattle.ug_console.proofs.Refusing.{Refusing, refusing-more, refusing-run, refusing-then}
+use Rattle.ug_console.proofs.Taking.{Taking, taking-run, taking-then}
 use Rattle.ug_console.specs.declared.machine.Ran.TheVariants.{Done}
 use Rattle.ug_console.proofs.feed.Splitter.take.Goals as goal
 
@@ -37,6 +38,21 @@ returns-in-Done-clause-why g c =
     (fed-run g.M.Machine.step_of c.args.self.now.line.items c.extend-2.new.self.line.items c.args.self.now.lines c.extend-2.new.self.lines (g.M.Machine.state c.args.machine.now, c.args.world.now) (g.K.Sink.held c.args.out.now) run Done c.requires.front c.in-Done.ensures.lines c.in-Done.ensures.extended)
     c.end_line.ensures.why)
 
+pub returns-then-part-end-ne10-clause-taken : goal.returns-then-part-end-ne10-clause-taken
+returns-then-part-end-ne10-clause-taken g c = λ e.
+    taking-run g.M.Machine.step_of g.M.Machine.holds c.args.self.now.line.items c.args.self.now.lines (g.M.Machine.state c.args.machine.now, c.args.world.now) c.args.part.now (part-line c.args.part.now c.requires.some c.requires.front c.if-part-end-ne10.true)
+
+pub returns-in-Done-clause-taken : goal.returns-in-Done-clause-taken
+returns-in-Done-clause-taken g c = λ e.
+    let run : List ℕ = take (length c.args.part.now - 1) c.args.part.now in
+    subst (λ (bytes : List ℕ). Taking g.M.Machine.step_of g.M.Machine.holds c.args.self.now.line.items c.args.self.now.lines (g.M.Machine.state c.args.machine.now, c.args.world.now) bytes)
+    (sym (part-ended c.args.part.now c.requires.some c.if-part-end-ne10.false))
+    (taking-then g.M.Machine.step_of g.M.Machine.holds c.args.self.now.line.items c.args.self.now.lines (g.M.Machine.state c.args.machine.now, c.args.world.now) (g.K.Sink.held c.args.out.now) run
+    c.extend-2.new.self.line.items c.extend-2.new.self.lines (g.M.Machine.state c.args.machine.now, c.args.world.now) (g.K.Sink.held c.args.out.now) (10 ∷ [])
+    (fed-run g.M.Machine.step_of c.args.self.now.line.items c.extend-2.new.self.line.items c.args.self.now.lines c.extend-2.new.self.lines (g.M.Machine.state c.args.machine.now, c.args.world.now) (g.K.Sink.held c.args.out.now) run Done c.requires.front c.in-Done.ensures.lines c.in-Done.ensures.extended)
+    (taking-run g.M.Machine.step_of g.M.Machine.holds c.args.self.now.line.items c.args.self.now.lines (g.M.Machine.state c.args.machine.now, c.args.world.now) run c.requires.front)
+    (c.end_line.ensures.taken e))
+
 pub returns-in_default : goal.returns-in_default
 returns-in_default g c =
     let run : List ℕ = take (length c.args.part.now - 1) c.args.part.now in
@@ -50,6 +66,7 @@ returns-in_default g c =
           (sym (part-ended c.args.part.now c.requires.some c.if-part-end-ne10.false))
           (refusing-more g.M.Machine.step_of g.M.Machine.because c.args.self.now.line.items c.args.self.now.lines (g.M.Machine.state c.args.machine.now, c.args.world.now) run (10 ∷ []) c.extend-2.result
           (refusing-run g.M.Machine.step_of g.M.Machine.because c.args.self.now.line.items c.extend-2.new.self.line.items c.args.self.now.lines (g.M.Machine.state c.args.machine.now, c.args.world.now) run c.extend-2.result c.requires.front c.extend-2.ensures.extended));
+      taken = λ e. absurd (c.in_default.not-Done e);
       kept = λ e. absurd (c.in_default.not-Done e);
       further = λ e. absurd (c.in_default.not-Done e);
       counted = omega arith;

@@ -1,6 +1,6 @@
 use Rattle.ug_core.specs.Event.{daemon_of}
 use Rattle.ug_script.specs.Script.{phase_of}
-use Rattle.ug_script.proofs.EventSteps.{first_numbers, first_steps}
+use Rattle.ug_script.proofs.EventSteps.{first_numbers, first_reads, first_steps}
 use Rattle.ug_script.proofs.progress.Running.first_event.Goals as goal
 
 pub returns-in-Ok-clause-ran : goal.returns-in-Ok-clause-ran
@@ -11,3 +11,7 @@ returns-in-Ok-clause-ran g c =
 
 pub returns-in-Ok-clause-numbers : goal.returns-in-Ok-clause-numbers
 returns-in-Ok-clause-numbers g c bad = first_numbers c.args.self.now.setup (phase_of c.args.self.now.phase) (daemon_of c.in-Ok.session.daemon) c.in-Ok.session.disk c.args.kernel.now c.requires c.in-Ok.ensures.daemon c.in-Ok.ensures.disk (c.planned_event-ran.ensures.numbers bad)
+
+pub returns-in-Ok-clause-readable : goal.returns-in-Ok-clause-readable
+returns-in-Ok-clause-readable g c done =
+    first_reads c.args.event.now c.args.self.now.setup (phase_of c.args.self.now.phase) (daemon_of c.in-Ok.session.daemon) c.in-Ok.session.disk c.args.self.now.plan.items c.args.kernel.now c.requires c.in-Ok.ensures.daemon c.in-Ok.ensures.disk c.in-Ok.ensures.saves (c.planned_event-ran.ensures.readable done)
