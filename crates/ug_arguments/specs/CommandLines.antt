@@ -25,4 +25,6 @@ listening = record { modify = false; list = false; listen = true }
 -- what is listed of devices, of the policy, of exceptions and of parameters
 abbrev pub adds : Named → Listed → Listed → Listed → Listed → Option Command
 adds who devices policy exceptions parameters =
-    Some (AddUser who (record { devices = devices; policy = policy; exceptions = exceptions; parameters = parameters }))
+    Some
+    (AddUser who (record
+    { devices = devices; policy = policy; exceptions = exceptions; parameters = parameters }))

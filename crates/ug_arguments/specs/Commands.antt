@@ -31,11 +31,13 @@ abbrev pub replay_in : List Row → Command
 replay_in rows = if is_set (codes "summary") rows then Summarize else Replay
 
 abbrev pub made_of : ℕ → ℕ → Option Command
-made_of events start = if is_event_count events && is_start start then Some (MakeScript events start) else None
+made_of events start =
+    if is_event_count events && is_start start then Some (MakeScript events start) else None
 
 abbrev pub make_script_in : List Row → Option Command
 make_script_in rows =
-    option_and_then (λ events. option_and_then (λ start. made_of events start) (number_at (codes "start") rows))
+    option_and_then
+    (λ events. option_and_then (λ start. made_of events start) (number_at (codes "start") rows))
     (number_at (codes "events") rows)
 
 -- ---- add-user
@@ -47,7 +49,9 @@ list_of section (Some text) = list_read section text
 
 abbrev pub asked_in : List Row → Option Asked
 asked_in rows =
-    option_and_then (λ devices. option_and_then (λ policy. option_and_then (λ exceptions. option_map (λ parameters.
+    option_and_then
+    (λ devices. option_and_then
+    (λ policy. option_and_then (λ exceptions. option_map (λ parameters.
     record { devices = devices; policy = policy; exceptions = exceptions; parameters = parameters })
     (list_of Parameters (first_of (codes "parameters") rows)))
     (list_of Exceptions (first_of (codes "exceptions") rows)))
@@ -108,7 +112,8 @@ abbrev pub request_limit : ℕ
 request_limit = 65535
 
 abbrev pub sendable : Request → Option Request
-sendable request = if nat_le (length (request_text request)) request_limit then Some request else None
+sendable request =
+    if nat_le (length (request_text request)) request_limit then Some request else None
 
 abbrev pub ask_in : Option Request → List Row → Option Command
 ask_in asked rows =

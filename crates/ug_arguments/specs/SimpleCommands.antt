@@ -33,7 +33,8 @@ replay_app = with_rule (new_app (codes "replay")) (long_flag (codes "summary"))
 -- make-script EVENTS START
 abbrev pub make_script_app : App
 make_script_app =
-    with_rule (with_rule (new_app (codes "make-script")) (required (codes "events"))) (required (codes "start"))
+    with_rule (with_rule (new_app (codes "make-script")) (required (codes "events")))
+    (required (codes "start"))
 
 -- lint-rules [--prune]
 abbrev pub lint_rules_app : App
@@ -53,7 +54,8 @@ asking_app name = with_rule (new_app name) (long_option (codes "socket"))
 -- allow-device NUMBER [-p] [--socket PATH], and the like
 abbrev pub device_app : List ℕ → App
 device_app name =
-    with_rule (with_rule (asking_app name) (required (codes "number"))) (flag (codes "permanent") 112)
+    with_rule (with_rule (asking_app name) (required (codes "number")))
+    (flag (codes "permanent") 112)
 
 -- append-rule RULE [-a ID] [-t] [--socket PATH]
 abbrev pub append_rule_app : App

@@ -33,7 +33,8 @@ pub fn find_values<'a>(
 
 /// The value that was found by that name.
 pub fn value<'a>(matches: &ArgMatches<'a>, id: &str) -> Option<&'a str>
-    ensures { option_map (λ text. text.now) result ≡ first_of id.now (rows_of (found_of matches.now)) }
+    ensures { option_map (λ text. text.now) result
+        ≡ first_of id.now (rows_of (found_of matches.now)) }
 {
     matches.get_str(id)
 }

@@ -47,8 +47,10 @@ fn is_word(text: &str) -> bool
 
 /// A word of at least one byte without spaces.
 pub fn word(alloc: Global, matches: &ArgMatches, id: &str) -> Result<Text, WordsFault>
-    ensures ok { IfOk result (λ text. text_at values.is_word id.now (rows_of (found_of matches.now)) ≡ Some text) }
-    ensures err { IfErr result (NotRead (text_at values.is_word id.now (rows_of (found_of matches.now)))) }
+    ensures ok { IfOk result
+        (λ text. text_at values.is_word id.now (rows_of (found_of matches.now)) ≡ Some text) }
+    ensures err { IfErr result
+        (NotRead (text_at values.is_word id.now (rows_of (found_of matches.now)))) }
 {
     let text = match value(matches, id) {
         Some(text) => text,
@@ -62,8 +64,10 @@ pub fn word(alloc: Global, matches: &ArgMatches, id: &str) -> Result<Text, Words
 
 /// The text of a rule, which isn't read here.
 pub fn rule(alloc: Global, matches: &ArgMatches, id: &str) -> Result<Text, WordsFault>
-    ensures ok { IfOk result (λ text. text_at values.is_rule id.now (rows_of (found_of matches.now)) ≡ Some text) }
-    ensures err { IfErr result (NotRead (text_at values.is_rule id.now (rows_of (found_of matches.now)))) }
+    ensures ok { IfOk result
+        (λ text. text_at values.is_rule id.now (rows_of (found_of matches.now)) ≡ Some text) }
+    ensures err { IfErr result
+        (NotRead (text_at values.is_rule id.now (rows_of (found_of matches.now)))) }
 {
     let text = match value(matches, id) {
         Some(text) => text,
@@ -129,8 +133,10 @@ fn read_most(text: &str) -> Result<u64, WordsFault>
 /// How many notices at most.
 #[tactic(auto, unfolding(crate::specs::Commands::default_most))]
 pub fn most(matches: &ArgMatches) -> Result<u64, WordsFault>
-    ensures ok { IfOk result (λ n. most_of (first_of (codes "most") (rows_of (found_of matches.now))) ≡ Some n) }
-    ensures err { IfErr result (NotRead (most_of (first_of (codes "most") (rows_of (found_of matches.now))))) }
+    ensures ok { IfOk result
+        (λ n. most_of (first_of (codes "most") (rows_of (found_of matches.now))) ≡ Some n) }
+    ensures err { IfErr result
+        (NotRead (most_of (first_of (codes "most") (rows_of (found_of matches.now))))) }
 {
     match value(matches, "most") {
         Some(text) => read_most(text),
@@ -140,8 +146,11 @@ pub fn most(matches: &ArgMatches) -> Result<u64, WordsFault>
 
 /// Where a rule goes.
 pub fn after(matches: &ArgMatches) -> Result<After, WordsFault>
-    ensures ok { IfOk result (λ place. after_of (first_of (codes "after") (rows_of (found_of matches.now))) ≡ Some place) }
-    ensures err { IfErr result (NotRead (after_of (first_of (codes "after") (rows_of (found_of matches.now))))) }
+    ensures ok { IfOk result
+        (λ place. after_of (first_of (codes "after") (rows_of (found_of matches.now)))
+        ≡ Some place) }
+    ensures err { IfErr result
+        (NotRead (after_of (first_of (codes "after") (rows_of (found_of matches.now))))) }
 {
     let text = match value(matches, "after") {
         Some(text) => text,
@@ -155,7 +164,8 @@ pub fn after(matches: &ArgMatches) -> Result<After, WordsFault>
 
 /// The path that an option gives, or else the usual one.
 fn path(alloc: Global, matches: &ArgMatches, id: &str, usual: &str) -> Result<Text, WordsFault>
-    ensures ok { IfOk result (λ path. path_in id.now usual.now (rows_of (found_of matches.now)) ≡ Some path) }
+    ensures ok { IfOk result
+        (λ path. path_in id.now usual.now (rows_of (found_of matches.now)) ≡ Some path) }
     ensures err { IfErr result (NotRead (path_in id.now usual.now (rows_of (found_of matches.now)))) }
 {
     let text = match value(matches, id) {
@@ -187,8 +197,12 @@ pub fn settings(alloc: Global, matches: &ArgMatches) -> Result<Text, WordsFault>
 }
 
 pub fn principal(matches: &ArgMatches, id: &str) -> Result<Principal, WordsFault>
-    ensures ok { IfOk result (λ p. option_and_then principal_of (first_of id.now (rows_of (found_of matches.now))) ≡ Some p) }
-    ensures err { IfErr result (NotRead (option_and_then principal_of (first_of id.now (rows_of (found_of matches.now))))) }
+    ensures ok { IfOk result
+        (λ p. option_and_then principal_of (first_of id.now (rows_of (found_of matches.now)))
+        ≡ Some p) }
+    ensures err { IfErr result
+        (NotRead
+        (option_and_then principal_of (first_of id.now (rows_of (found_of matches.now))))) }
 {
     let text = match value(matches, id) {
         Some(text) => text,
@@ -202,8 +216,10 @@ pub fn principal(matches: &ArgMatches, id: &str) -> Result<Principal, WordsFault
 
 /// The privileges that an option lists.
 pub fn listed(matches: &ArgMatches, section: Section, id: &str) -> Result<Listed, WordsFault>
-    ensures ok { IfOk result (λ l. list_of section (first_of id.now (rows_of (found_of matches.now))) ≡ Some l) }
-    ensures err { IfErr result (NotRead (list_of section (first_of id.now (rows_of (found_of matches.now))))) }
+    ensures ok { IfOk result
+        (λ l. list_of section (first_of id.now (rows_of (found_of matches.now))) ≡ Some l) }
+    ensures err { IfErr result
+        (NotRead (list_of section (first_of id.now (rows_of (found_of matches.now))))) }
 {
     let text = match value(matches, id) {
         Some(text) => text,

@@ -70,7 +70,8 @@ pub record EndsInNoticeBegun (bytes : List ℕ) : Type 0 where
   pub whole : bytes ≡ ended_lines notices ++ rest
   pub begun : IsNoticeBegun rest
 
--- no reply stands there yet, and one may still come; of a line that begins with `! ` only its end tells whether it is a notice
+-- no reply stands there yet, and one may still come; of a line that begins with `! ` only its end
+-- tells whether it is a notice
 pub record IsAwaiting (bytes : List ℕ) : Type 0 where
   pub none : IsUnanswered bytes
   pub opened : MayBeReplied bytes ⊎ EndsInNoticeBegun bytes
@@ -81,7 +82,8 @@ IsNoAnswer bytes = (more : List ℕ) → IsUnanswered (bytes ++ more)
 
 -- what the bytes come to so far; only want of memory may be told of any
 abbrev pub Answers : List ℕ → Result (Option (Reply × ℕ)) ReplyFault → Type 0
-Answers bytes (Ok (Some answer)) = (answer.1 ≤ length bytes) × Replied bytes answer.0 (drop answer.1 bytes)
+Answers bytes (Ok (Some answer)) =
+    (answer.1 ≤ length bytes) × Replied bytes answer.0 (drop answer.1 bytes)
 Answers bytes (Ok None) = IsAwaiting bytes
 Answers bytes (Err BadReply) = IsNoAnswer bytes
 Answers bytes (Err Memory) = Unit {0}

@@ -30,7 +30,8 @@ SendsLine before after line sent.Failed = AppendsPart before after line
 SendsLine before after line sent.Memory = Keeps before after
 
 -- the calls of the sending, by how it ended
-abbrev pub SendsCalls : List ℕ → List ℕ → Option (List LinkCall) → Option (List LinkCall) → Sent → Type 0
+abbrev pub SendsCalls : List ℕ → List ℕ → Option (List LinkCall) → Option (List LinkCall) → Sent
+    → Type 0
 SendsCalls path line before after sent.Done = TellsCalls before (calls_to_ask path line []) after
 SendsCalls path line before after sent.Failed = CallsInVain path line before after asked.LinkFailed
 SendsCalls path line before after sent.Memory = CallsInVain path line before after asked.Memory
@@ -42,8 +43,10 @@ end_of (Refused refusal) = asked.Refused
 
 -- what was written of a reply
 abbrev pub Writes : Option (List ℕ) → Option (List ℕ) → Reply → Asked → Type 0
-Writes before after reply asked.Done = (end_of reply ≡ asked.Done) × Appends before after (printed reply)
-Writes before after reply asked.Refused = (end_of reply ≡ asked.Refused) × Appends before after (printed reply)
+Writes before after reply asked.Done =
+    (end_of reply ≡ asked.Done) × Appends before after (printed reply)
+Writes before after reply asked.Refused =
+    (end_of reply ≡ asked.Refused) × Appends before after (printed reply)
 Writes before after reply asked.NoReply = ⊥
 Writes before after reply asked.LinkFailed = ⊥
 Writes before after reply asked.WriteFault = AppendsPart before after (printed reply)
@@ -75,7 +78,8 @@ ToldBy taken left before after asked.WriteFault = Printed taken before after ask
 ToldBy taken left before after asked.Memory = Keeps before after
 
 -- the whole call, of a request's line at the socket of that path
-pub record Asks (path line : List ℕ) (calls0 calls : Option (List LinkCall)) (sent0 sent left0 left held0 held : Option (List ℕ)) (result : Asked) : Type 0 where
+pub record Asks (path line : List ℕ) (calls0 calls : Option (List LinkCall))
+    (sent0 sent left0 left held0 held : Option (List ℕ)) (result : Asked) : Type 0 where
   pub taken : List ℕ
   pub made : CallsToAsk path line calls0 calls taken result
   pub source : Consumes left0 left taken

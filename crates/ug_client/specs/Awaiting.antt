@@ -28,12 +28,14 @@ pub data GivesNoReply (taken : List ℕ) (left : Option (List ℕ)) : Type 0 whe
 
 -- what the bytes that were taken came to; they are kept where they hold a reply
 abbrev pub CameTo : List ℕ → Option (List ℕ) → List ℕ → Awaited → Type 0
-CameTo taken left kept (awaited.Replied reply place) = (kept ≡ taken) × (place ≤ length taken) × Replied taken reply (drop place taken)
+CameTo taken left kept (awaited.Replied reply place) =
+    (kept ≡ taken) × (place ≤ length taken) × Replied taken reply (drop place taken)
 CameTo taken left kept awaited.NoReply = GivesNoReply taken left
 CameTo taken left kept awaited.LinkFailed = Unit {0}
 CameTo taken left kept awaited.Memory = Unit {0}
 
-pub record Awaits (calls0 calls : Option (List LinkCall)) (left0 left : Option (List ℕ)) (kept : List ℕ) (result : Awaited) : Type 0 where
+pub record Awaits (calls0 calls : Option (List LinkCall)) (left0 left : Option (List ℕ))
+    (kept : List ℕ) (result : Awaited) : Type 0 where
   pub taken : List ℕ
   pub receives : Receives IsAwaiting 65536 [] calls0 calls taken
   pub source : Consumes left0 left taken

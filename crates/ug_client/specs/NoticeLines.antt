@@ -55,15 +55,19 @@ is_target word = is_some (target_of word)
 
 abbrev pub is_write : List ℕ → Bool
 is_write word =
-    pointwise nat_eq word (codes "on") || pointwise nat_eq word (codes "off") || pointwise nat_eq word (codes "remove")
+    pointwise nat_eq word (codes "on") || pointwise nat_eq word (codes "off")
+    || pointwise nat_eq word (codes "remove")
     || pointwise nat_eq word (codes "default-off") || pointwise nat_eq word (codes "default-on")
 
 abbrev pub is_outcome : List ℕ → Bool
-is_outcome word = pointwise nat_eq word (codes "done") || pointwise nat_eq word (codes "gone") || pointwise nat_eq word (codes "failed")
+is_outcome word =
+    pointwise nat_eq word (codes "done") || pointwise nat_eq word (codes "gone")
+    || pointwise nat_eq word (codes "failed")
 
 abbrev pub is_cause_alone : List ℕ → Bool
 is_cause_alone text =
-    pointwise nat_eq text (codes "implicit") || pointwise nat_eq text (codes "present") || pointwise nat_eq text (codes "keep")
+    pointwise nat_eq text (codes "implicit") || pointwise nat_eq text (codes "present")
+    || pointwise nat_eq text (codes "keep")
     || pointwise nat_eq text (codes "inserted")
 
 abbrev pub is_malformed : List ℕ → Bool

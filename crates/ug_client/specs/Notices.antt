@@ -13,7 +13,8 @@ pub record IsNoticeThen (bytes rest : List ℕ) : Type 0 where
 
 -- however the bytes go on, no notice stands in front
 abbrev pub BeginsOtherwise : List ℕ → Type 0
-BeginsOtherwise bytes = (line more rest : List ℕ) → IsNotice line → ¬ (bytes ++ more ≡ line ++ 10 ∷ rest)
+BeginsOtherwise bytes =
+    (line more rest : List ℕ) → IsNotice line → ¬ (bytes ++ more ≡ line ++ 10 ∷ rest)
 
 -- notices stand in front of that rest
 pub record IsBehindNotices (bytes rest : List ℕ) : Type 0 where

@@ -26,7 +26,8 @@ fn print_line(alloc: Global, request: &Request) -> Result<Vec<u8>, NoMemory>
 
 /// Connects to the socket of that path, and sends the request's line.
 pub fn send_request<L: Link>(alloc: Global, link: &mut L, path: &[u8], request: &Request) -> Sent
-    ensures made { SendsCalls path.now (request_line request.now) (L.told link.old) (L.told link.new) result }
+    ensures made { SendsCalls path.now (request_line request.now) (L.told link.old)
+        (L.told link.new) result }
     ensures sent { SendsLine (L.sent link.old) (L.sent link.new) (request_line request.now) result }
     ensures left { Keeps (L.left link.old) (L.left link.new) }
     ensures counted { L.faults link.old ≤ L.faults link.new }

@@ -27,7 +27,8 @@ call_in number = 1 + number / 2 ^ 8 % 16
 -- setup with an allowed and a blocked device, and a root hub
 unfoldable pub opening : List ℕ
 opening =
-    codes "usbguard-replay 1\nseed 0000000000000000000000000000000000000000000000000000000000000000\nrule allow id 1050:0011\nrule block id *:*\nplug usb1 1 12010002090001406b1d020006060302010109021900010100e0000904000001090000000705810304000c - - -\n"
+    codes
+    "usbguard-replay 1\nseed 0000000000000000000000000000000000000000000000000000000000000000\nrule allow id 1050:0011\nrule block id *:*\nplug usb1 1 12010002090001406b1d020006060302010109021900010100e0000904000001090000000705810304000c - - -\n"
 
 unfoldable pub unplug_line : ℕ → List ℕ
 unplug_line port = codes "unplug 1-" ++ decimal port ++ 10 ∷ []
