@@ -8,6 +8,7 @@ ghost use Rattle.ug_arguments.specs.Commands.{command_in};
 ghost use Rattle.ug_arguments.specs.declared.command.Command.TheVariants as command;
 ghost use Rattle.ug_lines.specs.Lines.{lines_of};
 ghost use Rattle.ug_script.specs.Against.{RefusesScript};
+ghost use Rattle.ug_script.specs.Births.{StaysBorn};
 ghost use Rattle.ug_script.specs.Script.{Script};
 ghost use Rattle.ug_script.specs.Replay.{script_step, script_end};
 ghost use Rattle.ug_script.specs.Summing.{Summary, TellsSummary, no_totals, summary_end, summary_step};
@@ -119,6 +120,7 @@ pub fn run_replay<S: Source, K: Sink>(
         → TellsSummary new_world all base (K.held out.new) result }
     ensures laws { StaysLawful new_world }
     ensures recorded { StaysRecorded new_world }
+    ensures births { StaysBorn new_world }
     ensures why { (summary : Bool)
         → command_in (map (λ word. word.now) words.now) ≡ Some (replay_of summary)
         → (all : List ℕ) → S.left input.old ≡ Some all → result ≡ 2

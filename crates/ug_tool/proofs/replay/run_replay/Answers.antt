@@ -3,6 +3,7 @@ use Rattle.ug_console.specs.Fold.{of_first}
 use Rattle.ug_script.specs.Replay.{script_step, script_end}
 use Rattle.ug_script.specs.Summing.{no_totals, summary_end, summary_step}
 use Rattle.ug_sysfs.specs.Sound.{new_sound}
+use Rattle.ug_script.proofs.Births.{stays_born}
 use Rattle.ug_script.proofs.Journals.{stays_lawful, stays_recorded}
 use Rattle.ug_tool.specs.Replay.{new_world}
 use Rattle.ug_tool.proofs.Memory.{lines_unread, memory_summary, memory_unrefused, only_memory}
@@ -19,6 +20,12 @@ returns-in-Err-clause-laws g c = stays_lawful new_world refl new_sound
 
 pub returns-in-Err-clause-recorded : goal.returns-in-Err-clause-recorded
 returns-in-Err-clause-recorded g c = stays_recorded new_world refl new_sound
+
+pub returns-in-Ok-clause-births : goal.returns-in-Ok-clause-births
+returns-in-Ok-clause-births g c = stays_born new_world refl new_sound.devices
+
+pub returns-in-Err-clause-births : goal.returns-in-Err-clause-births
+returns-in-Err-clause-births g c = stays_born new_world refl new_sound.devices
 
 pub returns-in-Err-clause-replayed : goal.returns-in-Err-clause-replayed
 returns-in-Err-clause-replayed g c = λ e all base a b.
