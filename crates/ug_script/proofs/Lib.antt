@@ -36,3 +36,4 @@ pub mod Schedules
 pub mod MoveLines
 pub mod Births
 pub mod Against
+pub mod Roomless

@@ -19,3 +19,4 @@ pub mod RuleLines
 pub mod Schedules
 pub mod Births
 pub mod Against
+pub mod Roomless

@@ -9,6 +9,7 @@ ghost use Rattle.ug_arguments.specs.declared.command.Command.TheVariants as comm
 ghost use Rattle.ug_lines.specs.Lines.{lines_of};
 ghost use Rattle.ug_script.specs.Against.{RefusesScript};
 ghost use Rattle.ug_script.specs.Births.{StaysBorn};
+ghost use Rattle.ug_script.specs.Roomless.{TellsRoom};
 ghost use Rattle.ug_script.specs.Script.{Script};
 ghost use Rattle.ug_script.specs.Replay.{script_step, script_end};
 ghost use Rattle.ug_script.specs.Summing.{Summary, TellsSummary, no_totals, summary_end, summary_step};
@@ -38,6 +39,9 @@ pub fn replay_over<S: Source, K: Sink>(
         → (script : Option Script) × Answers script_step (of_first script_end) (None, new_world) all base (S.left input.new) (K.held out.new) (script, kernel.new) result }
     ensures why { (all : List ℕ) → S.left input.old ≡ Some all → result ≡ 2
         → RefusesScript new_world (lines_of all) }
+    ensures too_long { (all base : List ℕ)
+        → S.left input.old ≡ Some all → K.held out.old ≡ Some base
+        → TellsRoom new_world (lines_of all) base (K.held out.new) result }
     ensures ended { (ended : Ended) × (result ≡ status_of ended) }
     ensures read { result ≡ 4 → Rose (S.faults input.old) (S.faults input.new) }
     ensures written { result ≡ 5 → Rose (K.faults out.old) (K.faults out.new) }
@@ -63,6 +67,9 @@ fn replay_or_summarize<S: Source, K: Sink>(
         → TellsSummary new_world all base (K.held out.new) result }
     ensures why { (all : List ℕ) → S.left input.old ≡ Some all → result ≡ 2
         → RefusesScript new_world (lines_of all) }
+    ensures too_long { summary ≡ false → (all base : List ℕ)
+        → S.left input.old ≡ Some all → K.held out.old ≡ Some base
+        → TellsRoom new_world (lines_of all) base (K.held out.new) result }
     ensures ended { (ended : Ended) × (result ≡ status_of ended) }
     ensures read { result ≡ 4 → Rose (S.faults input.old) (S.faults input.new) }
     ensures written { result ≡ 5 → Rose (K.faults out.old) (K.faults out.new) }
@@ -125,6 +132,10 @@ pub fn run_replay<S: Source, K: Sink>(
         → command_in (map (λ word. word.now) words.now) ≡ Some (replay_of summary)
         → (all : List ℕ) → S.left input.old ≡ Some all → result ≡ 2
         → RefusesScript new_world (lines_of all) }
+    ensures too_long { command_in (map (λ word. word.now) words.now) ≡ Some command.Replay
+        → (all base : List ℕ) → S.left input.old ≡ Some all
+        → K.held out.old ≡ Some base
+        → TellsRoom new_world (lines_of all) base (K.held out.new) result }
     ensures ended { (summary : Bool) → command_in (map (λ word. word.now) words.now) ≡ Some (replay_of summary)
         → (ended : Ended) × (result ≡ status_of ended) }
     ensures read { result ≡ 4 → Rose (S.faults input.old) (S.faults input.new) }

@@ -3,6 +3,7 @@ use Rattle.std.proofs.Common.{refl}
 use Rattle.ug_sysfs.specs.Sound.{new_sound}
 use Rattle.ug_script.proofs.Against.{script_refused}
 use Rattle.ug_script.proofs.Journals.{stays_lawful}
+use Rattle.ug_script.proofs.Roomless.{tells_room}
 use Rattle.ug_tool.specs.Replay.{new_world}
 use Rattle.ug_tool.proofs.replay.replay_over.Goals as goal
 
@@ -13,3 +14,11 @@ pub returns-clause-why : goal.returns-clause-why
 returns-clause-why g c = λ all is e.
     let k = c.run.ensures.refused all is e in
     script_refused new_world _ k.0 (stays_lawful new_world refl new_sound) refl (rw c.new-interpreter.ensures at (rw c.requires at k.1))
+
+pub returns-clause-too_long : goal.returns-clause-too_long
+returns-clause-too_long g c = λ all base a b.
+    tells_room new_world all base _ _ (interpreter_state c.run.new.machine, c.run.new.world) c.run.result refl refl
+    (rw c.new-interpreter.ensures at (rw c.requires at (c.run.ensures.answers all base a b)))
+    (λ e.
+    let k = c.run.ensures.refused all a e in
+    script_refused new_world _ k.0 (stays_lawful new_world refl new_sound) refl (rw c.new-interpreter.ensures at (rw c.requires at k.1)))

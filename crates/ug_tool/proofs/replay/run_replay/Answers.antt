@@ -1,4 +1,5 @@
-use Rattle.std.proofs.Common.{None, true, false, refl}
+use Rattle.std.proofs.Common.{◌≡◌, Bool, None, true, false, refl}
+use Rattle.ug_arguments.specs.declared.command.Command.TheVariants as command
 use Rattle.ug_console.specs.Fold.{of_first}
 use Rattle.ug_script.specs.Replay.{script_step, script_end}
 use Rattle.ug_script.specs.Summing.{no_totals, summary_end, summary_step}
@@ -6,7 +7,8 @@ use Rattle.ug_sysfs.specs.Sound.{new_sound}
 use Rattle.ug_script.proofs.Births.{stays_born}
 use Rattle.ug_script.proofs.Journals.{stays_lawful, stays_recorded}
 use Rattle.ug_tool.specs.Replay.{new_world}
-use Rattle.ug_tool.proofs.Memory.{lines_unread, memory_summary, memory_unrefused, only_memory}
+use Rattle.ug_tool.specs.Tool.{replay_of}
+use Rattle.ug_tool.proofs.Memory.{lines_unread, memory_summary, memory_unrefused, only_memory, same_command}
 use Rattle.ug_tool.proofs.replay.run_replay.Goals as goal
 
 pub returns-in-Ok-clause-laws : goal.returns-in-Ok-clause-laws
@@ -48,3 +50,14 @@ returns-in-Ok-clause-why g c = λ summary e all is two. c.replay_or_summarize.en
 pub returns-in-Err-clause-why : goal.returns-in-Err-clause-why
 returns-in-Err-clause-why g c = λ summary e all is two.
     absurd (memory_unrefused _ _ c.refuse.result (c.refuse.ensures.memory (only_memory c.in-Err.fault (λ bad. c.in-Err.ensures.bad bad summary) e)) two)
+
+pub returns-in-Err-clause-too_long : goal.returns-in-Err-clause-too_long
+returns-in-Err-clause-too_long g c = λ e all base a b two.
+    absurd (memory_unrefused _ _ c.refuse.result (c.refuse.ensures.memory (only_memory c.in-Err.fault (λ bad. c.in-Err.ensures.bad bad false) e)) two)
+
+asks_whole : (summary : Bool) → replay_of summary ≡ command.Replay → summary ≡ false
+asks_whole true e = let none : ⊥ = cc in absurd none
+asks_whole false e = refl
+
+pub returns-in-Ok-clause-too_long : goal.returns-in-Ok-clause-too_long
+returns-in-Ok-clause-too_long g c = λ e all base a b. c.replay_or_summarize.ensures.too_long (asks_whole c.in-Ok.summary (same_command _ _ _ c.in-Ok.ensures.ok e)) all base a b
