@@ -21,7 +21,8 @@ use Rattle.ug_serve.specs.declared.not_started.NotStarted.TheVariants as why
 
 -- the path of a folder's file: a `/` stands between the two, unless the folder's path ends with one
 abbrev pub path_in : List ℕ → List ℕ → List ℕ
-path_in folder name = if ends_with nat_eq folder (47 ∷ []) then folder ++ name else folder ++ 47 ∷ name
+path_in folder name =
+    if ends_with nat_eq folder (47 ∷ []) then folder ++ name else folder ++ 47 ∷ name
 
 -- in byte order of their texts
 abbrev pub IsInByteOrder : {A : Type 0} → (A → List ℕ) → List A → Type 0
@@ -38,7 +39,8 @@ times who principals = count_by (λ p. same_principal p who) principals
 
 -- each of those once, and no other
 abbrev pub AreOnce : List Named → List Named → Type 0
-AreOnce added principals = (who : Named) → times who principals ≡ cond (list_any (λ p. same_principal p who) added) 1 0
+AreOnce added principals =
+    (who : Named) → times who principals ≡ cond (list_any (λ p. same_principal p who) added) 1 0
 
 -- each of those once, and no other, in byte order
 pub record AreListed (added principals : List Named) : Type 0 where
@@ -47,7 +49,8 @@ pub record AreListed (added principals : List Named) : Type 0 where
 
 -- with that one, unless it is among them
 abbrev pub with_new : Named → List Named → List Named
-with_new who principals = if list_any (λ p. same_principal p who) principals then principals else principals ++ who ∷ []
+with_new who principals =
+    if list_any (λ p. same_principal p who) principals then principals else principals ++ who ∷ []
 
 -- what the text of an access file grants, or its first bad line
 abbrev pub GrantsOf : List ℕ → Result (List Pair) NotStarted → Type 0
@@ -73,30 +76,42 @@ module _ {F : Type 0} (gives : F → FileStep → F → Type 0) (folder : List �
   -- the file of that name is read once; without memory for its path it isn't
   pub data ReadsGrants (name : List ℕ) (s : F) : Result (List Pair) NotStarted → F → Type 0 where
     No_path : ReadsGrants name s (Err why.Memory) s
-    Reads : (answer : FileRead) (result : Result (List Pair) NotStarted) (t : F) → gives s (Read_at (path_in folder name) answer) t → GrantsIn answer result → ReadsGrants name s result t
+    Reads : (answer : FileRead) (result : Result (List Pair) NotStarted) (t : F)
+        → gives s (Read_at (path_in folder name) answer) t → GrantsIn answer result
+        → ReadsGrants name s result t
 
   -- it is added for that user or group, where memory suffices
-  abbrev pub AddsGrants : Named → Result (List Pair) NotStarted → List Addition → Result (List Addition) NotStarted → Type 0
+  abbrev pub AddsGrants : Named → Result (List Pair) NotStarted → List Addition
+      → Result (List Addition) NotStarted → Type 0
   AddsGrants who (Ok pairs) acl (Ok more) = more ≡ acl ++ addition who pairs ∷ []
   AddsGrants who (Ok pairs) acl (Err cause) = cause ≡ why.Memory
   AddsGrants who (Err cause) acl result = result ≡ Err cause
 
   -- the file's name is its user's or group's, who gets what it grants
-  abbrev pub ReadsNamed : Option Named → List ℕ → List Addition → F → Result (List Addition) NotStarted → F → Type 0
+  abbrev pub ReadsNamed : Option Named → List ℕ → List Addition → F
+      → Result (List Addition) NotStarted → F → Type 0
   ReadsNamed None name acl s result t = (result ≡ Err refused_name) × (t ≡ s)
-  ReadsNamed (Some who) name acl s result t = (grants : Result (List Pair) NotStarted) × ReadsGrants name s grants t × AddsGrants who grants acl result
+  ReadsNamed (Some who) name acl s result t =
+      (grants : Result (List Pair) NotStarted) × ReadsGrants name s grants t
+      × AddsGrants who grants acl result
 
-  abbrev pub ReadsBehind : (List Addition → F → Type 0) → Result (List Addition) NotStarted → Result (List Addition) NotStarted → F → F → Type 0
+  abbrev pub ReadsBehind : (List Addition → F → Type 0) → Result (List Addition) NotStarted
+      → Result (List Addition) NotStarted → F → F → Type 0
   ReadsBehind rest (Ok acl) result u t = rest acl u
   ReadsBehind rest (Err cause) result u t = (result ≡ Err cause) × (t ≡ u)
 
   -- one after another, until one isn't taken
-  abbrev pub ReadsNames : List (List ℕ) → List Addition → F → Result (List Addition) NotStarted → F → Type 0
+  abbrev pub ReadsNames : List (List ℕ) → List Addition → F → Result (List Addition) NotStarted → F
+      → Type 0
   ReadsNames [] acl s result t = (result ≡ Ok acl) × (t ≡ s)
-  ReadsNames (name ∷ names) acl s result t = (one : Result (List Addition) NotStarted) × (u : F) × ReadsNamed (principal_of name) name acl s one u × ReadsBehind (λ more v. ReadsNames names more v result t) one result u t
+  ReadsNames (name ∷ names) acl s result t =
+      (one : Result (List Addition) NotStarted) × (u : F)
+      × ReadsNamed (principal_of name) name acl s one u
+      × ReadsBehind (λ more v. ReadsNames names more v result t) one result u t
 
   -- in byte order of the names
-  pub record ReadsInOrder (names : List (List ℕ)) (s : F) (result : Result (List Addition) NotStarted) (t : F) : Type 0 where
+  pub record ReadsInOrder (names : List (List ℕ)) (s : F)
+      (result : Result (List Addition) NotStarted) (t : F) : Type 0 where
     pub sorted : List (List ℕ)
     pub order : AreInOrder names sorted
     pub reads : ReadsNames sorted [] s result t
@@ -123,15 +138,18 @@ added_for acl = map (λ a. a.who) acl
 abbrev pub user_additions : List Named → List Addition
 user_additions users = map (λ who. addition who all_pairs) users
 
--- Behind what the files grant the users and groups of the settings are added, and all that something was added for are listed. Only
--- want of memory refuses it.
-abbrev pub AddsUsers : List Named → Result (List Addition) NotStarted → Result Access NotStarted → Type 0
-AddsUsers users (Ok acl) (Ok access) = (access.acl ≡ acl ++ user_additions users) × AreListed (added_for access.acl) access.principals
+-- Behind what the files grant the users and groups of the settings are added, and all that
+-- something was added for are listed. Only want of memory refuses it.
+abbrev pub AddsUsers : List Named → Result (List Addition) NotStarted → Result Access NotStarted
+    → Type 0
+AddsUsers users (Ok acl) (Ok access) =
+    (access.acl ≡ acl ++ user_additions users) × AreListed (added_for access.acl) access.principals
 AddsUsers users (Ok acl) (Err cause) = cause ≡ why.Memory
 AddsUsers users (Err cause) result = result ≡ Err cause
 
 -- who may do what, by the files of that folder and by the settings' users and groups
-pub record OpensTo {F : Type 0} (gives : F → FileStep → F → Type 0) (users : List Named) (folder : List ℕ) (s : F) (result : Result Access NotStarted) (t : F) : Type 0 where
+pub record OpensTo {F : Type 0} (gives : F → FileStep → F → Type 0) (users : List Named)
+    (folder : List ℕ) (s : F) (result : Result Access NotStarted) (t : F) : Type 0 where
   pub granted : Result (List Addition) NotStarted
   pub reads : ReadsFolder gives folder s granted t
   pub adds : AddsUsers users granted result

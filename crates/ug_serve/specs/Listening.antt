@@ -12,7 +12,8 @@ listened (answer.Ready number) = Ok tt
 listened answer.Failed = Err why.Failed
 listened answer.Memory = Err why.Memory
 
-abbrev pub unless_refused : Talk (Result (Unit {0}) NotListening) → Result (Unit {0}) NotListening → Talk (Result (Unit {0}) NotListening)
+abbrev pub unless_refused : Talk (Result (Unit {0}) NotListening) → Result (Unit {0}) NotListening
+    → Talk (Result (Unit {0}) NotListening)
 unless_refused next (Ok done) = next
 unless_refused next (Err cause) = Return (Err cause)
 

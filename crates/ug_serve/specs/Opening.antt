@@ -45,7 +45,8 @@ SettingsIn file.Failed result = result ≡ Err why.FilesFailed
 SettingsIn file.Memory result = result ≡ Err why.Memory
 
 -- the file at the path is read once, and gives the settings
-pub record ReadsSettings {F : Type 0} (gives : F → FileStep → F → Type 0) (path : List ℕ) (s : F) (result : Result Settings NotStarted) (t : F) : Type 0 where
+pub record ReadsSettings {F : Type 0} (gives : F → FileStep → F → Type 0) (path : List ℕ) (s : F)
+    (result : Result Settings NotStarted) (t : F) : Type 0 where
   pub answer : FileRead
   pub read : gives s (Read_at path answer) t
   pub settings : SettingsIn answer result
@@ -54,9 +55,19 @@ pub record ReadsSettings {F : Type 0} (gives : F → FileStep → F → Type 0) 
 abbrev pub words_of_seed : List ℕ → Stream
 words_of_seed seed = stream_of (steps_u32 (next_word 10)) (of_seed seed)
 
--- what a daemon starts with: its settings, who may do what, the clock of its zone, and the words of its seed. Its first event is number 1
+-- what a daemon starts with: its settings, who may do what, the clock of its zone, and the words of
+-- its seed. Its first event is number 1
 abbrev pub outset_of : Settings → List Addition → (ℕ → ℕ) → Stream → Outset
-outset_of settings acl clock words = record { classes = classes_of settings; hub = hub_default settings.default; access = acl; clock = clock; words = words; first = 1 }
+outset_of settings acl clock words =
+    record {
+      classes = classes_of settings;
+      hub = hub_default settings.default;
+      access = acl;
+      clock =
+          clock;
+      words = words;
+      first = 1;
+    }
 
 -- a daemon that started, and those that it is open to
 pub record Started : Type 0 where
@@ -81,9 +92,9 @@ pub record IsAimed {D : Type 0} (disk : RuleDisk.Ghosts D) (path : List ℕ) (s 
   pub same_disk : IsSameDisk disk s t
   pub at : disk.aimed t path
 
--- The steps of a start, of which the first that isn't done ends it: the settings are read; so is who may do what; the disk is aimed
--- at the rule file that the settings name; and the daemon starts from it. The entries tell of the settings' lines that aren't used, once
--- they are read.
+-- The steps of a start, of which the first that isn't done ends it: the settings are read; so is
+-- who may do what; the disk is aimed at the rule file that the settings name; and the daemon starts
+-- from it. The entries tell of the settings' lines that aren't used, once they are read.
 pub data Opens {F D : Type 0} (reads : F → FileStep → F → Type 0) (disk : RuleDisk.Ghosts D)
     (path : List ℕ) (clock : ℕ → ℕ) (words : Stream) (f : F) (d : D)
     : List Entry → Result Started NotStarted → F → D → Type 0 where

@@ -27,7 +27,8 @@ settings_read (Err bad) = Err (why.Refused part.Settings bad)
 abbrev pub settings_of_text : Option (List ℕ) → Result Settings NotStarted
 settings_of_text None = Err (refused_whole part.Settings)
 settings_of_text (Some text) =
-    if nat_le (length text) conf_limit then settings_read (conf_read text) else Err (refused_whole part.Settings)
+    if nat_le (length text) conf_limit then settings_read (conf_read text)
+    else Err (refused_whole part.Settings)
 
 -- the first of two refusals
 abbrev pub first_refusal : Option NotStarted → Option NotStarted → Option NotStarted
@@ -43,7 +44,8 @@ refusal_of_grants (Err bad) = Some (why.Refused part.Access bad)
 abbrev pub refusal_of_file : Option (List ℕ) → Option NotStarted
 refusal_of_file None = refusal_of_grants (access_read [])
 refusal_of_file (Some text) =
-    if nat_le (length text) conf_limit then refusal_of_grants (access_read text) else Some (refused_whole part.Access)
+    if nat_le (length text) conf_limit then refusal_of_grants (access_read text)
+    else Some (refused_whole part.Access)
 
 -- an access file whose name is no user's or group's isn't taken
 abbrev pub refusal_of_named : Option Named → Option (List ℕ) → Option NotStarted
@@ -51,12 +53,14 @@ refusal_of_named None text = Some refused_name
 refusal_of_named (Some who) text = refusal_of_file text
 
 abbrev pub refusal_of_name : Tree → List ℕ → List ℕ → Option NotStarted
-refusal_of_name tree folder name = refusal_of_named (principal_of name) (text_at tree (path_in folder name))
+refusal_of_name tree folder name =
+    refusal_of_named (principal_of name) (text_at tree (path_in folder name))
 
 -- whether one of a folder's files isn't taken
 abbrev pub refusal_of_files : Tree → List ℕ → List (List ℕ) → Option NotStarted
 refusal_of_files tree folder [] = None
-refusal_of_files tree folder (name ∷ names) = first_refusal (refusal_of_name tree folder name) (refusal_of_files tree folder names)
+refusal_of_files tree folder (name ∷ names) =
+    first_refusal (refusal_of_name tree folder name) (refusal_of_files tree folder names)
 
 -- an absent folder is empty
 abbrev pub refusal_of_folder : Tree → List ℕ → Option (List (List ℕ)) → Option NotStarted
@@ -68,19 +72,25 @@ abbrev pub refusal_of_read : Result (List Rule) TextFault → Option NotStarted
 refusal_of_read (Err bad) = Some (why.Refused part.Rules bad)
 refusal_of_read (Ok rules) =
     if nat_le (length rules) 65536
-    then (if nat_le (length (rules_text_of rules)) file_limit then None else Some (refused_whole part.Rules))
+    then
+    (if nat_le (length (rules_text_of rules)) file_limit then None
+    else Some (refused_whole part.Rules))
     else Some (refused_whole part.Rules)
 
 abbrev pub refusal_of_rules_text : List ℕ → Option NotStarted
 refusal_of_rules_text text =
-    if nat_le (length text) file_limit then refusal_of_read (file_read text) else Some (refused_whole part.Rules)
+    if nat_le (length text) file_limit then refusal_of_read (file_read text)
+    else Some (refused_whole part.Rules)
 
 abbrev pub refusal_behind : Tree → List ℕ → Result Settings NotStarted → Option NotStarted
 refusal_behind tree rules (Err cause) = Some cause
 refusal_behind tree rules (Ok settings) =
-    first_refusal (refusal_of_folder tree settings.access_folder (names_at tree settings.access_folder)) (refusal_of_rules_text rules)
+    first_refusal
+    (refusal_of_folder tree settings.access_folder (names_at tree settings.access_folder))
+    (refusal_of_rules_text rules)
 
--- Whether a part isn't taken of the settings at that path, the access files and the text of the rule file.
+-- Whether a part isn't taken of the settings at that path, the access files and the text of the
+-- rule file.
 abbrev pub refusal_of_texts : Tree → List ℕ → List ℕ → Option NotStarted
 refusal_of_texts tree rules path = refusal_behind tree rules (settings_of_text (text_at tree path))
 
@@ -90,7 +100,9 @@ IsStatusFor None status = status ≡ 3 → ⊥
 IsStatusFor (Some cause) status = Has (3 ∷ 4 ∷ 6 ∷ 9 ∷ []) status
 
 -- The status of a daemon with the settings at that path, where the files and the disk are told.
-abbrev pub IsStatusByTexts : {F D : Type 0} → (F → Option Tree) → (D → Option Disk) → Option (List ℕ) → D → ℕ → F → D → Type 0
+abbrev pub IsStatusByTexts : {F D : Type 0} → (F → Option Tree) → (D → Option Disk)
+    → Option (List ℕ) → D → ℕ → F → D → Type 0
 IsStatusByTexts files_told disk_told words_path d status g e =
-    (path : List ℕ) (tree : Tree) (n : Disk) → words_path ≡ Some path → files_told g ≡ Some tree → disk_told e ≡ Some n
+    (path : List ℕ) (tree : Tree) (n : Disk) → words_path ≡ Some path → files_told g ≡ Some tree
+    → disk_told e ≡ Some n
     → (m : Disk) × (disk_told d ≡ Some m) × IsStatusFor (refusal_of_texts tree m.text path) status

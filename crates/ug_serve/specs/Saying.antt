@@ -41,7 +41,9 @@ notices_in entries = flat_map (λ e. noticed_in (notice_section e) e) entries
 
 -- an event's reply, then that notices are granted, and then its notices
 abbrev pub said_in : TurnEvent → List Said
-said_in e = answered_by e.asked_by e.after.reply ++ (watched_by e.asked_by (grants_watch e.after) ++ notices_in e.entries)
+said_in e =
+    answered_by e.asked_by e.after.reply
+    ++ (watched_by e.asked_by (grants_watch e.after) ++ notices_in e.entries)
 
 abbrev pub asked_if : Option LinkId → Event → List (LinkId × List ℕ)
 asked_if (Some id) (Order moment who line) = (id, line) ∷ []

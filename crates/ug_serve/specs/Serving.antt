@@ -30,7 +30,8 @@ use Rattle.ug_serve.specs.declared.not_started.NotStarted.TheVariants.{Memory}
 use Rattle.ug_serve.specs.declared.turn.TurnEnd.{TurnEnd}
 use Rattle.ug_serve.specs.declared.turn.TurnEnd.TheVariants as end
 
--- the objects that the daemon is handed: the kernel's files, the disk, the links, the waiter, the clock, and the auditors
+-- the objects that the daemon is handed: the kernel's files, the disk, the links, the waiter, the
+-- clock, and the auditors
 pub record Objects (Y D N W C : Type 0) : Type 0 where
   pub sysfs : Y
   pub disk : D
@@ -40,7 +41,8 @@ pub record Objects (Y D N W C : Type 0) : Type 0 where
   pub members : List Member
 
 abbrev pub objects : {Y D N W C : Type 0} → Y → D → N → W → C → List Member → Objects Y D N W C
-objects y d n w c ms = record { sysfs = y; disk = d; links = n; waiter = w; clock = c; members = ms }
+objects y d n w c ms =
+    record { sysfs = y; disk = d; links = n; waiter = w; clock = c; members = ms }
 
 abbrev pub objects_of : {Y D N W C : Type 0} → TurnWorld Y D N W C → Objects Y D N W C
 objects_of w = objects w.core.sysfs w.core.disk w.links w.waiter w.clock w.core.members
@@ -50,8 +52,11 @@ abbrev pub server_for : List Named → ServerState
 server_for principals = record { principals = principals; listeners = []; sessions = [] }
 
 -- what the first turn is over: a daemon that started, with links that listen
-abbrev pub first_world : {Y D N W C : Type 0} → Started → N → Objects Y D N W C → TurnWorld Y D N W C
-first_world c n s = turn_world (core_of c.daemon s.sysfs s.disk s.members) (server_for c.principals) n s.waiter s.clock
+abbrev pub first_world : {Y D N W C : Type 0} → Started → N → Objects Y D N W C
+    → TurnWorld Y D N W C
+first_world c n s =
+    turn_world (core_of c.daemon s.sysfs s.disk s.members) (server_for c.principals) n s.waiter
+    s.clock
 
 -- Who a daemon is open to, and who of them may do what; the calls by which its links were asked to
 -- listen; and its server behind its turns.
@@ -83,8 +88,9 @@ turns_status end.WaitFailed = 11
 abbrev pub daemon_statuses : List ℕ
 daemon_statuses = 0 ∷ 1 ∷ 3 ∷ 4 ∷ 6 ∷ 9 ∷ 10 ∷ 11 ∷ []
 
--- A daemon that started, with the turns that it made and the exit status: the links are asked to listen for those that it is open to.
--- Where one of these calls isn't done, its cause is the status. Else turns are made.
+-- A daemon that started, with the turns that it made and the exit status: the links are asked to
+-- listen for those that it is open to. Where one of these calls isn't done, its cause is the
+-- status. Else turns are made.
 pub data ServesStarted {Y D N W C : Type 0} (sysfs : Sysfs.Ghosts Y) (disk : RuleDisk.Ghosts D)
     (net : Links.Ghosts N) (wait : Waiter.Ghosts W) (ticks : Clock.Ghosts C)
     (turns : ℕ) (c : Started) (s : Objects Y D N W C)
@@ -103,10 +109,11 @@ pub data ServesStarted {Y D N W C : Type 0} (sysfs : Sysfs.Ghosts Y) (disk : Rul
       → ServesStarted sysfs disk net wait ticks turns c s
       (at_sockets c steps w.server) made (turns_status ended) (objects_of w)
 
--- The daemon from its words, with the journal's entries, the turns that it made and the exit status. Other words than a path's do nothing,
--- and neither does a daemon that has no room for its words or its first entries. A start that isn't done is noted, where a part isn't taken, and its
--- cause is the status. Else it listens and makes turns, from what the start left. Beside what the start and the turns note, the journal
--- has the `dropped` entries.
+-- The daemon from its words, with the journal's entries, the turns that it made and the exit
+-- status. Other words than a path's do nothing, and neither does a daemon that has no room for its
+-- words or its first entries. A start that isn't done is noted, where a part isn't taken, and its
+-- cause is the status. Else it listens and makes turns, from what the start left. Beside what the
+-- start and the turns note, the journal has the `dropped` entries.
 pub data Serves {F Y D N W C : Type 0} (reads : F → FileStep → F → Type 0)
     (sysfs : Sysfs.Ghosts Y) (disk : RuleDisk.Ghosts D)
     (net : Links.Ghosts N) (wait : Waiter.Ghosts W) (ticks : Clock.Ghosts C)

@@ -31,8 +31,9 @@ turns_moments turns = map (λ turn. turn.moment) turns
 abbrev pub turns_calls : List Turned → List LinkStep
 turns_calls turns = flat_map (λ turn. turn.comes ++ turn.sends) turns
 
--- The turns' events are a run of the daemon from its start, over the kernels from k to l and the disks from o to p: each write that authorises is explained by the
--- verdict in force on the very device that it reached, and the rule file is kept, in texts that can be read again.
+-- The turns' events are a run of the daemon from its start, over the kernels from k to l and the
+-- disks from o to p: each write that authorises is explained by the verdict in force on the very
+-- device that it reached, and the rule file is kept, in texts that can be read again.
 pub record IsRunOfTurns (policy : Judging) (hub : Option Write) (turns : List Turned)
     (k : Kernel) (o : Option Disk) (d : DaemonState)
     (l : Kernel) (p : Option Disk) (e : DaemonState) : Type 0 where
@@ -43,8 +44,9 @@ pub record IsRunOfTurns (policy : Judging) (hub : Option Write) (turns : List Tu
   pub run : IsRun policy hub k o happened l p e
   pub readable : AllReadable happened
 
--- What holds of any turns that follow a start. Where the kernel is told at the end, one was told at the start, and if that is sound,
--- the turns are a run between the two; and what links, waiter and clock tell grew by the turns' calls, tokens and moments, in order.
+-- What holds of any turns that follow a start. Where the kernel is told at the end, one was told at
+-- the start, and if that is sound, the turns are a run between the two; and what links, waiter and
+-- clock tell grew by the turns' calls, tokens and moments, in order.
 pub record TellTurns {Y D N W C : Type 0} (sysfs : Sysfs.Ghosts Y) (disk : RuleDisk.Ghosts D)
     (net : Links.Ghosts N) (wait : Waiter.Ghosts W) (ticks : Clock.Ghosts C)
     (policy : Judging) (hub : Option Write)

@@ -1,4 +1,5 @@
--- A turn of the daemon: one wait, one moment, what is accepted and read, the events, and what is sent; and turns one after another.
+-- A turn of the daemon: one wait, one moment, what is accepted and read, the events, and what is
+-- sent; and turns one after another.
 use Rattle.std.specs.Prelude.{◌≡◌, ◌⊎◌, ℕ, ◌<◌, Bool, true, false, List, [], ◌∷◌, ◌++◌, length, Option, Some, None, IsSome}
 use Rattle.std.specs.List.{flat_map}
 use Rattle.ug_types.specs.declared.verdict.Moment.{Moment}
@@ -28,16 +29,16 @@ use Rattle.ug_serve.specs.Responses.{ChangesSessions, Notifies, Responds}
 use Rattle.ug_serve.specs.declared.turn.TurnEnd.{TurnEnd}
 use Rattle.ug_serve.specs.declared.turn.TurnEnd.TheVariants as end
 
--- An event of a turn: the session whose request it is, where it is an order; the event; the daemon after it; and its entries with the
--- `dropped` ones.
+-- An event of a turn: the session whose request it is, where it is an order; the event; the daemon
+-- after it; and its entries with the `dropped` ones.
 pub record TurnEvent : Type 0 where
   pub asked_by : Option LinkId
   pub event : Event
   pub after : DaemonState
   pub entries : List Entry
 
--- What a turn was: the tokens of its wait; its moment; the accepts and reads, with their answers; its events; the writes; and whether
--- all of it was made, or the numbers left no room for an event.
+-- What a turn was: the tokens of its wait; its moment; the accepts and reads, with their answers;
+-- its events; the writes; and whether all of it was made, or the numbers left no room for an event.
 pub record Turned : Type 0 where
   pub tokens : List Ready
   pub moment : Moment
@@ -87,7 +88,8 @@ pub record TurnWorld (Y D N W C : Type 0) : Type 0 where
   pub waiter : W
   pub clock : C
 
-abbrev pub turn_world : {Y D N W C : Type 0} → Core Y D → ServerState → N → W → C → TurnWorld Y D N W C
+abbrev pub turn_world : {Y D N W C : Type 0} → Core Y D → ServerState → N → W → C
+    → TurnWorld Y D N W C
 turn_world c v n w k = record { core = c; server = v; links = n; waiter = w; clock = k }
 
 -- a request: its session, whose it is, and its line
@@ -95,8 +97,10 @@ abbrev pub AskedLine : Type 0
 AskedLine = LinkId × Named × List ℕ
 
 -- that request is handed out next, or there is none
-abbrev pub HandsOutNext : {Y D : Type 0} → Option AskedLine → CoreAndServer Y D → CoreAndServer Y D → Type 0
-HandsOutNext request a b = (b.core ≡ a.core) × ChangesSessions (λ ss ts. HandsNext ss request ts) a.server b.server
+abbrev pub HandsOutNext : {Y D : Type 0} → Option AskedLine → CoreAndServer Y D → CoreAndServer Y D
+    → Type 0
+HandsOutNext request a b =
+    (b.core ≡ a.core) × ChangesSessions (λ ss ts. HandsNext ss request ts) a.server b.server
 
 module _ {Y D : Type 0} (sysfs : Sysfs.Ghosts Y) (disk : RuleDisk.Ghosts D) where
   open sysfs use {faults}
@@ -115,9 +119,10 @@ module _ {Y D : Type 0} (sysfs : Sysfs.Ghosts Y) (disk : RuleDisk.Ghosts D) wher
     pub entries : d.daemon.sweep.entries ≡ without_drops e.entries
     pub noted : NotesEntries e.entries c.members d.members
 
-  -- the request that is handed out next is an order's, of its session's user or group; it leaves a reply, and what it comes to is put to the
-  -- sessions at once
-  pub record IsOrder (moment : Moment) (a : CoreAndServer Y D) (e : TurnEvent) (b : CoreAndServer Y D) : Type 0 where
+  -- the request that is handed out next is an order's, of its session's user or group; it leaves a
+  -- reply, and what it comes to is put to the sessions at once
+  pub record IsOrder (moment : Moment) (a : CoreAndServer Y D) (e : TurnEvent)
+      (b : CoreAndServer Y D) : Type 0 where
     pub asked : AskedLine
     pub handed : CoreAndServer Y D
     pub hands : HandsOutNext (Some asked) a handed
@@ -128,7 +133,8 @@ module _ {Y D : Type 0} (sysfs : Sysfs.Ghosts Y) (disk : RuleDisk.Ghosts D) wher
     pub responds : ChangesSessions (Responds asked.0 e.after e.entries) handed.server b.server
 
   -- there is no request, and all devices are looked at
-  pub record IsSweep (moment : Moment) (a : CoreAndServer Y D) (e : TurnEvent) (b : CoreAndServer Y D) : Type 0 where
+  pub record IsSweep (moment : Moment) (a : CoreAndServer Y D) (e : TurnEvent)
+      (b : CoreAndServer Y D) : Type 0 where
     pub passed : CoreAndServer Y D
     pub hands : HandsOutNext None a passed
     pub session : e.asked_by ≡ None
@@ -138,20 +144,31 @@ module _ {Y D : Type 0} (sysfs : Sysfs.Ghosts Y) (disk : RuleDisk.Ghosts D) wher
 
   abbrev pub AreOrders : Moment → CoreAndServer Y D → List TurnEvent → CoreAndServer Y D → Type 0
   AreOrders moment a [] b = b ≡ a
-  AreOrders moment a (e ∷ es) b = (m : CoreAndServer Y D) × IsOrder moment a e m × AreOrders moment m es b
+  AreOrders moment a (e ∷ es) b =
+      (m : CoreAndServer Y D) × IsOrder moment a e m × AreOrders moment m es b
 
   -- orders until no request is left, or until the numbers leave no room for that of the next one
-  abbrev pub ServesOrders : Moment → CoreAndServer Y D → List TurnEvent → Bool → CoreAndServer Y D → Type 0
-  ServesOrders moment a es true b = (m : CoreAndServer Y D) × AreOrders moment a es m × HandsOutNext None m b
-  ServesOrders moment a es false b = (m : CoreAndServer Y D) × (asked : AskedLine) × AreOrders moment a es m × HandsOutNext (Some asked) m b × (has_room b.core ≡ false)
+  abbrev pub ServesOrders : Moment → CoreAndServer Y D → List TurnEvent → Bool → CoreAndServer Y D
+      → Type 0
+  ServesOrders moment a es true b =
+      (m : CoreAndServer Y D) × AreOrders moment a es m × HandsOutNext None m b
+  ServesOrders moment a es false b =
+      (m : CoreAndServer Y D) × (asked : AskedLine) × AreOrders moment a es m
+      × HandsOutNext (Some asked) m b × (has_room b.core ≡ false)
 
-  -- The events of a turn, and whether the numbers left room for each: an order for each request in turn, or one sweep where there is no
-  -- request.
-  pub data Events (moment : Moment) (a : CoreAndServer Y D) : List TurnEvent → Bool → CoreAndServer Y D → Type 0 where
-    Sweeps : (e : TurnEvent) (b : CoreAndServer Y D) → IsSweep moment a e b → Events moment a (e ∷ []) true b
-    Sweeps_not : (b : CoreAndServer Y D) → HandsOutNext None a b → has_room b.core ≡ false → Events moment a [] false b
-    Serves : (e : TurnEvent) (m : CoreAndServer Y D) (es : List TurnEvent) (whole : Bool) (b : CoreAndServer Y D) → IsOrder moment a e m → ServesOrders moment m es whole b → Events moment a (e ∷ es) whole b
-    Serves_not : (asked : AskedLine) (b : CoreAndServer Y D) → HandsOutNext (Some asked) a b → has_room b.core ≡ false → Events moment a [] false b
+  -- The events of a turn, and whether the numbers left room for each: an order for each request in
+  -- turn, or one sweep where there is no request.
+  pub data Events (moment : Moment) (a : CoreAndServer Y D) : List TurnEvent → Bool
+      → CoreAndServer Y D → Type 0 where
+    Sweeps : (e : TurnEvent) (b : CoreAndServer Y D) → IsSweep moment a e b
+        → Events moment a (e ∷ []) true b
+    Sweeps_not : (b : CoreAndServer Y D) → HandsOutNext None a b → has_room b.core ≡ false
+        → Events moment a [] false b
+    Serves : (e : TurnEvent) (m : CoreAndServer Y D) (es : List TurnEvent) (whole : Bool)
+        (b : CoreAndServer Y D)
+        → IsOrder moment a e m → ServesOrders moment m es whole b → Events moment a (e ∷ es) whole b
+    Serves_not : (asked : AskedLine) (b : CoreAndServer Y D) → HandsOutNext (Some asked) a b
+        → has_room b.core ≡ false → Events moment a [] false b
 
   module _ {N W C : Type 0}
       (net : Links.Ghosts N) (wait : Waiter.Ghosts W) (ticks : Clock.Ghosts C) where
@@ -161,23 +178,26 @@ module _ {Y D : Type 0} (sysfs : Sysfs.Ghosts Y) (disk : RuleDisk.Ghosts D) wher
 
     -- these calls send what is unsent; behind events that were cut nothing is sent
     abbrev pub Sends : Bool → List LinkStep → ServerState → N → ServerState → N → Type 0
-    Sends true steps v l u m = (counts : Turn) × Path (flushing v) steps (u, counts) × Makes links l steps m
+    Sends true steps v l u m =
+        (counts : Turn) × Path (flushing v) steps (u, counts) × Makes links l steps m
     Sends false steps v l u m = (steps ≡ []) × (u ≡ v) × (m ≡ l)
 
-    -- The tokens of one wait and the moment of one look at the clock; the accepts and reads for these tokens; the events at that moment;
-    -- and the writes.
-    pub record IsTurn (s : TurnWorld Y D N W C) (turn : Turned) (t : TurnWorld Y D N W C) : Type 0 where
-      pub room : has_room s.core ≡ true
-      pub waited : waits s.waiter (Tokens turn.tokens) t.waiter
-      pub moment : clocks s.clock turn.moment t.clock
-      pub came : ServerState
-      pub counts : Turn
-      pub came_links : N
-      pub comes : Path (turning turn.tokens s.server) turn.comes (came, counts)
-      pub comes_made : Makes links s.links turn.comes came_links
-      pub served : ServerState
-      pub events : Events turn.moment (with_server s.core came) turn.events turn.whole (with_server t.core served)
-      pub sends : Sends turn.whole turn.sends served came_links t.server t.links
+    -- The tokens of one wait and the moment of one look at the clock; the accepts and reads for
+    -- these tokens; the events at that moment; and the writes.
+    pub record IsTurn (s : TurnWorld Y D N W C) (turn : Turned) (t : TurnWorld Y D N W C) : Type 0
+      where
+        pub room : has_room s.core ≡ true
+        pub waited : waits s.waiter (Tokens turn.tokens) t.waiter
+        pub moment : clocks s.clock turn.moment t.clock
+        pub came : ServerState
+        pub counts : Turn
+        pub came_links : N
+        pub comes : Path (turning turn.tokens s.server) turn.comes (came, counts)
+        pub comes_made : Makes links s.links turn.comes came_links
+        pub served : ServerState
+        pub events : Events turn.moment (with_server s.core came) turn.events turn.whole
+            (with_server t.core served)
+        pub sends : Sends turn.whole turn.sends served came_links t.server t.links
 
     -- one after another, each from what the one before left
     abbrev pub Turns : TurnWorld Y D N W C → List Turned → TurnWorld Y D N W C → Type 0
@@ -195,10 +215,12 @@ module _ {Y D : Type 0} (sysfs : Sysfs.Ghosts Y) (disk : RuleDisk.Ghosts D) wher
       pub waited : waits s.waiter Failed t.waiter
       pub same : t ≡ record s { waiter = t.waiter }
 
-    -- what one turn came to: the numbers leave room neither at its start nor before one of its events
+    -- what one turn came to: the numbers leave room neither at its start nor before one of its
+    -- events
     abbrev pub EndsTurn : TurnWorld Y D N W C → TurnEnd → TurnWorld Y D N W C → Type 0
     EndsTurn s end.Done t = (turn : Turned) × IsTurn s turn t × (turn.whole ≡ true)
-    EndsTurn s end.Numbers t = IsOutOfNumbers s t ⊎ ((turn : Turned) × IsTurn s turn t × (turn.whole ≡ false))
+    EndsTurn s end.Numbers t =
+        IsOutOfNumbers s t ⊎ ((turn : Turned) × IsTurn s turn t × (turn.whole ≡ false))
     EndsTurn s end.WaitFailed t = FailsToWait s t
 
     -- fewer than that many turns, all of them whole
@@ -209,10 +231,15 @@ module _ {Y D : Type 0} (sysfs : Sysfs.Ghosts Y) (disk : RuleDisk.Ghosts D) wher
     abbrev pub CutsTurns : ℕ → TurnWorld Y D N W C → List Turned → TurnWorld Y D N W C → Type 0
     CutsTurns n s turns t =
         ((u : TurnWorld Y D N W C) × FewerTurns n s turns u × IsOutOfNumbers u t)
-        ⊎ ((u : TurnWorld Y D N W C) × (front : List Turned) × (last : Turned) × (turns ≡ front ++ last ∷ []) × FewerTurns n s front u × IsTurn u last t × (last.whole ≡ false))
+        ⊎
+        ((u : TurnWorld Y D N W C) × (front : List Turned) × (last : Turned)
+        × (turns ≡ front ++ last ∷ []) × FewerTurns n s front u × IsTurn u last t
+        × (last.whole ≡ false))
 
     -- what a number of turns came to: all of them were made, or fewer, and the next one was cut
-    abbrev pub ServesTurns : ℕ → TurnWorld Y D N W C → List Turned → TurnEnd → TurnWorld Y D N W C → Type 0
+    abbrev pub ServesTurns : ℕ → TurnWorld Y D N W C → List Turned → TurnEnd → TurnWorld Y D N W C
+        → Type 0
     ServesTurns n s turns end.Done t = (length turns ≡ n) × AreWhole turns × Turns s turns t
     ServesTurns n s turns end.Numbers t = CutsTurns n s turns t
-    ServesTurns n s turns end.WaitFailed t = (u : TurnWorld Y D N W C) × FewerTurns n s turns u × FailsToWait u t
+    ServesTurns n s turns end.WaitFailed t =
+        (u : TurnWorld Y D N W C) × FewerTurns n s turns u × FailsToWait u t
