@@ -1,5 +1,5 @@
 // A command that was read.
-ghost use Rattle.std.specs.Prelude.{◌≡◌, ◌≢◌, ◌⊎◌, ◌++◌, [], ℕ, Bool, List, Option, Some, None, true, false};
+ghost use Rattle.std.specs.Prelude.{◌≡◌, ◌≢◌, ◌++◌, [], ℕ, Bool, List, Option, Some, None, true, false};
 ghost use Rattle.ug_types.specs.Ends.{Rose};
 ghost use Rattle.ug_types.specs.Principals.{Named};
 ghost use Rattle.ug_console.specs.Fold.{of_first};
@@ -8,6 +8,7 @@ ghost use Rattle.ug_console.specs.Statuses as lines;
 ghost use Rattle.ug_console.specs.declared.results.Ended.{Ended};
 ghost use Rattle.ug_sysfs.specs.World.{World};
 ghost use Rattle.ug_lines.specs.Lines.{lines_of};
+ghost use Rattle.ug_script.specs.Against.{RefusesScript};
 ghost use Rattle.ug_script.specs.Generating.{IsFirstPolicy, TellsFaultAlone, generate_end, generate_step};
 ghost use Rattle.ug_script.specs.Script.{Script};
 ghost use Rattle.ug_script.specs.Replay.{script_step, script_end};
@@ -66,6 +67,10 @@ pub fn carry_out<S: Source, K: Sink, L: Link>(
         (S.left input.new) (K.held out.new) (summary, world) result }
     ensures summary { command.now ≡ commands.Summarize → (all base : List ℕ) → S.left input.old ≡ Some all → K.held out.old ≡ Some base
         → TellsSummary new_world all base (K.held out.new) result }
+    ensures why { command.now ≡ commands.Replay → (all : List ℕ) → S.left input.old ≡ Some all
+        → result ≡ 2 → RefusesScript new_world (lines_of all) }
+    ensures why_summary { command.now ≡ commands.Summarize → (all : List ℕ)
+        → S.left input.old ≡ Some all → result ≡ 2 → RefusesScript new_world (lines_of all) }
     ensures made { (events start : ℕ) → command.now ≡ commands.MakeScript events start
         → EndsIn (generated_script events start) 0 (K.held out.old) (K.held out.new) result }
     ensures unread { (events start : ℕ) → command.now ≡ commands.MakeScript events start

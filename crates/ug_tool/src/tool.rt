@@ -7,6 +7,7 @@ ghost use Rattle.ug_console.specs.Statuses.{status_of};
 ghost use Rattle.ug_console.specs.Statuses as lines;
 ghost use Rattle.ug_console.specs.declared.results.Ended.{Ended};
 ghost use Rattle.ug_sysfs.specs.World.{World};
+ghost use Rattle.ug_script.specs.Against.{RefusesScript};
 ghost use Rattle.ug_script.specs.Journal.{StaysRecorded};
 ghost use Rattle.ug_script.specs.Laws.{StaysLawful};
 ghost use Rattle.ug_lines.specs.Lines.{lines_of};
@@ -29,7 +30,7 @@ ghost use Rattle.ug_arguments.specs.declared.command.Command.TheVariants as comm
 ghost use Rattle.ug_tool.specs.Client.{AsksAndEnds, WatchesAndEnds};
 ghost use Rattle.ug_tool.specs.Faults.{EndsIn, IsOutOfMemory, IsRefused};
 ghost use Rattle.ug_tool.specs.Replay.{new_world};
-ghost use Rattle.ug_tool.specs.Tool.{asks_daemon, gives_ended};
+ghost use Rattle.ug_tool.specs.Tool.{asks_daemon, gives_ended, replay_of};
 
 use crate::command::carry_out;
 use crate::faults::refuse;
@@ -67,6 +68,10 @@ pub fn run_tool<S: Source, K: Sink, L: Link>(
         (S.left input.new) (K.held out.new) (summary, world) result }
     ensures summary { command_in (map (λ word. word.now) words.now) ≡ Some command.Summarize → (all base : List ℕ) → S.left input.old ≡ Some all → K.held out.old ≡ Some base
         → TellsSummary new_world all base (K.held out.new) result }
+    ensures why { (summary : Bool)
+        → command_in (map (λ word. word.now) words.now) ≡ Some (replay_of summary)
+        → (all : List ℕ) → S.left input.old ≡ Some all → result ≡ 2
+        → RefusesScript new_world (lines_of all) }
     ensures made { (events start : ℕ) → command_in (map (λ word. word.now) words.now) ≡ Some (command.MakeScript events start)
         → EndsIn (generated_script events start) 0 (K.held out.old) (K.held out.new) result
         ⊎ IsOutOfMemory (K.held out.old) (K.held out.new) result }

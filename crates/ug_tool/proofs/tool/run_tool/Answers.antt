@@ -1,7 +1,9 @@
-use Rattle.std.proofs.Common.{ℕ, List, None, Bor, inl, inr, map, refl}
+use Rattle.std.proofs.Common.{◌≡◌, ℕ, Bool, true, false, List, Some, None, Bor, inl, inr, map, refl}
 use Rattle.ug_console.specs.Fold.{of_first}
 use Rattle.ug_console.specs.Statuses.{status_of}
 use Rattle.ug_console.specs.WholeInputs.{input_limit}
+use Rattle.ug_lines.specs.Lines.{lines_of}
+use Rattle.ug_script.specs.Against.{RefusesScript}
 use Rattle.ug_script.specs.Generating.{generate_end, generate_step}
 use Rattle.ug_script.specs.Replay.{script_step, script_end}
 use Rattle.ug_script.specs.Summing.{no_totals, summary_end, summary_step}
@@ -15,7 +17,8 @@ use Rattle.ug_arguments.specs.Commands.{command_in}
 use Rattle.ug_sysfs.specs.Sound.{new_sound}
 use Rattle.ug_script.proofs.Journals.{stays_lawful, stays_recorded}
 use Rattle.ug_tool.specs.Replay.{new_world}
-use Rattle.ug_tool.proofs.Memory.{fault_is_memory, input_unread, lines_unread, memory_alone, memory_summary, memory_undone, request_unsent, same_command, watch_unsent}
+use Rattle.ug_tool.specs.Tool.{replay_of}
+use Rattle.ug_tool.proofs.Memory.{fault_is_memory, input_unread, lines_unread, memory_alone, memory_summary, memory_undone, memory_unrefused, request_unsent, same_command, watch_unsent}
 use Rattle.ug_tool.proofs.tool.run_tool.Goals as goal
 
 pub returns-in-Ok-clause-laws : goal.returns-in-Ok-clause-laws
@@ -147,3 +150,16 @@ returns-in-Err-clause-watched g c = λ socket most e.
     let words = command_in (map (λ (w : Bor (List ℕ)). w.now) c.args.words.now) in
     watch_unsent socket (request_line request.Watch) most (g.L.Link.told c.args.link.now) (g.L.Link.sent c.args.link.now) (g.L.Link.left c.args.link.now) (g.K.Sink.held c.args.out.now) (g.K.Sink.held c.refuse.new.out) (g.L.Link.faults c.args.link.now) c.refuse.result
     (c.refuse.ensures.memory (fault_is_memory words _ c.in-Err.fault c.in-Err.ensures.err e))
+
+pub returns-in-Ok-clause-why : goal.returns-in-Ok-clause-why
+returns-in-Ok-clause-why g c = λ summary e.
+    by_summary summary (same_command (command_in (map (λ (w : Bor (List ℕ)). w.now) c.args.words.now)) _ _ c.in-Ok.ensures.ok e)
+  where
+    by_summary : (summary : Bool) → c.in-Ok.command ≡ replay_of summary → (all : List ℕ) → g.S.Source.left c.args.input.now ≡ Some all → c.carry_out.result ≡ 2 → RefusesScript new_world (lines_of all)
+    by_summary true is = c.carry_out.ensures.why_summary is
+    by_summary false is = c.carry_out.ensures.why is
+
+pub returns-in-Err-clause-why : goal.returns-in-Err-clause-why
+returns-in-Err-clause-why g c = λ summary e all is two.
+    let words = command_in (map (λ (w : Bor (List ℕ)). w.now) c.args.words.now) in
+    absurd (memory_unrefused (g.K.Sink.held c.args.out.now) (g.K.Sink.held c.refuse.new.out) c.refuse.result (c.refuse.ensures.memory (fault_is_memory words _ c.in-Err.fault c.in-Err.ensures.err e)) two)
