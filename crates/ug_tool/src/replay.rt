@@ -10,6 +10,7 @@ ghost use Rattle.ug_lines.specs.Lines.{lines_of};
 ghost use Rattle.ug_script.specs.Against.{RefusesScript};
 ghost use Rattle.ug_script.specs.Births.{StaysBorn};
 ghost use Rattle.ug_script.specs.Roomless.{TellsRoom};
+ghost use Rattle.ug_script.specs.CarriedOn.{CarriesThrough};
 ghost use Rattle.ug_script.specs.Script.{Script};
 ghost use Rattle.ug_script.specs.Replay.{script_step, script_end};
 ghost use Rattle.ug_script.specs.Summing.{Summary, TellsSummary, no_totals, summary_end, summary_step};
@@ -42,6 +43,8 @@ pub fn replay_over<S: Source, K: Sink>(
     ensures too_long { (all base : List ℕ)
         → S.left input.old ≡ Some all → K.held out.old ≡ Some base
         → TellsRoom new_world (lines_of all) base (K.held out.new) result }
+    ensures carries { (all base : List ℕ) → S.left input.old ≡ Some all
+        → K.held out.old ≡ Some base → result ≡ 0 → CarriesThrough new_world (lines_of all) }
     ensures ended { (ended : Ended) × (result ≡ status_of ended) }
     ensures read { result ≡ 4 → Rose (S.faults input.old) (S.faults input.new) }
     ensures written { result ≡ 5 → Rose (K.faults out.old) (K.faults out.new) }
@@ -70,6 +73,8 @@ fn replay_or_summarize<S: Source, K: Sink>(
     ensures too_long { summary ≡ false → (all base : List ℕ)
         → S.left input.old ≡ Some all → K.held out.old ≡ Some base
         → TellsRoom new_world (lines_of all) base (K.held out.new) result }
+    ensures carries { summary ≡ false → (all base : List ℕ) → S.left input.old ≡ Some all
+        → K.held out.old ≡ Some base → result ≡ 0 → CarriesThrough new_world (lines_of all) }
     ensures ended { (ended : Ended) × (result ≡ status_of ended) }
     ensures read { result ≡ 4 → Rose (S.faults input.old) (S.faults input.new) }
     ensures written { result ≡ 5 → Rose (K.faults out.old) (K.faults out.new) }
@@ -136,6 +141,9 @@ pub fn run_replay<S: Source, K: Sink>(
         → (all base : List ℕ) → S.left input.old ≡ Some all
         → K.held out.old ≡ Some base
         → TellsRoom new_world (lines_of all) base (K.held out.new) result }
+    ensures carries { command_in (map (λ word. word.now) words.now) ≡ Some command.Replay
+        → (all base : List ℕ) → S.left input.old ≡ Some all → K.held out.old ≡ Some base
+        → result ≡ 0 → CarriesThrough new_world (lines_of all) }
     ensures ended { (summary : Bool) → command_in (map (λ word. word.now) words.now) ≡ Some (replay_of summary)
         → (ended : Ended) × (result ≡ status_of ended) }
     ensures read { result ≡ 4 → Rose (S.faults input.old) (S.faults input.new) }

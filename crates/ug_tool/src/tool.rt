@@ -8,6 +8,7 @@ ghost use Rattle.ug_console.specs.Statuses as lines;
 ghost use Rattle.ug_console.specs.declared.results.Ended.{Ended};
 ghost use Rattle.ug_sysfs.specs.World.{World};
 ghost use Rattle.ug_script.specs.Against.{RefusesScript};
+ghost use Rattle.ug_script.specs.CarriedOn.{CarriesThrough};
 ghost use Rattle.ug_script.specs.Journal.{StaysRecorded};
 ghost use Rattle.ug_script.specs.Laws.{StaysLawful};
 ghost use Rattle.ug_lines.specs.Lines.{lines_of};
@@ -72,6 +73,9 @@ pub fn run_tool<S: Source, K: Sink, L: Link>(
         → command_in (map (λ word. word.now) words.now) ≡ Some (replay_of summary)
         → (all : List ℕ) → S.left input.old ≡ Some all → result ≡ 2
         → RefusesScript new_world (lines_of all) }
+    ensures carries { command_in (map (λ word. word.now) words.now) ≡ Some command.Replay
+        → (all base : List ℕ) → S.left input.old ≡ Some all → K.held out.old ≡ Some base
+        → result ≡ 0 → CarriesThrough new_world (lines_of all) }
     ensures made { (events start : ℕ) → command_in (map (λ word. word.now) words.now) ≡ Some (command.MakeScript events start)
         → EndsIn (generated_script events start) 0 (K.held out.old) (K.held out.new) result
         ⊎ IsOutOfMemory (K.held out.old) (K.held out.new) result }

@@ -1,7 +1,9 @@
 use Rattle.ug_script.specs.Replay.{interpreter_state}
 use Rattle.std.proofs.Common.{refl}
 use Rattle.ug_sysfs.specs.Sound.{new_sound}
+use Rattle.ug_lines.specs.Lines.{lines_of}
 use Rattle.ug_script.proofs.Against.{script_refused}
+use Rattle.ug_script.proofs.Carrying.{done_carries}
 use Rattle.ug_script.proofs.Journals.{stays_lawful}
 use Rattle.ug_script.proofs.Roomless.{tells_room}
 use Rattle.ug_tool.specs.Replay.{new_world}
@@ -22,3 +24,9 @@ returns-clause-too_long g c = λ all base a b.
     (λ e.
     let k = c.run.ensures.refused all a e in
     script_refused new_world _ k.0 (stays_lawful new_world refl new_sound) refl (rw c.new-interpreter.ensures at (rw c.requires at k.1)))
+
+pub returns-clause-carries : goal.returns-clause-carries
+returns-clause-carries g c = λ all base a b e.
+    done_carries new_world refl new_sound (lines_of all)
+    (rw c.new-interpreter.ensures at (rw c.requires at ((c.run.ensures.answers all base a b).done e).1.0))
+    (rw c.new-interpreter.ensures at (rw c.requires at (c.run.ensures.taken all a e)))

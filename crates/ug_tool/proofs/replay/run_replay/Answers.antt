@@ -8,7 +8,7 @@ use Rattle.ug_script.proofs.Births.{stays_born}
 use Rattle.ug_script.proofs.Journals.{stays_lawful, stays_recorded}
 use Rattle.ug_tool.specs.Replay.{new_world}
 use Rattle.ug_tool.specs.Tool.{replay_of}
-use Rattle.ug_tool.proofs.Memory.{lines_unread, memory_summary, memory_unrefused, only_memory, same_command}
+use Rattle.ug_tool.proofs.Memory.{lines_unread, memory_summary, memory_undone, memory_unrefused, only_memory, same_command}
 use Rattle.ug_tool.proofs.replay.run_replay.Goals as goal
 
 pub returns-in-Ok-clause-laws : goal.returns-in-Ok-clause-laws
@@ -61,3 +61,7 @@ asks_whole false e = refl
 
 pub returns-in-Ok-clause-too_long : goal.returns-in-Ok-clause-too_long
 returns-in-Ok-clause-too_long g c = λ e all base a b. c.replay_or_summarize.ensures.too_long (asks_whole c.in-Ok.summary (same_command _ _ _ c.in-Ok.ensures.ok e)) all base a b
+
+pub returns-in-Err-clause-carries : goal.returns-in-Err-clause-carries
+returns-in-Err-clause-carries g c = λ e all base a b done.
+    absurd (memory_undone _ _ c.refuse.result (c.refuse.ensures.memory (only_memory c.in-Err.fault (λ bad. c.in-Err.ensures.bad bad false) e)) done)

@@ -163,3 +163,11 @@ pub returns-in-Err-clause-why : goal.returns-in-Err-clause-why
 returns-in-Err-clause-why g c = λ summary e all is two.
     let words = command_in (map (λ (w : Bor (List ℕ)). w.now) c.args.words.now) in
     absurd (memory_unrefused (g.K.Sink.held c.args.out.now) (g.K.Sink.held c.refuse.new.out) c.refuse.result (c.refuse.ensures.memory (fault_is_memory words _ c.in-Err.fault c.in-Err.ensures.err e)) two)
+
+pub returns-in-Ok-clause-carries : goal.returns-in-Ok-clause-carries
+returns-in-Ok-clause-carries g c = λ e. c.carry_out.ensures.carries (same_command (command_in (map (λ (w : Bor (List ℕ)). w.now) c.args.words.now)) _ _ c.in-Ok.ensures.ok e)
+
+pub returns-in-Err-clause-carries : goal.returns-in-Err-clause-carries
+returns-in-Err-clause-carries g c = λ e all base a b done.
+    let words = command_in (map (λ (w : Bor (List ℕ)). w.now) c.args.words.now) in
+    absurd (memory_undone (g.K.Sink.held c.args.out.now) (g.K.Sink.held c.refuse.new.out) c.refuse.result (c.refuse.ensures.memory (fault_is_memory words _ c.in-Err.fault c.in-Err.ensures.err e)) done)
