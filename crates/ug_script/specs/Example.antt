@@ -1,5 +1,5 @@
--- Events worked by hand: a root hub that was there at the start, a device below it that a rule allows, and another device that takes
--- its place.
+-- Events worked by hand: a root hub that was there at the start, a device below it that a rule
+-- allows, and another device that takes its place.
 use Rattle.std.specs.Prelude.{ℕ, true, false, List, [], ◌∷◌, None, Some, codes}
 use Rattle.ug_types.specs.declared.rule.Op.TheVariants.{Equals}
 use Rattle.ug_types.specs.declared.rule.Rule.{Rule}
@@ -17,11 +17,22 @@ use Rattle.ug_script.specs.Setup.{SetupState, no_setup, rules_disk, started}
 
 -- a device with nothing but its descriptors
 abbrev pub device_of : List ℕ → List ℕ → NewDevice
-device_of name descriptors = record { name = name; descriptors = descriptors; product = None; serial = None; connect = None; on = false }
+device_of name descriptors =
+    record {
+      name = name;
+      descriptors = descriptors;
+      product = None;
+      serial = None;
+      connect = None;
+      on =
+          false;
+    }
 
 -- a root hub, 1d6b:0002
 abbrev pub hub_bytes : List ℕ
-hub_bytes = 18 ∷ 1 ∷ 0 ∷ 2 ∷ 9 ∷ 0 ∷ 1 ∷ 64 ∷ 107 ∷ 29 ∷ 2 ∷ 0 ∷ 6 ∷ 6 ∷ 3 ∷ 2 ∷ 1 ∷ 1 ∷ 9 ∷ 2 ∷ 25 ∷ 0 ∷ 1 ∷ 1 ∷ 0 ∷ 224 ∷ 0 ∷ 9 ∷ 4 ∷ 0 ∷ 0 ∷ 1 ∷ 9 ∷ 0 ∷ 0 ∷ 0 ∷ 7 ∷ 5 ∷ 129 ∷ 3 ∷ 4 ∷ 0 ∷ 12 ∷ []
+hub_bytes =
+    18 ∷ 1 ∷ 0 ∷ 2 ∷ 9 ∷ 0 ∷ 1 ∷ 64 ∷ 107 ∷ 29 ∷ 2 ∷ 0 ∷ 6 ∷ 6 ∷ 3 ∷ 2 ∷ 1 ∷ 1 ∷ 9 ∷ 2 ∷ 25 ∷ 0 ∷ 1
+    ∷ 1 ∷ 0 ∷ 224 ∷ 0 ∷ 9 ∷ 4 ∷ 0 ∷ 0 ∷ 1 ∷ 9 ∷ 0 ∷ 0 ∷ 0 ∷ 7 ∷ 5 ∷ 129 ∷ 3 ∷ 4 ∷ 0 ∷ 12 ∷ []
 
 -- 1050:0011 and 1050:0012
 abbrev pub key_bytes : List ℕ
@@ -40,14 +51,26 @@ abbrev pub other : NewDevice
 other = device_of (codes "1-1") other_bytes
 
 abbrev pub hub_world : World
-hub_world = record { kernel = record { devices = plugged hub []; held = []; log = [] }; moves = []; fails = []; halted = false; calls = 0; faults = 0; made = []; ran_out = false }
+hub_world =
+    record {
+      kernel = record { devices = plugged hub []; held = []; log = [] };
+      moves = [];
+      fails = [];
+      halted = false;
+      calls = 0;
+      faults = 0;
+      made = [];
+      ran_out = false;
+    }
 
 -- the rule that allows 1050:0011
 abbrev pub key_rule : Rule
 key_rule = record {
   target = Allow;
   query = record {
-    id = Some (record { op = Equals; items = record { vendor = Some 4176; product = Some 17 } ∷ [] });
+    id =
+        Some
+        (record { op = Equals; items = record { vendor = Some 4176; product = Some 17 } ∷ [] });
     serial = None;
     name = None;
     hash = None;
@@ -74,7 +97,9 @@ event_at moment p = event_from (Sweep (record { 0 = moment })) p.daemon (over p.
 
 -- the same with what is scheduled for it
 abbrev pub event_with : ℕ → List Scheduled → List Failing → Played → Played
-event_with moment moves fails p = event_from (Sweep (record { 0 = moment })) p.daemon (record (over p.world) { moves = moves; fails = fails }) p.disk
+event_with moment moves fails p =
+    event_from (Sweep (record { 0 = moment })) p.daemon
+    (record (over p.world) { moves = moves; fails = fails }) p.disk
 
 -- an event over the root hub alone, and then the key is plugged in
 abbrev pub plugged_in : Played
@@ -84,7 +109,9 @@ plugged_in =
 
 -- the key goes and the other device takes its name, just before the twelfth call
 abbrev pub replaced : List Scheduled
-replaced = record { call = 12; after = false; action = Unplug (codes "1-1") } ∷ record { call = 12; after = false; action = Plug other } ∷ []
+replaced =
+    record { call = 12; after = false; action = Unplug (codes "1-1") }
+    ∷ record { call = 12; after = false; action = Plug other } ∷ []
 
 -- the twelfth call fails, and has its effect all the same
 abbrev pub failing : List Failing
@@ -92,15 +119,26 @@ failing = record { call = 12; effect = true } ∷ []
 
 -- no rule, and no device that comes is authorised
 abbrev pub with_none : SetupState
-with_none = record no_setup { settings = record no_setup.settings { draft = record no_setup.settings.draft { settings = record no_setup.settings.draft.settings { default = auth.None } } } }
+with_none =
+    record no_setup {
+      settings = record no_setup.settings {
+        draft = record no_setup.settings.draft
+            { settings = record no_setup.settings.draft.settings { default = auth.None } };
+      };
+    }
 
 -- a daemon with that, over the root hub
 abbrev pub first_with_none : Played
-first_with_none = record { daemon = started with_none; world = hub_world; disk = rules_disk with_none }
+first_with_none =
+    record { daemon = started with_none; world = hub_world; disk = rules_disk with_none }
 
 -- a device is plugged in that would start authorised
 abbrev pub born_later : Played → Played
-born_later p = record p { world = with_devices (plugged (record key { on = true }) (over p.world).kernel.devices) (over p.world) }
+born_later p =
+    record p {
+      world = with_devices (plugged (record key { on = true }) (over p.world).kernel.devices)
+          (over p.world);
+    }
 
 -- the tenth call fails, and has no effect
 abbrev pub tenth_fails : List Failing

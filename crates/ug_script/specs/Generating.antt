@@ -1,4 +1,5 @@
--- What each line of a script is to `generate-policy`, and the rules that are written behind the last.
+-- What each line of a script is to `generate-policy`, and the rules that are written behind the
+-- last.
 use Rattle.std.specs.Prelude.{◌≡◌, ℕ, Bool, List, [], ◌∷◌, ◌++◌, Option, Some, None, Ok, flat_map}
 use Rattle.ug_types.specs.declared.record.DeviceRecord.{DeviceRecord}
 use Rattle.ug_types.specs.declared.record.Judged.TheVariants.{Good}
@@ -27,12 +28,14 @@ generator_state generator = interpreter_state generator.script
 
 -- ---- lines
 
--- Setup lines and moves are carried out as in a replay. Other lines are read alone: nothing is scheduled, no event is run, and no daemon
--- is started. Lines of setup may stand where they may in a replay.
+-- Setup lines and moves are carried out as in a replay. Other lines are read alone: nothing is
+-- scheduled, no event is run, and no daemon is started. Lines of setup may stand where they may in
+-- a replay.
 abbrev pub skimmed : Step → Script → World → Outcome (Option Script × World)
 skimmed step.Skip s w = quiet s w
 skimmed (step.Setup line) s w = line_taken line s w
-skimmed (step.Move action) s w = quiet (with_setup_closed s) (with_devices (moved action w.kernel.devices) w)
+skimmed (step.Move action) s w =
+    quiet (with_setup_closed s) (with_devices (moved action w.kernel.devices) w)
 skimmed (step.Schedule plan) s w = quiet (with_setup_closed s) w
 skimmed (step.Event event) s w = quiet (with_setup_closed s) w
 skimmed step.Restart s w = quiet (with_setup_closed s) w
@@ -54,7 +57,8 @@ names_ports setup = setup.settings.draft.settings.with_port
 -- the text of the rules of the devices that are there, where the header was read
 abbrev pub generate_end : Option Script × World → Option (List ℕ)
 generate_end (None, w) = None
-generate_end (Some s, w) = Some (rules_text_of (policy_rules w.kernel.devices (names_ports s.setup)))
+generate_end (Some s, w) =
+    Some (rules_text_of (policy_rules w.kernel.devices (names_ports s.setup)))
 
 -- ---- a whole script
 
@@ -71,15 +75,20 @@ all_moved (action ∷ actions) ds = all_moved actions (moved action ds)
 abbrev pub devices_left : List (List ℕ) → List Device → List Device
 devices_left lines ds = all_moved (flat_map move_asked (steps_of lines)) ds
 
--- The text is that of the rules of the devices that the lines leave, which name ports as the settings of the `conf` lines say. The first
--- rule that such a device of good record meets allows it.
-pub record IsFirstPolicy (lines : List (List ℕ)) (before : List Device) (text : List ℕ) : Type 0 where
-  pub draft : Draft
-  pub settings : lines_read setting_line 1 (draft_of defaults []) (flat_map conf_asked (steps_of lines)) ≡ Ok draft
-  pub made : List Rule
-  pub is : text ≡ rules_text_of made
-  pub policy : IsPolicy (devices_left lines before) draft.settings.with_port made
-  pub admits : (i : ℕ) (d : Device) (device : DeviceRecord) → Live (devices_left lines before) i d → judged_in (devices_left lines before) d ≡ Good device → Admits device made
+-- The text is that of the rules of the devices that the lines leave, which name ports as the
+-- settings of the `conf` lines say. The first rule that such a device of good record meets allows
+-- it.
+pub record IsFirstPolicy (lines : List (List ℕ)) (before : List Device) (text : List ℕ) : Type 0
+  where
+    pub draft : Draft
+    pub settings : lines_read setting_line 1 (draft_of defaults [])
+        (flat_map conf_asked (steps_of lines))
+        ≡ Ok draft
+    pub made : List Rule
+    pub is : text ≡ rules_text_of made
+    pub policy : IsPolicy (devices_left lines before) draft.settings.with_port made
+    pub admits : (i : ℕ) (d : Device) (device : DeviceRecord) → Live (devices_left lines before) i d
+        → judged_in (devices_left lines before) d ≡ Good device → Admits device made
 
 -- the line of a fault is all that is written
 pub record TellsFaultAlone (base : List ℕ) (held : Option (List ℕ)) (status : ℕ) : Type 0 where

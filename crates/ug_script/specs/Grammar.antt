@@ -49,13 +49,15 @@ in_access who (Err fault) = None
 -- a line of an access file that is neither blank nor a comment
 abbrev pub granting : Option Named → List ℕ → Option SetupLine
 granting None line = None
-granting (Some who) line = if is_one_line line && is_entry line then in_access who (access_read line) else None
+granting (Some who) line =
+    if is_one_line line && is_entry line then in_access who (access_read line) else None
 
 -- `PRINCIPAL SECTION=LIST`
 abbrev pub grant_of : List ℕ → Option SetupLine
 grant_of text = cut_by_space (λ who line. granting (principal_of who) line) None text
 
--- a user, or a group behind `:`, one space, and one line of an access file, which gives privileges of a section
+-- a user, or a group behind `:`, one space, and one line of an access file, which gives privileges
+-- of a section
 pub record IsAccess (text : List ℕ) (a : AccessLine) : Type 0 where
   pub line : List ℕ
   pub is : text ≡ principal_text a.who ++ 32 ∷ line
@@ -119,7 +121,8 @@ is_fail word = pointwise nat_eq word (codes "fail")
 -- `fail CALL`, or `fail CALL effect`, of a call of the disk
 abbrev pub disk_fail_of : List ℕ → Option Planned
 disk_fail_of text =
-    cut_by_space (λ word rest. if is_fail word then option_map fails_on_disk (failing_of rest) else None)
+    cut_by_space
+    (λ word rest. if is_fail word then option_map fails_on_disk (failing_of rest) else None)
     None text
 
 -- whether a swap has had its effect
@@ -150,7 +153,8 @@ order_at moment text =
 -- `MOMENT PRINCIPAL REQUEST`
 abbrev pub order_of : List ℕ → Option Event
 order_of text =
-    cut_by_space (λ moment rest. option_and_then (λ n. order_at n rest) (moment_of moment)) None text
+    cut_by_space (λ moment rest. option_and_then (λ n. order_at n rest) (moment_of moment)) None
+    text
 
 -- ---- all lines
 
@@ -158,7 +162,8 @@ order_of text =
 unfoldable pub step_behind : LineWord → List ℕ → Option Step
 step_behind word.Plug text = option_map (λ d. step.Move (move.Plug d)) (device_of text)
 step_behind word.Unplug text = option_map (λ name. step.Move (move.Unplug name)) (name_of text)
-step_behind word.Before text = option_map (λ m. step.Schedule (plan.Move m)) (scheduled_of false text)
+step_behind word.Before text =
+    option_map (λ m. step.Schedule (plan.Move m)) (scheduled_of false text)
 step_behind word.After text = option_map (λ m. step.Schedule (plan.Move m)) (scheduled_of true text)
 step_behind word.Fail text = option_map (λ f. step.Schedule (plan.Fail f)) (failing_of text)
 step_behind word.Disk text = option_map (λ p. step.Schedule (plan.OnDisk p)) (disk_fail_of text)

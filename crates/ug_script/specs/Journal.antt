@@ -1,4 +1,5 @@
--- What happens in a script from its first line on, and what that says of each write and of each device.
+-- What happens in a script from its first line on, and what that says of each write and of each
+-- device.
 use Rattle.std.specs.Prelude.{◌≡◌, ◌⊎◌, ℕ, ◌≤◌, Bool, true, false, ◌&&◌, if◌then◌else◌, List, [], ◌∷◌, ◌++◌, length, flat_map, Option, Some, None, Ok}
 use Rattle.ug_types.specs.Elements.{Has}
 use Rattle.ug_types.specs.declared.control.Write.{Write}
@@ -51,20 +52,22 @@ happened_at event s w = happened_from event (daemon_in s) w (disk_of s)
 
 abbrev pub happens_at : events.Event → Script → World → List Happened
 happens_at event s w =
-    if can_start s.setup s.phase && has_numbers (daemon_in s) w.faults (disk_in s).faults then happened_at event s w ∷ [] else []
+    if can_start s.setup s.phase && has_numbers (daemon_in s) w.faults (disk_in s).faults
+    then happened_at event s w ∷ [] else []
 
 -- where a line leads
 abbrev pub left_by : {M : Type 0} → Outcome M → M
 left_by (Writes text next) = next
 left_by (Refused fault next) = next
 
--- a run of the daemon that has ended: its events, and the call of the disk in which the machine stopped in the last of them; None where a
--- `restart` ended it
+-- a run of the daemon that has ended: its events, and the call of the disk in which the machine
+-- stopped in the last of them; None where a `restart` ended it
 pub record RunEnd : Type 0 where
   pub events : List Happened
   pub stop : Option ℕ
 
--- the events of lines, in the runs of the daemon: those that have ended, and the events since the last start
+-- the events of lines, in the runs of the daemon: those that have ended, and the events since the
+-- last start
 pub record EventsOfRuns : Type 0 where
   pub ended : List RunEnd
   pub last : List Happened
@@ -76,7 +79,8 @@ abbrev pub with_events : List Happened → EventsOfRuns → EventsOfRuns
 with_events hs runs = record runs { last = runs.last ++ hs }
 
 abbrev pub with_end : Option ℕ → EventsOfRuns → EventsOfRuns
-with_end stop runs = record { ended = runs.ended ++ record { events = runs.last; stop = stop } ∷ []; last = [] }
+with_end stop runs =
+    record { ended = runs.ended ++ record { events = runs.last; stop = stop } ∷ []; last = [] }
 
 -- an event ends a run where the machine stopped in it
 abbrev pub with_stop : Bool → ℕ → EventsOfRuns → EventsOfRuns
@@ -90,7 +94,9 @@ stop_of event s w = stop_in s.planned (event_of event s w)
 -- what a step adds
 abbrev pub runs_by : Option Step → Script → World → EventsOfRuns → EventsOfRuns
 runs_by (Some Restart) s w runs = with_end None runs
-runs_by (Some (Event event)) s w runs = with_stop (event_of event s w).disk.stopped (stop_of event s w) (with_events (happens_at event s w) runs)
+runs_by (Some (Event event)) s w runs =
+    with_stop (event_of event s w).disk.stopped (stop_of event s w)
+    (with_events (happens_at event s w) runs)
 runs_by step s w runs = runs
 
 abbrev pub runs_with : Option Script × World → List ℕ → EventsOfRuns → EventsOfRuns
@@ -100,7 +106,8 @@ runs_with (Some s, w) line runs = runs_by (step_of_line line) s w runs
 -- what lines add, one after another
 abbrev pub runs_after : EventsOfRuns → Option Script × World → List (List ℕ) → EventsOfRuns
 runs_after runs p [] = runs
-runs_after runs p (line ∷ lines) = runs_after (runs_with p line runs) (left_by (script_step p line)) lines
+runs_after runs p (line ∷ lines) =
+    runs_after (runs_with p line runs) (left_by (script_step p line)) lines
 
 abbrev pub runs_in : World → List (List ℕ) → EventsOfRuns
 runs_in first lines = runs_after no_events (None, first) lines
@@ -135,8 +142,8 @@ runs_text (run ∷ runs) = run_text run.stop run.events ++ runs_text runs
 abbrev pub text_of_runs : EventsOfRuns → List ℕ
 text_of_runs runs = runs_text runs.ended ++ events_text runs.last
 
--- With what a run of the daemon begins: its rules; the text of the rule file, and the texts that a crash might leave in its place; the
--- number of its first event; and the kernel.
+-- With what a run of the daemon begins: its rules; the text of the rule file, and the texts that a
+-- crash might leave in its place; the number of its first event; and the kernel.
 pub record RunStart : Type 0 where
   pub rules : List types.Rule
   pub text : List ℕ
@@ -146,27 +153,33 @@ pub record RunStart : Type 0 where
 
 -- at the beginning the rule file holds the canonical text of the rules, and a crash leaves no other
 abbrev pub first_start : List types.Rule → Kernel → RunStart
-first_start rules k = record { rules = rules; text = rules_text_of rules; unsure = []; number = 1; kernel = k }
+first_start rules k =
+    record { rules = rules; text = rules_text_of rules; unsure = []; number = 1; kernel = k }
 
 -- the rule file has that text, and a crash leaves no other but these
 pub record HoldsAtStart (b : RunStart) (file : Disk) : Type 0 where
   pub text : file.text ≡ b.text
   pub left : (text : List ℕ) → IsImage file.left text → (text ≡ b.text) ⊎ Has b.unsure text
 
--- A run of the daemon from its start: it began with that access, with no device, and with that policy but for its rules. Its events are a
--- chain from there, over the kernel and the rule file as they were at the start, with all that this says of each write and of the file.
-pub record IsDaemonRun (beside : Beside) (policy : Judging) (b : RunStart) (hs : List Happened) (k : Kernel) (p : Option Disk) (e : DaemonState) : Type 0 where
+-- A run of the daemon from its start: it began with that access, with no device, and with that
+-- policy but for its rules. Its events are a chain from there, over the kernel and the rule file as
+-- they were at the start, with all that this says of each write and of the file.
+pub record IsDaemonRun (beside : Beside) (policy : Judging) (b : RunStart) (hs : List Happened)
+    (k : Kernel) (p : Option Disk) (e : DaemonState) : Type 0 where
   pub few : length b.rules ≤ 65536
   pub file : Disk
   pub holds : HoldsAtStart b file
-  pub chain : Chain b.kernel (Some file) (started_at b.number beside (with_rules b.rules policy)) hs k p e
+  pub chain : Chain b.kernel (Some file) (started_at b.number beside (with_rules b.rules policy)) hs
+      k p e
   pub run : IsRun (with_rules b.rules policy) beside.hub b.kernel (Some file) hs k p e
 
--- the texts that a crash might leave behind a run: that of the permanent rules in force, or one that isn't sure
+-- the texts that a crash might leave behind a run: that of the permanent rules in force, or one
+-- that isn't sure
 abbrev pub left_behind : RunStart → List Happened → DaemonState → List (List ℕ)
 left_behind b hs e = permanent_text e.sweep.judge.rules ∷ unsure_of (b.text ∷ b.unsure) hs
 
--- Behind a stop the machine has come up again, and a further stop leaves no other text than that of the rule file.
+-- Behind a stop the machine has come up again, and a further stop leaves no other text than that of
+-- the rule file.
 abbrev pub unsure_from : Option ℕ → List (List ℕ) → List (List ℕ)
 unsure_from None texts = texts
 unsure_from (Some call) texts = []
@@ -196,29 +209,36 @@ pub record StartsBehind (b : RunStart) (run : RunEnd) (k : Kernel) (p : Option D
   pub kernel : c.kernel ≡ k
 
 -- a run that has ended, where it came to, and with what the next began
-pub record EndedRun (beside : Beside) (policy : Judging) (b : RunStart) (run : RunEnd) : Type 0 where
-  pub kernel : Kernel
-  pub disk : Option Disk
-  pub daemon : DaemonState
-  pub is : IsDaemonRun beside policy b run.events kernel disk daemon
-  pub next : RunStart
-  pub behind : StartsBehind b run kernel disk daemon next
+pub record EndedRun (beside : Beside) (policy : Judging) (b : RunStart) (run : RunEnd) : Type 0
+  where
+    pub kernel : Kernel
+    pub disk : Option Disk
+    pub daemon : DaemonState
+    pub is : IsDaemonRun beside policy b run.events kernel disk daemon
+    pub next : RunStart
+    pub behind : StartsBehind b run kernel disk daemon next
 
 -- runs one after another
 abbrev pub AreSuccessive : Beside → Judging → RunStart → List RunEnd → RunStart → Type 0
 AreSuccessive beside policy b [] c = c ≡ b
-AreSuccessive beside policy b (run ∷ runs) c = (r : EndedRun beside policy b run) × AreSuccessive beside policy r.next runs c
+AreSuccessive beside policy b (run ∷ runs) c =
+    (r : EndedRun beside policy b run) × AreSuccessive beside policy r.next runs c
 
--- all runs of a script: those that have ended, one after another from the first start, and the last one
-pub record AreDaemonRuns (beside : Beside) (policy : Judging) (first : RunStart) (runs : EventsOfRuns) (k : Kernel) (p : Option Disk) (e : DaemonState) : Type 0 where
+-- all runs of a script: those that have ended, one after another from the first start, and the last
+-- one
+pub record AreDaemonRuns (beside : Beside) (policy : Judging) (first : RunStart)
+    (runs : EventsOfRuns) (k : Kernel) (p : Option Disk) (e : DaemonState) : Type 0 where
   pub start : RunStart
   pub ended : AreSuccessive beside policy first runs.ended start
   pub last : IsDaemonRun beside policy start runs.last k p e
 
--- each device that is live at the end of that event was judged just once since the first kernel, and stands as judged
-pub record JudgesOnce (policy : Judging) (hub : Option Write) (first : Kernel) (file : Disk) (hs : List Happened) (h : Happened) : Type 0 where
+-- each device that is live at the end of that event was judged just once since the first kernel,
+-- and stands as judged
+pub record JudgesOnce (policy : Judging) (hub : Option Write) (first : Kernel) (file : Disk)
+    (hs : List Happened) (h : Happened) : Type 0 where
   pub run : IsRun policy hub first (Some file) (hs ++ h ∷ []) h.kernel_after h.disk_after h.after
-  pub each : (i : ℕ) (d : Device) → Live h.kernel_after.devices i d → IsJudgedOnce hub policy (hs ++ h ∷ []) run.steps h.kernel_after h.after.sweep.standings i
+  pub each : (i : ℕ) (d : Device) → Live h.kernel_after.devices i d
+      → IsJudgedOnce hub policy (hs ++ h ∷ []) run.steps h.kernel_after h.after.sweep.standings i
 
 -- the step schedules no move, lets no call fail and stops no machine
 abbrev pub is_quiet : Option Step → Bool
@@ -229,25 +249,40 @@ abbrev pub AreQuiet : List (Option Step) → Type 0
 AreQuiet [] = Unit {0}
 AreQuiet (step ∷ steps) = (is_quiet step ≡ true) × AreQuiet steps
 
--- Wherever lines have led: the setup lines gave access and a policy; with whatever rules, rulings, with changes among them, leave a policy
--- that has taken just their words, and whose histories stand for just their judgements; and its settings are those of each text whose lines
--- are those of the `conf` lines. The events of the lines are those of runs of the daemon: the first began with the rules of the `rule`
--- lines, and each other one with those of the rule file that the one before left. What was written is the text of the entries of all. Where
--- no move was scheduled and no call was to fail, nobody is named as unsettled, no save is pending, and after an event that comes next each
--- live device was judged just once since the last start and stands as judged.
-pub record Recorded (first : World) (lines : List (List ℕ)) (text : List ℕ) (s : Script) (w : World) : Type 0 where
+-- Wherever lines have led: the setup lines gave access and a policy; with whatever rules, rulings,
+-- with changes among them, leave a policy that has taken just their words, and whose histories
+-- stand for just their judgements; and its settings are those of each text whose lines are those of
+-- the `conf` lines. The events of the lines are those of runs of the daemon: the first began with
+-- the rules of the `rule` lines, and each other one with those of the rule file that the one before
+-- left. What was written is the text of the entries of all. Where no move was scheduled and no call
+-- was to fail, nobody is named as unsettled, no save is pending, and after an event that comes next
+-- each live device was judged just once since the last start and stands as judged.
+pub record Recorded (first : World) (lines : List (List ℕ)) (text : List ℕ) (s : Script)
+    (w : World) : Type 0 where
   pub beside : Beside
   pub policy : Judging
   pub setup : IsSetup (steps_of lines) beside policy
-  pub settings : (whole : List ℕ) → lines_of whole ≡ flat_map conf_asked (steps_of lines) → conf_read whole ≡ Ok setup.draft.settings
-  pub later : (rules : List types.Rule) (steps : List PolicyStep) → length rules ≤ 65536 → CanTake (with_rules rules policy) steps → IsLater (changed_alone (with_rules rules policy) steps) (words_for (with_rules rules policy) steps) (judgements_for (with_rules rules policy) steps) (after_steps (with_rules rules policy) steps)
-  pub runs : AreDaemonRuns beside policy (first_start (flat_map rule_asked (steps_of lines)) first.kernel) (runs_in first lines) w.kernel (disk_told (disk_in s)) (daemon_in s)
+  pub settings : (whole : List ℕ) → lines_of whole ≡ flat_map conf_asked (steps_of lines)
+      → conf_read whole ≡ Ok setup.draft.settings
+  pub later : (rules : List types.Rule) (steps : List PolicyStep) → length rules ≤ 65536
+      → CanTake (with_rules rules policy) steps
+      → IsLater (changed_alone (with_rules rules policy) steps)
+      (words_for (with_rules rules policy) steps) (judgements_for (with_rules rules policy) steps)
+      (after_steps (with_rules rules policy) steps)
+  pub runs : AreDaemonRuns beside policy
+      (first_start (flat_map rule_asked (steps_of lines)) first.kernel) (runs_in first lines)
+      w.kernel (disk_told (disk_in s)) (daemon_in s)
   pub written : text ≡ text_of_runs (runs_in first lines)
-  pub nobody : AreQuiet (steps_of lines) → IsUnfailing first → NameNobody (journal_of (runs_in first lines))
+  pub nobody : AreQuiet (steps_of lines) → IsUnfailing first
+      → NameNobody (journal_of (runs_in first lines))
   pub saved : AreQuiet (steps_of lines) → (daemon_in s).pending ≡ false
-  pub once : AreQuiet (steps_of lines) → IsUnfailing first → first.moves ≡ [] → (event : events.Event) → JudgesOnce (with_rules runs.start.rules policy) beside.hub runs.start.kernel runs.last.file (runs_in first lines).last (happened_at event s w)
+  pub once : AreQuiet (steps_of lines) → IsUnfailing first → first.moves ≡ []
+      → (event : events.Event)
+      → JudgesOnce (with_rules runs.start.rules policy) beside.hub runs.start.kernel runs.last.file
+      (runs_in first lines).last (happened_at event s w)
 
 -- the same of all lines
 abbrev pub StaysRecorded : World → Type 0
 StaysRecorded first = (lines : List (List ℕ)) (n : ℕ) (text : List ℕ) (s : Script) (w : World)
-    → plays script_step (Going 0 [] (None, first)) lines ≡ Going n text (Some s, w) → Recorded first lines text s w
+    → plays script_step (Going 0 [] (None, first)) lines ≡ Going n text (Some s, w)
+    → Recorded first lines text s w

@@ -90,21 +90,29 @@ AtEachCall holds event s w =
     (halted (answered_of event s w).disk (answered_of event s w).world)
     × holds (over (event_of event s w).world).kernel
 
--- An event, if one comes next. Its order is refused and changes nothing but that a save may have failed, or was given by one who may and
--- does that alone which it asks for, once its change is saved. The sweep behind it is fair and leaves each device settled or named. The
--- calls of the kernel are those of the order, the listing and one part for each name; unless the machine stops in a call of the disk, each
--- that failed is told with its number and its count, and no other is; no name is told twice as unsettled; and none of the entries tells want
--- of memory, as a script refuses none. Where the machine stops, no device is written to in this event.
--- The machine stops in the first call of the disk for which lines stop it, which is the one that
--- `stopped` tells, and it does where there is one. A device that was born while its controller's
--- default was off is on only after an On entry, behind each call, if so it was before.
+-- An event, if one comes next. Its order is refused and changes nothing but that a save may have
+-- failed, or was given by one who may and does that alone which it asks for, once its change is
+-- saved. The sweep behind it is fair and leaves each device settled or named. The calls of the
+-- kernel are those of the order, the listing and one part for each name; unless the machine stops
+-- in a call of the disk, each that failed is told with its number and its count, and no other is;
+-- no name is told twice as unsettled; and none of the entries tells want of memory, as a script
+-- refuses none. Where the machine stops, no device is written to in this event. The machine stops
+-- in the first call of the disk for which lines stop it, which is the one that `stopped` tells, and
+-- it does where there is one. A device that was born while its controller's default was off is on
+-- only after an On entry, behind each call, if so it was before.
 pub record IsLawfulEvent (event : Event) (s : Script) (w : World) : Type 0 where
-  pub answers : AnswersEvent event w.kernel (ready_of event s) (answered_of event s w).became (answered_of event s w).world.kernel (answered_of event s w).daemon
-  pub handled : Handled (answered_of event s w).world.kernel (answered_of event s w).daemon (event_of event s w).world.kernel (event_of event s w).daemon
-  pub faults : (event_of event s w).disk.stopped ≡ false → TellsEvent Gives calls_of faults_of event (begun w) (ready_of event s) (answered_of event s w).became (answered_of event s w).world (answered_of event s w).daemon (event_of event s w).world (event_of event s w).daemon
+  pub answers : AnswersEvent event w.kernel (ready_of event s) (answered_of event s w).became
+      (answered_of event s w).world.kernel (answered_of event s w).daemon
+  pub handled : Handled (answered_of event s w).world.kernel (answered_of event s w).daemon
+      (event_of event s w).world.kernel (event_of event s w).daemon
+  pub faults : (event_of event s w).disk.stopped ≡ false
+      → TellsEvent Gives calls_of faults_of event (begun w) (ready_of event s)
+      (answered_of event s w).became (answered_of event s w).world (answered_of event s w).daemon
+      (event_of event s w).world (event_of event s w).daemon
   pub once : AllDistinct (unsettled_names (event_of event s w).daemon.sweep.entries)
   pub room : tells_memory (event_of event s w).daemon.sweep.entries ≡ false
-  pub unwritten : (event_of event s w).disk.stopped ≡ true → (event_of event s w).world.kernel.log ≡ w.kernel.log
+  pub unwritten : (event_of event s w).disk.stopped ≡ true
+      → (event_of event s w).world.kernel.log ≡ w.kernel.log
   pub stop : (event_of event s w).disk.stopped ≡ true
       → IsFirstStop s.planned (event_of event s w).disk.calls
       (stop_in s.planned (event_of event s w))
@@ -112,9 +120,11 @@ pub record IsLawfulEvent (event : Event) (s : Script) (w : World) : Type 0 where
       → HasNoStop s.planned (event_of event s w).disk.calls
   pub on_entries : HasOnEntries w.kernel → AtEachCall HasOnEntries event s w
 
--- The kernel is sound, and a device that was born while its controller's default was off is on only after an On entry, if it was so in the first world; and each standing of the daemon, or of the one that an event would start, is of one of its devices; and so is an
--- event, if one comes next. The disk is told, and a crash may leave the rule file as it is. And where the first world had no fault, the
--- numbers leave room for one, so that the line of an event is never bad.
+-- The kernel is sound, and a device that was born while its controller's default was off is on only
+-- after an On entry, if it was so in the first world; and each standing of the daemon, or of the
+-- one that an event would start, is of one of its devices; and so is an event, if one comes next.
+-- The disk is told, and a crash may leave the rule file as it is. And where the first world had no
+-- fault, the numbers leave room for one, so that the line of an event is never bad.
 pub record IsLawful (first : World) (s : Script) (w : World) : Type 0 where
   pub sound : IsKernel w.kernel
   pub on_entries : HasOnEntries first.kernel → HasOnEntries w.kernel
@@ -127,4 +137,5 @@ pub record IsLawful (first : World) (s : Script) (w : World) : Type 0 where
 -- wherever lines lead from a world without a daemon
 abbrev pub StaysLawful : World → Type 0
 StaysLawful first = (lines : List (List ℕ)) (n : ℕ) (text : List ℕ) (s : Script) (w : World)
-    → plays script_step (Going 0 [] (None, first)) lines ≡ Going n text (Some s, w) → IsLawful first s w
+    → plays script_step (Going 0 [] (None, first)) lines ≡ Going n text (Some s, w)
+    → IsLawful first s w

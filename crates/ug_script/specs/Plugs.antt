@@ -11,7 +11,9 @@ use Rattle.ug_script.specs.Words.{bytes_of, cut_by_space, name_of}
 
 -- a word that is a dash stands for no file
 abbrev pub no_file : List ℕ → Token → Option (Option (List ℕ))
-no_file text token = if nat_eq (token.end - token.start) 1 && nat_eq (get_or text token.start 0) 45 then Some None else None
+no_file text token =
+    if nat_eq (token.end - token.start) 1 && nat_eq (get_or text token.start 0) 45 then Some None
+    else None
 
 -- a string is a file that holds what it spells and a newline
 abbrev pub file_by : List ℕ → Token → TokenKind → Option (Option (List ℕ))
@@ -32,17 +34,22 @@ one_space text a b = nat_eq (b.start - a.end) 1 && nat_eq (get_or text a.end 0) 
 
 -- three tokens are the whole text, with one space between one and the next
 abbrev pub fill : List ℕ → Token → Token → Token → Bool
-fill text a b c = nat_eq a.start 0 && (one_space text a b && (one_space text b c && nat_eq c.end (length text)))
+fill text a b c =
+    nat_eq a.start 0 && (one_space text a b && (one_space text b c && nat_eq c.end (length text)))
 
-abbrev pub with_connect : Option (List ℕ) → Option (List ℕ) → Option (Option (List ℕ)) → Option Files
+abbrev pub with_connect : Option (List ℕ) → Option (List ℕ) → Option (Option (List ℕ))
+    → Option Files
 with_connect product serial None = None
-with_connect product serial (Some connect) = Some (record { product = product; serial = serial; connect = connect })
+with_connect product serial (Some connect) =
+    Some (record { product = product; serial = serial; connect = connect })
 
-abbrev pub with_serial : Option (List ℕ) → Option (Option (List ℕ)) → Option (Option (List ℕ)) → Option Files
+abbrev pub with_serial : Option (List ℕ) → Option (Option (List ℕ)) → Option (Option (List ℕ))
+    → Option Files
 with_serial product None connect = None
 with_serial product (Some serial) connect = with_connect product serial connect
 
-abbrev pub with_product : Option (Option (List ℕ)) → Option (Option (List ℕ)) → Option (Option (List ℕ)) → Option Files
+abbrev pub with_product : Option (Option (List ℕ)) → Option (Option (List ℕ))
+    → Option (Option (List ℕ)) → Option Files
 with_product None serial connect = None
 with_product (Some product) serial connect = with_serial product serial connect
 
@@ -50,7 +57,9 @@ abbrev pub files_in : List ℕ → List Token → Option Files
 files_in text [] = None
 files_in text (a ∷ []) = None
 files_in text (a ∷ b ∷ []) = None
-files_in text (a ∷ b ∷ c ∷ []) = if fill text a b c then with_product (file_of text a) (file_of text b) (file_of text c) else None
+files_in text (a ∷ b ∷ c ∷ []) =
+    if fill text a b c then with_product (file_of text a) (file_of text b) (file_of text c)
+    else None
 files_in text (a ∷ b ∷ c ∷ d ∷ tokens) = None
 
 abbrev pub files_by : List ℕ → Lexed → Option Files
@@ -75,7 +84,8 @@ device_with name on descriptors files = record {
 abbrev pub with_digits : List ℕ → Bool → List ℕ → Option NewDevice
 with_digits name on text =
     cut_by_space (λ digits rest.
-    option_and_then (λ d. option_map (device_with name on d) (files_of rest)) (bytes_of digits)) None text
+    option_and_then (λ d. option_map (device_with name on d) (files_of rest))
+    (bytes_of digits)) None text
 
 -- `0` or `1`
 unfoldable pub start_of : List ℕ → Option Bool

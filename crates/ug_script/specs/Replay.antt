@@ -48,7 +48,9 @@ script_of r = record { setup = r.setup; phase = phase_of r.phase; planned = r.pl
 
 -- that of a session
 abbrev pub started_script : SetupState → Session → List Planned → Script
-started_script setup session plan = record { setup = setup; phase = Started (daemon_of session.daemon) session.disk; planned = plan }
+started_script setup session plan =
+    record
+    { setup = setup; phase = Started (daemon_of session.daemon) session.disk; planned = plan }
 
 abbrev pub script_in : Option Running → Option Script
 script_in None = None
@@ -112,7 +114,8 @@ line_added None s w = bad s w
 line_added (Some setup) s w = quiet (record s { setup = setup }) w
 
 abbrev pub line_taken : SetupLine → Script → World → Outcome (Option Script × World)
-line_taken line s w = cond (takes_setup s.phase) (line_added (one_line_more line s.setup) s w) (bad s w)
+line_taken line s w =
+    cond (takes_setup s.phase) (line_added (one_line_more line s.setup) s w) (bad s w)
 
 -- ---- moves and plans
 
@@ -144,25 +147,30 @@ pub record OrderPlayed : Type 0 where
   pub world : World
   pub disk : DiskWorld
 
--- The stages of an order: on the kernel, what it comes to; on the disk, what it changes is saved, if it has to be, and is then in force;
--- on the kernel, what is then done.
+-- The stages of an order: on the kernel, what it comes to; on the disk, what it changes is saved,
+-- if it has to be, and is then in force; on the kernel, what is then done.
 
 abbrev pub with_deed : Stored × DiskWorld → DaemonState × World → OrderPlayed
 with_deed saved done = record { daemon = done.0; became = saved.0; world = done.1; disk = saved.1 }
 
 abbrev pub with_store : Named → DaemonState → Choice × World → Stored × DiskWorld → OrderPlayed
-with_store who d chosen saved = with_deed saved (play (acting who (stored_with saved.0 chosen.0.change d) (deed_after saved.0 chosen.0.deed)) chosen.1)
+with_store who d chosen saved =
+    with_deed saved
+    (play (acting who (stored_with saved.0 chosen.0.change d) (deed_after saved.0 chosen.0.deed))
+    chosen.1)
 
 abbrev pub with_choice : Named → DaemonState → DiskWorld → Choice × World → OrderPlayed
 with_choice who d o chosen = with_store who d chosen (play_disk (storing d chosen.0.change) o)
 
 -- a sweep alone has none
 abbrev pub answered_by : Event → DaemonState → World → DiskWorld → OrderPlayed
-answered_by (Sweep moment) d w o = record { daemon = d; became = stored.NotNeeded; world = w; disk = o }
+answered_by (Sweep moment) d w o =
+    record { daemon = d; became = stored.NotNeeded; world = w; disk = o }
 answered_by (Order moment who line) d w o = with_choice who d o (play (asking d who line) w)
 
--- An event as the world and the disk fix it, whose calls are numbered anew: a pending save is tried, the order is answered, and then comes
--- the sweep. The kernel is halted as soon as the machine has stopped in a call of the disk.
+-- An event as the world and the disk fix it, whose calls are numbered anew: a pending save is
+-- tried, the order is answered, and then comes the sweep. The kernel is halted as soon as the
+-- machine has stopped in a call of the disk.
 
 abbrev pub halted : DiskWorld → World → World
 halted o w = cond o.stopped (halting w) w
@@ -171,7 +179,9 @@ abbrev pub tried_by : DaemonState → DiskWorld → Option Saved × DiskWorld
 tried_by d o = play_disk (trying d) o
 
 abbrev pub answered_from : Event → DaemonState → World → DiskWorld → OrderPlayed
-answered_from event d w o = answered_by event (ready event (tried_by d o).0 d) (halted (tried_by d o).1 (begun w)) (tried_by d o).1
+answered_from event d w o =
+    answered_by event (ready event (tried_by d o).0 d) (halted (tried_by d o).1 (begun w))
+    (tried_by d o).1
 
 abbrev pub swept_over : DiskWorld → DaemonState × World → Played
 swept_over o p = record { daemon = p.0; world = p.1; disk = o }
@@ -186,12 +196,16 @@ event_from event d w o = swept_behind (answered_from event d w o)
 abbrev pub tells : DaemonState → Type 0
 tells d = tells_memory d.sweep.entries ≡ true
 
--- the event came to what is fixed, or its entries tell want of memory, or the kernel or the disk has run out
-abbrev pub IsEventPlayed : Event → DaemonState → World → DiskWorld → DaemonState → World → DiskWorld → Type 0
+-- the event came to what is fixed, or its entries tell want of memory, or the kernel or the disk
+-- has run out
+abbrev pub IsEventPlayed : Event → DaemonState → World → DiskWorld → DaemonState → World → DiskWorld
+    → Type 0
 IsEventPlayed event d w o e t p =
-    (record { daemon = e; world = t; disk = p } ≡ event_from event d w o) ⊎ (tells e ⊎ ((t.ran_out ≡ true) ⊎ (p.ran_out ≡ true)))
+    (record { daemon = e; world = t; disk = p } ≡ event_from event d w o)
+    ⊎ (tells e ⊎ ((t.ran_out ≡ true) ⊎ (p.ran_out ≡ true)))
 
--- the calls that are to fail, or to stop the machine, are those that lines planned, and they are numbered anew
+-- the calls that are to fail, or to stop the machine, are those that lines planned, and they are
+-- numbered anew
 abbrev pub begun_disk : List Planned → DiskWorld → DiskWorld
 begun_disk plan o = record (begun_on o) { planned = plan }
 
@@ -204,8 +218,8 @@ answered_of event s w = answered_from event (daemon_in s) w (disk_of s)
 abbrev pub event_of : Event → Script → World → Played
 event_of event s w = event_from event (daemon_in s) w (disk_of s)
 
--- The daemon that it leaves, and the world and the disk behind it. What a crash might have left of the rule file within the event is
--- forgotten.
+-- The daemon that it leaves, and the world and the disk behind it. What a crash might have left of
+-- the rule file within the event is forgotten.
 abbrev pub left_played : Played → Played
 left_played p = record p { world = over p.world; disk = forgetting p.disk }
 
@@ -215,7 +229,8 @@ finished p = Writes (outcome_text (outcome_of p.daemon)) (left_played p)
 -- the first of so many calls in which the machine is to stop, else that one
 abbrev pub first_stop : List Planned → ℕ → ℕ → ℕ
 first_stop plan other zero = other
-first_stop plan other (suc n) = first_stop plan (cond (stops_by (plan_at (suc n) None plan)) (suc n) other) n
+first_stop plan other (suc n) =
+    first_stop plan (cond (stops_by (plan_at (suc n) None plan)) (suc n) other) n
 
 -- the call of the disk in which the machine stopped in an event
 abbrev pub stop_in : List Planned → Played → ℕ
@@ -228,29 +243,40 @@ first_line (e ∷ es) = terminated e
 unfoldable pub stopped_line : ℕ → List ℕ
 stopped_line call = codes "stopped " ++ decimal call ++ 10 ∷ []
 
--- the line of its beginning, and that of the call: of an event in which the machine stopped, no more is written
+-- the line of its beginning, and that of the call: of an event in which the machine stopped, no
+-- more is written
 abbrev pub stopped_text : ℕ → List Entry → List ℕ
 stopped_text call entries = first_line entries ++ stopped_line call
 
--- The machine comes up again behind the event, and a new daemon reads the rule file as the stop left it.
+-- The machine comes up again behind the event, and a new daemon reads the rule file as the stop
+-- left it.
 
 abbrev pub up_again : Played → Played
 up_again p = record p { world = over p.world; disk = after_reading (coming_up p.disk) }
 
 abbrev pub begun_again : SetupState → List types.Rule → Played → Played
-begun_again setup rules p = record (up_again p) { daemon = started_at p.daemon.event (beside_of setup) (with_rules rules (policy_of setup)) }
+begun_again setup rules p =
+    record (up_again p)
+    { daemon = started_at p.daemon.event (beside_of setup) (with_rules rules (policy_of setup)) }
 
 abbrev pub stopped_of : SetupState → ℕ → Played → Result (List types.Rule) Fault → Outcome Played
-stopped_of setup call p (Ok rules) = Writes (stopped_text call p.daemon.sweep.entries) (begun_again setup rules p)
+stopped_of setup call p (Ok rules) =
+    Writes (stopped_text call p.daemon.sweep.entries) (begun_again setup rules p)
 stopped_of setup call p (Err fault) = Refused fault (up_again p)
 
 -- what an event with that plan comes to
 abbrev pub came_of : SetupState → List Planned → Played → Outcome Played
-came_of setup plan p = cond p.disk.stopped (stopped_of setup (stop_in plan p) p (rules_from p.disk.disk.text)) (finished p)
+came_of setup plan p =
+    cond p.disk.stopped (stopped_of setup (stop_in plan p) p (rules_from p.disk.disk.text))
+    (finished p)
 
 -- unless the numbers have run out
-abbrev pub event_by : SetupState → Event → List Planned → DaemonState → World → DiskWorld → Outcome Played
-event_by setup event plan d w o = cond (has_numbers d w.faults o.faults) (came_of setup plan (event_from event d w (begun_disk plan o))) (Refused BadLine (record { daemon = d; world = w; disk = o }))
+abbrev pub event_by : SetupState → Event → List Planned → DaemonState → World → DiskWorld
+    → Outcome Played
+event_by setup event plan d w o =
+    cond (has_numbers d w.faults o.faults)
+    (came_of setup plan (event_from event d w (begun_disk plan o)))
+    (Refused BadLine (record { daemon = d; world = w; disk = o }))
 
 -- nothing is planned any more
 abbrev pub with_played : Script → Played → Script
@@ -262,34 +288,48 @@ in_script s (Refused fault p) = Refused fault (Some (with_played s p), p.world)
 
 -- the first event starts the daemon
 abbrev pub event_taken : Event → Script → World → Outcome (Option Script × World)
-event_taken event s w = cond (can_start s.setup s.phase) (in_script s (event_by s.setup event s.planned (daemon_in s) w (disk_in s))) (Refused InputTooLong (Some s, w))
+event_taken event s w =
+    cond (can_start s.setup s.phase)
+    (in_script s (event_by s.setup event s.planned (daemon_in s) w (disk_in s)))
+    (Refused InputTooLong (Some s, w))
 
 -- ---- a new daemon
 
--- The new daemon reads the rule file again, and judges by its rules, and else by the policy of the setup lines, with no histories and with
--- the words of the seed from the first one on. It has the access that these lines give, knows no device, and counts its devices from 1. The
--- numbers of events go on. The kernel, its open files, the files of the disk and what is scheduled for the next event stay as they are.
+-- The new daemon reads the rule file again, and judges by its rules, and else by the policy of the
+-- setup lines, with no histories and with the words of the seed from the first one on. It has the
+-- access that these lines give, knows no device, and counts its devices from 1. The numbers of
+-- events go on. The kernel, its open files, the files of the disk and what is scheduled for the
+-- next event stay as they are.
 abbrev pub with_restart : List types.Rule → Script → Script
-with_restart rules s = record s { phase = Started (started_at (daemon_in s).event (beside_of s.setup) (with_rules rules (policy_of s.setup))) (after_reading (disk_in s)) }
+with_restart rules s =
+    record s {
+      phase = Started
+          (started_at (daemon_in s).event (beside_of s.setup) (with_rules rules (policy_of s.setup)))
+          (after_reading (disk_in s));
+    }
 
 -- where none starts with that text, the one before stays, and the disk was read
 abbrev pub without_restart : Script → Script
 without_restart s = record s { phase = Started (daemon_in s) (after_reading (disk_in s)) }
 
-abbrev pub restarted : Result (List types.Rule) Fault → Script → World → Outcome (Option Script × World)
+abbrev pub restarted : Result (List types.Rule) Fault → Script → World
+    → Outcome (Option Script × World)
 restarted (Ok rules) s w = quiet (with_restart rules s) w
 restarted (Err fault) s w = Refused fault (Some (without_restart s), w)
 
 -- the first daemon is started before, if none was
 abbrev pub restart_taken : Script → World → Outcome (Option Script × World)
-restart_taken s w = cond (can_start s.setup s.phase) (restarted (rules_from (disk_in s).disk.text) s w) (Refused InputTooLong (Some s, w))
+restart_taken s w =
+    cond (can_start s.setup s.phase) (restarted (rules_from (disk_in s).disk.text) s w)
+    (Refused InputTooLong (Some s, w))
 
 -- ---- all lines
 
 abbrev pub taken : Step → Script → World → Outcome (Option Script × World)
 taken step.Skip s w = quiet s w
 taken (step.Setup line) s w = line_taken line s w
-taken (step.Move action) s w = quiet (with_setup_closed s) (with_devices (moved action w.kernel.devices) w)
+taken (step.Move action) s w =
+    quiet (with_setup_closed s) (with_devices (moved action w.kernel.devices) w)
 taken (step.Schedule plan) s w = quiet (with_plan plan (with_setup_closed s)) (planned plan w)
 taken (step.Event event) s w = event_taken event s w
 taken step.Restart s w = restart_taken s w
@@ -298,11 +338,15 @@ abbrev pub taken_if : Option Step → Script → World → Outcome (Option Scrip
 taken_if None s w = bad s w
 taken_if (Some step) s w = taken step s w
 
--- An event and a restart are refused only where no daemon was started and the rules fit no file, and an event where the numbers leave no
--- room. What a stop left of the rule file is never a reason, nor what a save that failed left.
+-- An event and a restart are refused only where no daemon was started and the rules fit no file,
+-- and an event where the numbers leave no room. What a stop left of the rule file is never a
+-- reason, nor what a save that failed left.
 abbrev pub StartsAgain : Option Step → Script → World → Ran → Type 0
-StartsAgain (Some (step.Event event)) s w result = (result ≡ ran.Bad → has_numbers (daemon_in s) w.faults (disk_in s).faults ≡ false) × (result ≡ ran.TooLong → can_start s.setup s.phase ≡ false)
-StartsAgain (Some step.Restart) s w result = (result ≡ ran.Bad → ⊥) × (result ≡ ran.TooLong → can_start s.setup s.phase ≡ false)
+StartsAgain (Some (step.Event event)) s w result =
+    (result ≡ ran.Bad → has_numbers (daemon_in s) w.faults (disk_in s).faults ≡ false)
+    × (result ≡ ran.TooLong → can_start s.setup s.phase ≡ false)
+StartsAgain (Some step.Restart) s w result =
+    (result ≡ ran.Bad → ⊥) × (result ≡ ran.TooLong → can_start s.setup s.phase ≡ false)
 StartsAgain other s w result = Unit {0}
 
 -- the first line is the header
@@ -330,10 +374,12 @@ pub record RunnerState : Type 0 where
   pub so_far : Ran
 
 abbrev pub runner_state : Runner → RunnerState
-runner_state r = record { script = interpreter_state r.interpreter; lines = r.lines; so_far = r.so_far }
+runner_state r =
+    record { script = interpreter_state r.interpreter; lines = r.lines; so_far = r.so_far }
 
 -- what a line comes to behind so many lines; one that is past a limit may not stand there
-abbrev pub step_behind : (Option Script × World → List ℕ → Outcome (Option Script × World)) → ℕ → Option Script × World → List ℕ → Outcome (Option Script × World)
+abbrev pub step_behind : (Option Script × World → List ℕ → Outcome (Option Script × World)) → ℕ
+    → Option Script × World → List ℕ → Outcome (Option Script × World)
 step_behind takes n p line = cond (is_within n line) (takes p line) (Refused BadLine p)
 
 -- one line more was taken, unless it was refused or there was a fault
@@ -345,7 +391,9 @@ lines_after ran.SinkFailed n = n
 lines_after ran.Memory n = n
 
 -- a line was taken as it stands there, and how that ended is kept
-pub record TakesLine (takes : Option Script × World → List ℕ → Outcome (Option Script × World)) (r : RunnerState) (w : World) (line : List ℕ) (before after : Option (List ℕ)) (answer : Ran) (s : RunnerState) (v : World) : Type 0 where
+pub record TakesLine (takes : Option Script × World → List ℕ → Outcome (Option Script × World))
+    (r : RunnerState) (w : World) (line : List ℕ) (before after : Option (List ℕ)) (answer : Ran)
+    (s : RunnerState) (v : World) : Type 0 where
   pub steps : Steps (step_behind takes r.lines (r.script, w) line) (s.script, v) before after answer
   pub lines : s.lines ≡ lines_after answer r.lines
   pub kept : s.so_far ≡ answer

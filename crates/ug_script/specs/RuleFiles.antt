@@ -12,9 +12,13 @@ is_given (Err e) = false
 abbrev pub is_startable : List ℕ → Bool
 is_startable text = is_given (rules_from text)
 
--- Unless the disk has run out, a daemon starts with each text that a stop may leave, and the rule file is such a one.
+-- Unless the disk has run out, a daemon starts with each text that a stop may leave, and the rule
+-- file is such a one.
 abbrev pub StaysReadable : DiskWorld → Type 0
-StaysReadable o = o.ran_out ≡ false → ((text : List ℕ) → IsImage o.disk.left text → is_startable text ≡ true) × ((IsImage o.disk.left o.disk.text → ⊥) → ⊥)
+StaysReadable o =
+    o.ran_out ≡ false
+    → ((text : List ℕ) → IsImage o.disk.left text → is_startable text ≡ true)
+    × ((IsImage o.disk.left o.disk.text → ⊥) → ⊥)
 
 -- the files of a disk are as they were, and so is what a stop leaves
 pub record IsStillOn (o p : DiskWorld) : Type 0 where

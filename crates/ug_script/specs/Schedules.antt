@@ -62,8 +62,8 @@ pub record IsSchedule (written ms : List Scheduled) : Type 0 where
 
 -- ---- moves that come at once
 
--- A device is born as the newest, with the facts of the line, wherever it can be. A live device of the
--- name goes with those below it. Else nothing changes.
+-- A device is born as the newest, with the facts of the line, wherever it can be. A live device of
+-- the name goes with those below it. Else nothing changes.
 abbrev pub Does : Move → List Device → List Device → Type 0
 Does (move.Plug device) ds es =
     (CanBeBorn device ds → IsBorn device ds es) × (¬ CanBeBorn device ds → es ≡ ds)
@@ -71,8 +71,8 @@ Does (move.Unplug name) ds es =
     ((i : ℕ) (d : Device) → Live ds i d → d.name ≡ name → IsFelled i ds es)
     × (((i : ℕ) (d : Device) → Live ds i d → d.name ≡ name → ⊥) → es ≡ ds)
 
--- a line that asks for the move does it, writes nothing, and leaves all else, but that no line of setup
--- may come any more
+-- a line that asks for the move does it, writes nothing, and leaves all else, but that no line of
+-- setup may come any more
 pub record DoesAtOnce (line : List ℕ) (action : Move) (s : Script) (w : World) : Type 0 where
   pub devices : List Device
   pub does : Does action w.kernel.devices devices
@@ -81,8 +81,8 @@ pub record DoesAtOnce (line : List ℕ) (action : Move) (s : Script) (w : World)
 
 -- ---- wherever lines have led
 
--- What comes in the next event is what the lines since the event before have written, and no more. And
--- where no daemon was started, nothing was written.
+-- What comes in the next event is what the lines since the event before have written, and no more.
+-- And where no daemon was started, nothing was written.
 pub record IsScheduledBy (steps : List (Option Step)) (text : List ℕ) (s : Script) (w : World)
     : Type 0 where
   pub moves : IsSchedule (flat_map move_asked (since_event steps)) w.moves

@@ -12,14 +12,15 @@ use Rattle.ug_script.specs.declared.start.NoStart.{NoStart}
 use Rattle.ug_script.specs.declared.start.NoStart.TheVariants as no_start
 use Rattle.ug_script.specs.Setup.{SetupState, no_setup, rules_disk, started}
 
--- how far a script has come: lines of setup may still come; none may, and no daemon was started; or one was, from its disk
+-- how far a script has come: lines of setup may still come; none may, and no daemon was started; or
+-- one was, from its disk
 pub data Phase : Type 0 where
   SettingUp : Phase
   Unstarted : Phase
   Started : DaemonState → DiskWorld → Phase
 
--- A script whose first line was read: what the setup lines gave, how far it has come, and what is planned for calls of the disk in the
--- next event.
+-- A script whose first line was read: what the setup lines gave, how far it has come, and what is
+-- planned for calls of the disk in the next event.
 pub record Script : Type 0 where
   pub setup : SetupState
   pub phase : Phase
@@ -74,7 +75,8 @@ disk_in s = disk_by s.setup s.phase
 abbrev pub fits_file : SetupState → Bool
 fits_file setup = nat_le (length (rules_text_of setup.rules)) rules_limit
 
--- why no daemon starts over a disk in memory, which fails only where an entry of its calls finds no memory
+-- why no daemon starts over a disk in memory, which fails only where an entry of its calls finds no
+-- memory
 abbrev pub no_start_of : StartFault → NoStart
 no_start_of (fault.BadRules bad) = no_start.BadRules
 no_start_of fault.TooLong = no_start.TooLong

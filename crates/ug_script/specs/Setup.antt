@@ -35,7 +35,8 @@ use Rattle.ug_script.specs.declared.step.StepFault.TheVariants.{Bad, Memory}
 use Rattle.ug_script.specs.Grammar.{step_of_line}
 use Rattle.ug_script.specs.Words.{is_entry}
 
--- the rules in order, the settings so far, what was granted in order, and the seed and the zone, where they were given
+-- the rules in order, the settings so far, what was granted in order, and the seed and the zone,
+-- where they were given
 pub record SetupState : Type 0 where
   pub rules : List types.Rule
   pub settings : Progress
@@ -44,7 +45,15 @@ pub record SetupState : Type 0 where
   pub zone : Option ℤ
 
 abbrev pub no_setup : SetupState
-no_setup = record { rules = []; settings = record { draft = draft_of defaults []; lines = 0 }; access = []; seed = None; zone = None }
+no_setup =
+    record {
+      rules = [];
+      settings = record { draft = draft_of defaults []; lines = 0 };
+      access = [];
+      seed =
+          None;
+      zone = None;
+    }
 
 -- less than a day
 abbrev pub is_offset : ℤ → Bool
@@ -53,21 +62,26 @@ is_offset offset = int_le (neg_ℤ (pos 86399)) offset && int_le offset (pos 863
 -- ---- one line more, None where it may not stand there
 
 abbrev pub one_rule_more : types.Rule → SetupState → Option SetupState
-one_rule_more rule s = if nat_lt (length s.rules) 65536 then Some (record s { rules = s.rules ++ rule ∷ [] }) else None
+one_rule_more rule s =
+    if nat_lt (length s.rules) 65536 then Some (record s { rules = s.rules ++ rule ∷ [] }) else None
 
 abbrev pub with_draft : Result Draft SettingFault → SetupState → Option SetupState
-with_draft (Ok draft) s = Some (record s { settings = record { draft = draft; lines = next_number s.settings.lines } })
+with_draft (Ok draft) s =
+    Some (record s { settings = record { draft = draft; lines = next_number s.settings.lines } })
 with_draft (Err fault) s = None
 
 abbrev pub one_setting_more : List ℕ → SetupState → Option SetupState
-one_setting_more text s = if is_entry text then with_draft (line_read (next_number s.settings.lines) s.settings.draft text) s else None
+one_setting_more text s =
+    if is_entry text
+    then with_draft (line_read (next_number s.settings.lines) s.settings.draft text) s else None
 
 abbrev pub one_line_more : SetupLine → SetupState → Option SetupState
 one_line_more (Rule rule) s = one_rule_more rule s
 one_line_more (Conf text) s = one_setting_more text s
 one_line_more (Access line) s = Some (record s { access = s.access ++ line ∷ [] })
 one_line_more (Seed seed) s = if is_none s.seed then Some (record s { seed = Some seed }) else None
-one_line_more (Zone offset) s = if is_none s.zone && is_offset offset then Some (record s { zone = Some offset }) else None
+one_line_more (Zone offset) s =
+    if is_none s.zone && is_offset offset then Some (record s { zone = Some offset }) else None
 
 -- what a line leaves; a line that may not stand there changes nothing
 abbrev pub Adds : Option SetupState → Result (Unit {0}) StepFault → SetupState → SetupState → Type 0
@@ -93,8 +107,8 @@ abbrev pub given_or : {X : Type 0} → X → Option X → X
 given_or other None = other
 given_or other (Some x) = x
 
--- The rules have ids from 1 and no history, the clock is that of the zone or of UTC, and the words are those of the seed. No moment
--- has come.
+-- The rules have ids from 1 and no history, the clock is that of the zone or of UTC, and the words
+-- are those of the seed. No moment has come.
 abbrev pub policy_of : SetupState → Judging
 policy_of s = record {
   classes = classes_of s.settings.draft.settings;
@@ -116,11 +130,13 @@ everything who = addition who all_pairs
 abbrev pub granted : AccessLine → Addition
 granted line = addition line.who line.grants
 
--- The users and the groups of IPCAllowedUsers and IPCAllowedGroups may do everything, and each line of access adds what it grants.
+-- The users and the groups of IPCAllowedUsers and IPCAllowedGroups may do everything, and each line
+-- of access adds what it grants.
 abbrev pub access_of : SetupState → List Addition
 access_of s = map everything s.settings.draft.settings.users ++ map granted s.access
 
--- what a daemon is started with beside its policy: who may do what, and what is written to the default of each root hub
+-- what a daemon is started with beside its policy: who may do what, and what is written to the
+-- default of each root hub
 pub record Beside : Type 0 where
   pub access : List Addition
   pub hub : Option Write
@@ -136,10 +152,19 @@ after_reading o = record o { disk = past_within Load o.disk }
 abbrev pub rules_disk : SetupState → DiskWorld
 rules_disk s = after_reading (world_at_first (rules_text_of s.rules))
 
--- the daemon that judges by a policy, before its first event, which has that number. Users and groups may do what was added, and no save
--- is pending.
+-- the daemon that judges by a policy, before its first event, which has that number. Users and
+-- groups may do what was added, and no save is pending.
 abbrev pub started_at : ℕ → Beside → Judging → DaemonState
-started_at number beside policy = record { sweep = record { standings = []; next = 1; listed = false; judge = policy; hub = beside.hub; entries = [] }; access = beside.access; pending = false; event = number; reply = None; watch = false }
+started_at number beside policy =
+    record {
+      sweep = record
+          { standings = []; next = 1; listed = false; judge = policy; hub = beside.hub; entries = [] };
+      access = beside.access;
+      pending = false;
+      event = number;
+      reply = None;
+      watch = false;
+    }
 
 -- the first one of a script, whose events are numbered from 1
 abbrev pub started : SetupState → DaemonState
@@ -149,7 +174,9 @@ started s = started_at 1 (beside_of s) (policy_of s)
 
 -- no more than 65,536, with a canonical text for which a rule file has room
 abbrev pub rules_taken : List types.Rule → Result (List types.Rule) Fault
-rules_taken rules = if nat_le (length rules) 65536 && nat_le (length (rules_text_of rules)) rules_limit then Ok rules else Err InputTooLong
+rules_taken rules =
+    if nat_le (length rules) 65536 && nat_le (length (rules_text_of rules)) rules_limit
+    then Ok rules else Err InputTooLong
 
 abbrev pub rules_if_read : Result (List types.Rule) TextFault → Result (List types.Rule) Fault
 rules_if_read (Ok rules) = rules_taken rules
@@ -157,7 +184,8 @@ rules_if_read (Err bad) = Err BadLine
 
 -- those of the text of a rule file, or why no daemon starts with it
 abbrev pub rules_from : List ℕ → Result (List types.Rule) Fault
-rules_from text = if nat_le (length text) file_limit then rules_if_read (file_read text) else Err InputTooLong
+rules_from text =
+    if nat_le (length text) file_limit then rules_if_read (file_read text) else Err InputTooLong
 
 -- a daemon that starts over that disk, whose first event has that number
 pub record StartsOn (s : SetupState) (number : ℕ) (o : DiskWorld) (d : DaemonState) : Type 0 where
@@ -197,18 +225,21 @@ abbrev pub first_or : {X : Type 0} → X → List X → X
 first_or other [] = other
 first_or other (x ∷ xs) = x
 
--- The rules are those of the `rule` lines in order, with ids from 1 and no history; the settings are those that the lines of the `conf`
--- lines give, read as the lines of one text; the clock is that of the `zone` line, or that of UTC; and the words are those of the
--- `seed` line's seed, or of 32 bytes 0. No moment has come. The users and the groups of the settings may do everything, and each
--- `access` line adds what it grants.
+-- The rules are those of the `rule` lines in order, with ids from 1 and no history; the settings
+-- are those that the lines of the `conf` lines give, read as the lines of one text; the clock is
+-- that of the `zone` line, or that of UTC; and the words are those of the `seed` line's seed, or of
+-- 32 bytes 0. No moment has come. The users and the groups of the settings may do everything, and
+-- each `access` line adds what it grants.
 pub record IsSetup (steps : List (Option Step)) (beside : Beside) (policy : Judging) : Type 0 where
   pub draft : Draft
-  pub settings : lines_read setting_line 1 (draft_of defaults []) (flat_map conf_asked steps) ≡ Ok draft
+  pub settings : lines_read setting_line 1 (draft_of defaults []) (flat_map conf_asked steps)
+      ≡ Ok draft
   pub classes : policy.classes ≡ classes_of draft.settings
   pub rules : policy.rules ≡ permanent_entries 1 (flat_map rule_asked steps)
   pub next : policy.next ≡ length (flat_map rule_asked steps) + 1
   pub clock : policy.clock ≡ clock_ahead (first_or (pos 0) (flat_map zone_asked steps))
   pub ctx : policy.ctx ≡ record { moment = record { 0 = 0 }; second = 0 }
   pub hub : beside.hub ≡ hub_default draft.settings.default
-  pub allowed : beside.access ≡ map everything draft.settings.users ++ map granted (flat_map access_asked steps)
+  pub allowed : beside.access
+      ≡ map everything draft.settings.users ++ map granted (flat_map access_asked steps)
   pub words : policy.stream ≡ seeded (first_or no_seed (flat_map seed_asked steps))

@@ -1,4 +1,5 @@
--- What each line of a script is to `replay --summary`, and the line that is written behind the last.
+-- What each line of a script is to `replay --summary`, and the line that is written behind the
+-- last.
 use Rattle.std.specs.Prelude.{◌≡◌, ℕ, ◌+◌, ◌-◌, ◌^◌, min, nat_eq, List, [], ◌++◌, filter, length, codes, decimal, Option, Some, None}
 use Rattle.std.specs.List.{starts_with}
 use Rattle.ug_lines.specs.Lines.{lines_of}
@@ -56,7 +57,9 @@ summary_step p line = counted p.0.1 (script_step (p.0.0, p.1) line)
 
 unfoldable pub summary_line : Totals → List ℕ
 summary_line t =
-    codes "summary events " ++ decimal t.events ++ codes " judged " ++ decimal t.judged ++ codes " writes " ++ decimal t.writes ++ codes " unsettled " ++ decimal t.unsettled ++ codes "\n"
+    codes "summary events " ++ decimal t.events ++ codes " judged " ++ decimal t.judged
+    ++ codes " writes " ++ decimal t.writes ++ codes " unsettled " ++ decimal t.unsettled
+    ++ codes "\n"
 
 abbrev pub summary_end_of : Option Script → Totals → Option (List ℕ)
 summary_end_of None t = None
@@ -69,7 +72,8 @@ summary_end p = summary_end_of p.0.0 p.0.1
 -- ---- a whole script
 
 -- One line is written: the numbers of the journal that a replay writes, or what is wrong.
-pub record TellsSummary (first : World) (all base : List ℕ) (held : Option (List ℕ)) (status : ℕ) : Type 0 where
+pub record TellsSummary (first : World) (all base : List ℕ) (held : Option (List ℕ)) (status : ℕ) :
+    Type 0 where
   pub done : status ≡ 0 → (n : ℕ) × (journal : List ℕ) × (s : Script) × (w : World)
       × (plays script_step (Going 0 [] (None, first)) (lines_of all) ≡ Going n journal (Some s, w))
       × (held ≡ Some (base ++ summary_line (totals_of journal)))

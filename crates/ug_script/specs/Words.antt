@@ -87,11 +87,15 @@ abbrev pub two_digits : ℕ → ℕ → Option ℕ
 two_digits a b = if is_digit a && is_digit b then Some ((a - 48) * 10 + (b - 48)) else None
 
 abbrev pub signed_by : ℕ → ℕ → Option ℤ
-signed_by sign seconds = if nat_eq sign 43 then Some (pos seconds) else if nat_eq sign 45 then Some (neg_ℤ (pos seconds)) else None
+signed_by sign seconds =
+    if nat_eq sign 43 then Some (pos seconds) else if nat_eq sign 45 then Some (neg_ℤ (pos seconds))
+    else None
 
 abbrev pub with_minutes : ℕ → ℕ → Option ℕ → Option ℤ
 with_minutes sign hours None = None
-with_minutes sign hours (Some minutes) = if nat_le hours 23 && nat_le minutes 59 then signed_by sign (hours * 3600 + minutes * 60) else None
+with_minutes sign hours (Some minutes) =
+    if nat_le hours 23 && nat_le minutes 59 then signed_by sign (hours * 3600 + minutes * 60)
+    else None
 
 abbrev pub with_hours : ℕ → Option ℕ → Option ℕ → Option ℤ
 with_hours sign None minutes = None
@@ -100,7 +104,9 @@ with_hours sign (Some hours) minutes = with_minutes sign hours minutes
 -- `+HH:MM` or `-HH:MM`, in seconds
 unfoldable pub offset_of : List ℕ → Option ℤ
 offset_of text =
-    if nat_eq (length text) 6 && nat_eq (get_or text 3 0) 58 then with_hours (get_or text 0 0) (two_digits (get_or text 1 0) (get_or text 2 0)) (two_digits (get_or text 4 0) (get_or text 5 0))
+    if nat_eq (length text) 6 && nat_eq (get_or text 3 0) 58
+    then with_hours (get_or text 0 0) (two_digits (get_or text 1 0) (get_or text 2 0))
+    (two_digits (get_or text 4 0) (get_or text 5 0))
     else None
 
 -- what was asked for, or the fault where nothing is; want of memory may come at any text

@@ -27,7 +27,8 @@ use ug_sysfs::{SimKernel, Sysfs};
 use ug_types::{NoMemory, Sink};
 
 fn plan_failure(disk: &mut MemDisk, planned: &Planned) -> Result<(), NoMemory>
-    ensures ok { OnOk result (disk.new ≡ record disk.old { planned = disk.old.planned ++ planned.now ∷ [] }) }
+    ensures ok { OnOk result
+        (disk.new ≡ record disk.old { planned = disk.old.planned ++ planned.now ∷ [] }) }
     ensures same { IsStillOn disk.old disk.new }
 {
     disk.plan(*planned)?;
@@ -56,7 +57,8 @@ fn begin_disk(disk: &mut MemDisk, plan: &[Planned]) -> Result<(), NoMemory>
 
 /// An event, which the script fixes unless it is told that memory was wanting. Nobody but the journal notes it.
 fn handle(alloc: Global, session: &mut Session, event: &Event, kernel: &mut SimKernel)
-    requires { has_numbers (daemon_of session.old.daemon) kernel.old.faults session.old.disk.faults ≡ true }
+    requires { has_numbers (daemon_of session.old.daemon) kernel.old.faults session.old.disk.faults
+        ≡ true }
     ensures played { IsEventPlayed event.now (daemon_of session.old.daemon) kernel.old session.old.disk
         (daemon_of session.new.daemon) kernel.new session.new.disk }
     ensures readable { tells_memory (daemon_of session.new.daemon).sweep.entries ≡ false
@@ -95,7 +97,8 @@ fn put_outcome<K: Sink>(alloc: Global, report: &Report, out: &mut K) -> Ran
 
 /// What a crash might have left of the rule file is forgotten, and the event's text is written.
 fn write_event<K: Sink>(alloc: Global, session: &mut Session, out: &mut K) -> Ran
-    requires { session.old.daemon.report.entries.entries ≡ (daemon_of session.old.daemon).sweep.entries }
+    requires { session.old.daemon.report.entries.entries
+        ≡ (daemon_of session.old.daemon).sweep.entries }
     ensures ran { (w : World) → Steps (replay.finished (record { daemon = daemon_of session.old.daemon; world = w; disk = session.old.disk }))
         (record { daemon = daemon_of session.new.daemon; world = over w; disk = session.new.disk })
         (K.held out.old) (K.held out.new) result }
@@ -162,7 +165,8 @@ fn restart_behind(
     session: &mut Session,
     call: u64,
 ) -> Result<Vec<u8>, NoMemory>
-    requires { session.old.daemon.report.entries.entries ≡ (daemon_of session.old.daemon).sweep.entries }
+    requires { session.old.daemon.report.entries.entries
+        ≡ (daemon_of session.old.daemon).sweep.entries }
     ensures text { IfOk result (λ text. text.items
         ≡ replay.stopped_text call (daemon_of session.old.daemon).sweep.entries) }
     ensures started { OnOk result (StartsOn setup.now (daemon_of session.old.daemon).event
@@ -183,7 +187,8 @@ fn stop_event<K: Sink>(
     call: u64,
     out: &mut K,
 ) -> Ran
-    requires { session.old.daemon.report.entries.entries ≡ (daemon_of session.old.daemon).sweep.entries }
+    requires { session.old.daemon.report.entries.entries
+        ≡ (daemon_of session.old.daemon).sweep.entries }
     ensures ran { (w : World) → Steps (replay.stopped_of setup.now call
         (record { daemon = daemon_of session.old.daemon; world = w; disk = session.old.disk })
         (rules_from session.old.disk.disk.text))
@@ -210,7 +215,8 @@ fn play_event<K: Sink>(
     kernel: &mut SimKernel,
     out: &mut K,
 ) -> Ran
-    requires { has_numbers (daemon_of session.old.daemon) kernel.old.faults session.old.disk.faults ≡ true }
+    requires { has_numbers (daemon_of session.old.daemon) kernel.old.faults session.old.disk.faults
+        ≡ true }
     ensures ran { Steps (came_of setup.now plan.now
         (event_from event.now (daemon_of session.old.daemon) kernel.old session.old.disk))
         (record { daemon = daemon_of session.new.daemon; world = kernel.new; disk = session.new.disk })
@@ -245,7 +251,8 @@ fn run_event<K: Sink>(
     kernel: &mut SimKernel,
     out: &mut K,
 ) -> Ran
-    requires { has_numbers (daemon_of session.old.daemon) kernel.old.faults session.old.disk.faults ≡ true }
+    requires { has_numbers (daemon_of session.old.daemon) kernel.old.faults session.old.disk.faults
+        ≡ true }
     ensures ran { Steps (came_of setup.now plan.now (event_from event.now (daemon_of session.old.daemon) kernel.old
         (replay.begun_disk plan.now session.old.disk)))
         (record { daemon = daemon_of session.new.daemon; world = kernel.new; disk = session.new.disk })

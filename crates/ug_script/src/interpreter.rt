@@ -84,7 +84,8 @@ impl Interpreter {
 
     /// Writes the last line, which tells the number of events.
     pub fn close<K: Sink>(&self, out: &mut K) -> Ran
-        ensures ran { Closes (script_end (interpreter_state self.now)) (K.held out.old) (K.held out.new) result }
+        ensures ran { Closes (script_end (interpreter_state self.now)) (K.held out.old)
+            (K.held out.new) result }
         ensures counted { K.faults out.old ≤ K.faults out.new }
         ensures cause { result ≡ Ran.SinkFailed → Rose (K.faults out.old) (K.faults out.new) }
     {

@@ -36,8 +36,10 @@ ghost use Rattle.ug_script.specs.Words.{moment_of, name_of};
 
 /// Names are read as themselves, each moment up to 250,000,000,000 is read from its decimal text, and nothing else is read.
 pub fn words_law()
-    ensures names { (text name : List ℕ) → (name_of text ≡ Some name) ↔ (IsNodeName text × (length text ≤ 31) × (name ≡ text)) }
-    ensures moments { (text : List ℕ) (moment : ℕ) → (moment_of text ≡ Some moment) ↔ ((text ≡ decimal moment) × (moment ≤ 250000000000)) }
+    ensures names { (text name : List ℕ) → (name_of text ≡ Some name)
+        ↔ (IsNodeName text × (length text ≤ 31) × (name ≡ text)) }
+    ensures moments { (text : List ℕ) (moment : ℕ) → (moment_of text ≡ Some moment)
+        ↔ ((text ≡ decimal moment) × (moment ≤ 250000000000)) }
 {}
 
 /// Behind `access ` a user or a group is read with what a line of an access file gives, and nothing else is.
@@ -144,7 +146,8 @@ pub fn worked_law()
         ∷ entry.Intent 2 (codes "1-1") write.On
         ∷ entry.Wrote 2 (codes "1-1") write.On wrote.Done
         ∷ entry.End 2 ∷ [] }
-    ensures written { (event_at 101 plugged_in).world.kernel.log ≡ record { device = 1; write = write.On } ∷ [] }
+    ensures written { (event_at 101 plugged_in).world.kernel.log
+        ≡ record { device = 1; write = write.On } ∷ [] }
     ensures replaced { (event_with 101 replaced [] plugged_in).daemon.sweep.entries
         ≡ entry.Event 2 (record { 0 = 101 })
         ∷ entry.Judged 2 (codes "1-1") (record { 0 = 1 }) target.Allow (cause.Rule 1)

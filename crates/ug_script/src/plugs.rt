@@ -73,7 +73,9 @@ fn three_files(
     b: &Token,
     c: &Token,
 ) -> Result<Files, StepFault>
-    ensures { Parses (with_product (file_of text.now a.now) (file_of text.now b.now) (file_of text.now c.now)) result }
+    ensures { Parses
+        (with_product (file_of text.now a.now) (file_of text.now b.now) (file_of text.now c.now))
+        result }
 {
     let product = file(alloc, text, a)?;
     let serial = file(alloc, text, b)?;

@@ -177,7 +177,8 @@ impl Running {
             → StepReads (Some (Step.Event event.now)) (script_of self.old) kernel.old }
         ensures numbers { result ≡ Ran.Bad → has_numbers (daemon_in (script_of self.old)) kernel.old.faults
             (disk_in (script_of self.old)).faults ≡ false }
-        ensures short { result ≡ Ran.TooLong → can_start (script_of self.old).setup (script_of self.old).phase ≡ false }
+        ensures short { result ≡ Ran.TooLong
+            → can_start (script_of self.old).setup (script_of self.old).phase ≡ false }
         ensures counted { K.faults out.old ≤ K.faults out.new }
         ensures cause { result ≡ Ran.SinkFailed → Rose (K.faults out.old) (K.faults out.new) }
     {
@@ -201,7 +202,8 @@ impl Running {
         ensures silent { ¬ (result ≡ Ran.SinkFailed) }
         ensures given { ¬ (result ≡ Ran.Bad) }
         ensures readable { result ≡ Ran.Done → FirstReads (script_of self.old) }
-        ensures short { result ≡ Ran.TooLong → can_start (script_of self.old).setup (script_of self.old).phase ≡ false }
+        ensures short { result ≡ Ran.TooLong
+            → can_start (script_of self.old).setup (script_of self.old).phase ≡ false }
         ensures ran { (w : World) (held : Option (List ℕ)) → Steps (restart_taken (script_of self.old) w)
             (Some (script_of self.new), w) held held result }
     {
@@ -222,7 +224,8 @@ impl Running {
         ensures silent { ¬ (result ≡ Ran.SinkFailed) }
         ensures given { ¬ (result ≡ Ran.Bad) }
         ensures readable { result ≡ Ran.Done → FirstReads (script_of self.old) }
-        ensures short { result ≡ Ran.TooLong → can_start (script_of self.old).setup (script_of self.old).phase ≡ false }
+        ensures short { result ≡ Ran.TooLong
+            → can_start (script_of self.old).setup (script_of self.old).phase ≡ false }
         ensures ran { (w : World) (held : Option (List ℕ)) → Steps (restart_taken (script_of self.old) w)
             (Some (script_of self.new), w) held held result }
     {
@@ -245,7 +248,8 @@ impl Running {
             → StepReads (Some (Step.Event event.now)) (script_of self.old) kernel.old }
         ensures numbers { result ≡ Ran.Bad → has_numbers (daemon_in (script_of self.old)) kernel.old.faults
             (disk_in (script_of self.old)).faults ≡ false }
-        ensures short { result ≡ Ran.TooLong → can_start (script_of self.old).setup (script_of self.old).phase ≡ false }
+        ensures short { result ≡ Ran.TooLong
+            → can_start (script_of self.old).setup (script_of self.old).phase ≡ false }
         ensures counted { K.faults out.old ≤ K.faults out.new }
         ensures cause { result ≡ Ran.SinkFailed → Rose (K.faults out.old) (K.faults out.new) }
     {

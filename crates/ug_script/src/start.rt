@@ -155,7 +155,8 @@ fn start_on(
     ensures started { IfOk result (λ daemon. StartsOn setup.now first disk.old (daemon_of daemon)) }
     ensures saves { IfOk result (λ daemon. IsSaveable (daemon_of daemon).sweep.judge.rules) }
     ensures bad { result ≡ Err NoStart.BadRules → rules_from disk.old.disk.text ≡ Err BadLine }
-    ensures too_long { result ≡ Err NoStart.TooLong → rules_from disk.old.disk.text ≡ Err InputTooLong }
+    ensures too_long { result ≡ Err NoStart.TooLong
+        → rules_from disk.old.disk.text ≡ Err InputTooLong }
     ensures read { (result ≡ Err NoStart.Memory → ⊥) → disk.new ≡ after_reading disk.old }
     ensures still { disk.new.ran_out ≡ false → IsStillOn disk.old disk.new }
 {

@@ -23,17 +23,21 @@ Ends before after asked.WriteFault status = (status ≡ 5) × Keeps before after
 Ends before after asked.Memory status = EndsIn no_memory 6 before after status
 
 -- a request at the socket of that path, and its reply: `faults` are those of the link
-pub record AsksAndEnds (path line : List ℕ) (calls0 calls : Option (List LinkCall)) (sent0 sent left0 left held0 held : Option (List ℕ)) (faults0 faults : ℕ) (status : ℕ) : Type 0 where
-  pub came : Asked
-  pub between : Option (List ℕ)
-  pub asks : Asks path line calls0 calls sent0 sent left0 left held0 between came
-  pub cause : came ≡ asked.LinkFailed → Rose faults0 faults
-  pub ends : Ends between held came status
+pub record AsksAndEnds (path line : List ℕ) (calls0 calls : Option (List LinkCall))
+    (sent0 sent left0 left held0 held : Option (List ℕ)) (faults0 faults : ℕ) (status : ℕ) : Type 0
+  where
+    pub came : Asked
+    pub between : Option (List ℕ)
+    pub asks : Asks path line calls0 calls sent0 sent left0 left held0 between came
+    pub cause : came ≡ asked.LinkFailed → Rose faults0 faults
+    pub ends : Ends between held came status
 
 -- the same with so many notices behind it at most
-pub record WatchesAndEnds (path line : List ℕ) (most : ℕ) (calls0 calls : Option (List LinkCall)) (sent0 sent left0 left held0 held : Option (List ℕ)) (faults0 faults : ℕ) (status : ℕ) : Type 0 where
-  pub came : Asked
-  pub between : Option (List ℕ)
-  pub watches : Watches path line most calls0 calls sent0 sent left0 left held0 between came
-  pub cause : came ≡ asked.LinkFailed → Rose faults0 faults
-  pub ends : Ends between held came status
+pub record WatchesAndEnds (path line : List ℕ) (most : ℕ) (calls0 calls : Option (List LinkCall))
+    (sent0 sent left0 left held0 held : Option (List ℕ)) (faults0 faults : ℕ) (status : ℕ) : Type 0
+  where
+    pub came : Asked
+    pub between : Option (List ℕ)
+    pub watches : Watches path line most calls0 calls sent0 sent left0 left held0 between came
+    pub cause : came ≡ asked.LinkFailed → Rose faults0 faults
+    pub ends : Ends between held came status

@@ -10,7 +10,8 @@ bad_words = codes "bad words\n"
 
 -- a fault line was written, or a front of it where the sink failed
 abbrev pub EndsIn : List ℕ → ℕ → Option (List ℕ) → Option (List ℕ) → ℕ → Type 0
-EndsIn line wanted before after status = ((status ≡ wanted) × Appends before after line) ⊎ ((status ≡ 5) × Puts before after line Failed)
+EndsIn line wanted before after status =
+    ((status ≡ wanted) × Appends before after line) ⊎ ((status ≡ 5) × Puts before after line Failed)
 
 abbrev pub IsRefused : Option (List ℕ) → Option (List ℕ) → ℕ → Type 0
 IsRefused = EndsIn bad_words 1

@@ -17,7 +17,8 @@ fn end<K: Sink>(out: &mut K, asked: Asked) -> u8
     ensures ends { Ends (K.held out.old) (K.held out.new) asked result }
     ensures not_read { result ≢ 4 }
     ensures counted { K.faults out.old ≤ K.faults out.new }
-    ensures written { asked ≢ Asked.WriteFault → result ≡ 5 → Rose (K.faults out.old) (K.faults out.new) }
+    ensures written { asked ≢ Asked.WriteFault → result ≡ 5
+        → Rose (K.faults out.old) (K.faults out.new) }
 {
     match asked {
         Asked::Done => 0,

@@ -110,7 +110,8 @@ pub fn carry_out<S: Source, K: Sink, L: Link>(
         (L.sent link.old) (L.sent link.new) (L.left link.old) (L.left link.new)
         (K.held out.old) (K.held out.new) (L.faults link.old) (L.faults link.new) result }
     ensures ended { gives_ended command.now ≡ true → (ended : Ended) × (result ≡ status_of ended) }
-    ensures checked_ended { command.now ≡ commands.CheckRules → (ended : Ended) × (result ≡ checking.status_of ended) }
+    ensures checked_ended { command.now ≡ commands.CheckRules
+        → (ended : Ended) × (result ≡ checking.status_of ended) }
     ensures linted_ended { (prune : Bool) → command.now ≡ commands.LintRules prune
         → (ended : Ended) × (result ≡ checking.status_of ended) }
     ensures read { result ≡ 4 → Rose (S.faults input.old) (S.faults input.new) }

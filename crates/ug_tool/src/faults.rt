@@ -24,7 +24,8 @@ pub fn end_with<K: Sink>(out: &mut K, line: &[u8], status: u8) -> u8
 #[tactic(auto, unfolding(crate::specs::Faults::bad_words, ug_console::specs::Fold::no_memory))]
 pub fn refuse<K: Sink>(out: &mut K, fault: WordsFault) -> u8
     ensures bad { fault ≡ WordsFault.Bad → IsRefused (K.held out.old) (K.held out.new) result }
-    ensures memory { fault ≡ WordsFault.Memory → IsOutOfMemory (K.held out.old) (K.held out.new) result }
+    ensures memory { fault ≡ WordsFault.Memory
+        → IsOutOfMemory (K.held out.old) (K.held out.new) result }
     ensures not_read { result ≢ 4 }
     ensures written { result ≡ 5 → Rose (K.faults out.old) (K.faults out.new) }
 {

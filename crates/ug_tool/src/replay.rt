@@ -87,7 +87,8 @@ fn replay_or_summarize<S: Source, K: Sink>(
 
 // Whether the words of `replay` ask for numbers, or why they aren't its words.
 fn read_replay(alloc: Global, words: &[&str]) -> Result<bool, WordsFault>
-    ensures ok { IfOk result (λ summary. command_in (map (λ word. word.now) words.now) ≡ Some (replay_of summary)) }
+    ensures ok { IfOk result
+        (λ summary. command_in (map (λ word. word.now) words.now) ≡ Some (replay_of summary)) }
     ensures bad { IfErr result (λ fault. fault ≡ WordsFault.Bad
         → (summary : Bool) → ¬ (command_in (map (λ word. word.now) words.now) ≡ Some (replay_of summary))) }
 {

@@ -111,14 +111,18 @@ pub fn run_tool<S: Source, K: Sink, L: Link>(
         → WatchesAndEnds socket (request_line request.Watch) most (L.told link.old) (L.told link.new)
         (L.sent link.old) (L.sent link.new) (L.left link.old) (L.left link.new)
         (K.held out.old) (K.held out.new) (L.faults link.old) (L.faults link.new) result }
-    ensures ended { (c : Command) → command_in (map (λ word. word.now) words.now) ≡ Some c → gives_ended c ≡ true → (ended : Ended) × (result ≡ status_of ended) }
-    ensures checked_ended { command_in (map (λ word. word.now) words.now) ≡ Some command.CheckRules → (ended : Ended) × (result ≡ checking.status_of ended) }
+    ensures ended { (c : Command) → command_in (map (λ word. word.now) words.now) ≡ Some c
+        → gives_ended c ≡ true → (ended : Ended) × (result ≡ status_of ended) }
+    ensures checked_ended { command_in (map (λ word. word.now) words.now) ≡ Some command.CheckRules
+        → (ended : Ended) × (result ≡ checking.status_of ended) }
     ensures linted_ended { (prune : Bool) → command_in (map (λ word. word.now) words.now) ≡ Some (command.LintRules prune)
         → (ended : Ended) × (result ≡ checking.status_of ended) }
     ensures read { result ≡ 4 → Rose (S.faults input.old) (S.faults input.new) }
     ensures written { result ≡ 5 → Rose (K.faults out.old) (K.faults out.new) }
-    ensures input { (c : Command) → command_in (map (λ word. word.now) words.now) ≡ Some c → asks_daemon c ≡ true → S.left input.new ≡ S.left input.old }
-    ensures link { (c : Command) → command_in (map (λ word. word.now) words.now) ≡ Some c → asks_daemon c ≡ false → link.new ≡ link.old }
+    ensures input { (c : Command) → command_in (map (λ word. word.now) words.now) ≡ Some c
+        → asks_daemon c ≡ true → S.left input.new ≡ S.left input.old }
+    ensures link { (c : Command) → command_in (map (λ word. word.now) words.now) ≡ Some c
+        → asks_daemon c ≡ false → link.new ≡ link.old }
 {
     match read_command(alloc, words) {
         Ok(command) => carry_out(alloc, &command, input, out, link),
