@@ -11,6 +11,7 @@ ghost use Rattle.ug_lines.specs.Lines.{lines_of};
 ghost use Rattle.ug_script.specs.Against.{RefusesScript};
 ghost use Rattle.ug_script.specs.CarriedOn.{CarriesThrough};
 ghost use Rattle.ug_script.specs.Generating.{IsFirstPolicy, TellsFaultAlone, generate_end, generate_step};
+ghost use Rattle.ug_script.specs.Roomless.{TellsRoom};
 ghost use Rattle.ug_script.specs.Script.{Script};
 ghost use Rattle.ug_script.specs.Replay.{script_step, script_end};
 ghost use Rattle.ug_script.specs.Summing.{Summary, TellsSummary, no_totals, summary_end, summary_step};
@@ -75,6 +76,9 @@ pub fn carry_out<S: Source, K: Sink, L: Link>(
     ensures carries { command.now ≡ commands.Replay → (all base : List ℕ)
         → S.left input.old ≡ Some all → K.held out.old ≡ Some base → result ≡ 0
         → CarriesThrough new_world (lines_of all) }
+    ensures too_long { command.now ≡ commands.Replay → (all base : List ℕ)
+        → S.left input.old ≡ Some all → K.held out.old ≡ Some base
+        → TellsRoom new_world (lines_of all) base (K.held out.new) result }
     ensures made { (events start : ℕ) → command.now ≡ commands.MakeScript events start
         → EndsIn (generated_script events start) 0 (K.held out.old) (K.held out.new) result }
     ensures unread { (events start : ℕ) → command.now ≡ commands.MakeScript events start

@@ -9,8 +9,10 @@ ghost use Rattle.ug_console.specs.declared.results.Ended.{Ended};
 ghost use Rattle.ug_sysfs.specs.World.{World};
 ghost use Rattle.ug_script.specs.Against.{RefusesScript};
 ghost use Rattle.ug_script.specs.CarriedOn.{CarriesThrough};
+ghost use Rattle.ug_script.specs.Births.{StaysBorn};
 ghost use Rattle.ug_script.specs.Journal.{StaysRecorded};
 ghost use Rattle.ug_script.specs.Laws.{StaysLawful};
+ghost use Rattle.ug_script.specs.Roomless.{TellsRoom};
 ghost use Rattle.ug_lines.specs.Lines.{lines_of};
 ghost use Rattle.ug_script.specs.Generating.{IsFirstPolicy, TellsFaultAlone, generate_end, generate_step};
 ghost use Rattle.ug_script.specs.Script.{Script};
@@ -63,6 +65,7 @@ pub fn run_tool<S: Source, K: Sink, L: Link>(
         → (script : Option Script) × (world : World) × lines.Answers script_step (of_first script_end) (None, new_world) all base (S.left input.new) (K.held out.new) (script, world) result }
     ensures laws { StaysLawful new_world }
     ensures recorded { StaysRecorded new_world }
+    ensures births { StaysBorn new_world }
     ensures summarized { command_in (map (λ word. word.now) words.now) ≡ Some command.Summarize → (all base : List ℕ) → S.left input.old ≡ Some all → K.held out.old ≡ Some base
         → (summary : Summary) × (world : World)
         × lines.Answers summary_step summary_end ((None, no_totals), new_world) all base
@@ -76,6 +79,9 @@ pub fn run_tool<S: Source, K: Sink, L: Link>(
     ensures carries { command_in (map (λ word. word.now) words.now) ≡ Some command.Replay
         → (all base : List ℕ) → S.left input.old ≡ Some all → K.held out.old ≡ Some base
         → result ≡ 0 → CarriesThrough new_world (lines_of all) }
+    ensures too_long { command_in (map (λ word. word.now) words.now) ≡ Some command.Replay
+        → (all base : List ℕ) → S.left input.old ≡ Some all → K.held out.old ≡ Some base
+        → TellsRoom new_world (lines_of all) base (K.held out.new) result }
     ensures made { (events start : ℕ) → command_in (map (λ word. word.now) words.now) ≡ Some (command.MakeScript events start)
         → EndsIn (generated_script events start) 0 (K.held out.old) (K.held out.new) result
         ⊎ IsOutOfMemory (K.held out.old) (K.held out.new) result }

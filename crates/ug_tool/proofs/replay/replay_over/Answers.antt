@@ -28,5 +28,5 @@ returns-clause-too_long g c = λ all base a b.
 pub returns-clause-carries : goal.returns-clause-carries
 returns-clause-carries g c = λ all base a b e.
     done_carries new_world refl new_sound (lines_of all)
-    (rw c.new-interpreter.ensures at (rw c.requires at ((c.run.ensures.answers all base a b).done e).1.0))
+    (rw c.new-interpreter.ensures at (rw c.requires at ((c.run.ensures.answers all base a b).done e).1))
     (rw c.new-interpreter.ensures at (rw c.requires at (c.run.ensures.taken all a e)))

@@ -65,3 +65,7 @@ returns-in-Ok-clause-too_long g c = λ e all base a b. c.replay_or_summarize.ens
 pub returns-in-Err-clause-carries : goal.returns-in-Err-clause-carries
 returns-in-Err-clause-carries g c = λ e all base a b done.
     absurd (memory_undone _ _ c.refuse.result (c.refuse.ensures.memory (only_memory c.in-Err.fault (λ bad. c.in-Err.ensures.bad bad false) e)) done)
+
+pub returns-in-Ok-clause-carries : goal.returns-in-Ok-clause-carries
+returns-in-Ok-clause-carries g c = λ e all base a b done.
+    c.replay_or_summarize.ensures.carries (asks_whole c.in-Ok.summary (same_command _ _ _ c.in-Ok.ensures.ok e)) all base a b done

@@ -15,6 +15,7 @@ use Rattle.ug_client.specs.Asking.{request_line}
 use Rattle.ug_proto.specs.declared.request.Request.TheVariants as request
 use Rattle.ug_arguments.specs.Commands.{command_in}
 use Rattle.ug_sysfs.specs.Sound.{new_sound}
+use Rattle.ug_script.proofs.Births.{stays_born}
 use Rattle.ug_script.proofs.Journals.{stays_lawful, stays_recorded}
 use Rattle.ug_tool.specs.Replay.{new_world}
 use Rattle.ug_tool.specs.Tool.{replay_of}
@@ -171,3 +172,17 @@ pub returns-in-Err-clause-carries : goal.returns-in-Err-clause-carries
 returns-in-Err-clause-carries g c = λ e all base a b done.
     let words = command_in (map (λ (w : Bor (List ℕ)). w.now) c.args.words.now) in
     absurd (memory_undone (g.K.Sink.held c.args.out.now) (g.K.Sink.held c.refuse.new.out) c.refuse.result (c.refuse.ensures.memory (fault_is_memory words _ c.in-Err.fault c.in-Err.ensures.err e)) done)
+
+pub returns-in-Ok-clause-births : goal.returns-in-Ok-clause-births
+returns-in-Ok-clause-births g c = stays_born new_world refl new_sound.devices
+
+pub returns-in-Err-clause-births : goal.returns-in-Err-clause-births
+returns-in-Err-clause-births g c = stays_born new_world refl new_sound.devices
+
+pub returns-in-Ok-clause-too_long : goal.returns-in-Ok-clause-too_long
+returns-in-Ok-clause-too_long g c = λ e. c.carry_out.ensures.too_long (same_command (command_in (map (λ (w : Bor (List ℕ)). w.now) c.args.words.now)) _ _ c.in-Ok.ensures.ok e)
+
+pub returns-in-Err-clause-too_long : goal.returns-in-Err-clause-too_long
+returns-in-Err-clause-too_long g c = λ e all base a b two.
+    let words = command_in (map (λ (w : Bor (List ℕ)). w.now) c.args.words.now) in
+    absurd (memory_unrefused (g.K.Sink.held c.args.out.now) (g.K.Sink.held c.refuse.new.out) c.refuse.result (c.refuse.ensures.memory (fault_is_memory words _ c.in-Err.fault c.in-Err.ensures.err e)) two)
