@@ -1,1 +1,4 @@
 pub mod Rules
+pub mod Calls
+pub mod Bus
+pub mod Called
