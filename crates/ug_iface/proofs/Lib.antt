@@ -1,1 +1,15 @@
+pub mod Parts
+pub mod Runs
+pub mod Walks
+pub mod Passing
+pub mod Told
+pub mod Grow
+pub mod Lived
+pub mod Looks
+pub mod Writes
+pub mod One
+pub mod Whole
+pub mod Pass
+pub mod Counts
+pub mod Complete
 pub mod Lines

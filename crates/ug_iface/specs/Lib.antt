@@ -2,3 +2,10 @@ pub mod Rules
 pub mod Calls
 pub mod Bus
 pub mod Called
+pub mod Grows
+pub mod Tree
+pub mod Named
+pub mod Look
+pub mod Settle
+pub mod Laws
+pub mod Counting

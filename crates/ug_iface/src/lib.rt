@@ -1,12 +1,14 @@
-// Interfaces of USB devices: their files in sysfs, and the rules that switch them off.
+// Interfaces of USB devices: their files in sysfs, the rules that switch them off, and the pass that does so.
 #![tactic(auto)]
 
 mod calls;
 mod ifaces;
 mod interface;
 mod laws;
+mod look;
 mod name;
 mod rules;
+mod settle;
 
 pub use calls::{IfaceHeld, IfaceListing, IfaceOpened, IfaceRead};
 pub use ifaces::Ifaces;
@@ -14,3 +16,4 @@ pub use interface::Interface;
 pub use laws::iface_rules_law;
 pub use name::IfaceName;
 pub use rules::{IfaceRule, parse_iface_rule};
+pub use settle::{IfaceEntry, Passed, settle_ifaces};
