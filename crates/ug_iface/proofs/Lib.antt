@@ -1,4 +1,5 @@
 pub mod Parts
+pub mod Distinct
 pub mod Runs
 pub mod Walks
 pub mod Passing

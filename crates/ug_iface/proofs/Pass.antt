@@ -5,7 +5,7 @@ use Rattle.std.proofs.lemmas.List.Sorted.{Contains-permutation, IsPermutation-sy
 use Rattle.std.specs.List.{Contains}
 use Rattle.std.specs.List.Sorted.{IsPermutation}
 use Rattle.std.specs.declared.cmp.Ordering.{Ordering}
-use Rattle.ug_types.specs.Elements.{Has}
+use Rattle.ug_types.specs.Elements.{Has, AllDistinct}
 use Rattle.ug_types.specs.declared.record.Triple.{Triple}
 use Rattle.ug_kernel.proofs.Grow.{quiet_grows}
 use Rattle.ug_kernel.proofs.Held.{live_before}
@@ -24,6 +24,7 @@ use Rattle.ug_iface.specs.Named.{is_named_off}
 use Rattle.ug_iface.specs.Settle.{Aim, after_listing, beginning, walking, RunsPass, Ended, Walked}
 use Rattle.ug_iface.specs.Tree.{RunsIfaces, bus_calls}
 use Rattle.ug_iface.specs.Laws.{IsHeldOf, IsGoneDevice, Over, DidNothing, PassSays, IsPass}
+use Rattle.ug_iface.proofs.Distinct.{still_distinct}
 use Rattle.ug_iface.proofs.Grow.{still_grows, grows_trans, called_still}
 use Rattle.ug_iface.proofs.Lived.{iface_cut}
 use Rattle.ug_iface.proofs.Told.{told_run}
@@ -59,6 +60,7 @@ module _ (device : List ℕ) (held i : ℕ) (b : Bus) (own : IsHeldOf b.kernel d
     pub still : Still b c
     pub listed : AreIfacesListed device names b c
     pub named : AllOf device names
+    pub distinct : AllDistinct names
 
   none_of : {T : Type 0} → ⊥ → T
   none_of h = absurd h
@@ -95,7 +97,7 @@ module _ (device : List ℕ) (held i : ℕ) (b : Bus) (own : IsHeldOf b.kernel d
   walks (listing.Names all) number count u c names call h = by h.0 h.1
     where
       so : WalksSo u all
-      so = record { sound = call.sound; still = called_still (Names_of device) (record { answer = listing.Names all; number = number; count = count }) b u tt call; listed = call.says.0; named = call.says.1 }
+      so = record { sound = call.sound; still = called_still (Names_of device) (record { answer = listing.Names all; number = number; count = count }) b u tt call; listed = call.says.0; named = call.says.1; distinct = call.says.2 }
 
       by : (room : Bool) → RunsIfaces bus_calls u (Rattle.ug_iface.specs.Settle.if_entry_room (listing.Names all) all room) (Walks names) c → WalksSo c names
       by true k =
@@ -132,6 +134,7 @@ ended_says aim i b c es end own h =
         log = e.still.log ∙ sym (append-nil b.log);
         names = [];
         named = λ n m. absurd m;
+        distinct = tt;
         told = Over [];
         off = λ d. absurd (e.not_done d);
         gone = e.gone;
@@ -160,6 +163,7 @@ walked_says aim i b u c es names order end out own h p run =
         log = k.law.log ∙ ap (λ (l : List ℕ). l ++ k.law.more) w.still.log;
         names = order;
         named = all;
+        distinct = still_distinct names order p w.distinct;
         told = k.law.told;
         off = λ done name of j y lived n.
             let cut = iface_cut b u c name j y w.sound g k.law.grows lived in

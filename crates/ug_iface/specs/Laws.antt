@@ -1,6 +1,6 @@
 -- What a pass says of devices and interfaces: who was switched off, and who is off.
 use Rattle.std.specs.Prelude.{◌<◌, ◌-◌, ◌^◌, ◌≡◌, ℕ, true, false, ◌⊎◌, List, [], ◌∷◌, ◌++◌, Some, slice_get, Option}
-use Rattle.ug_types.specs.Elements.{Has}
+use Rattle.ug_types.specs.Elements.{Has, AllDistinct}
 use Rattle.ug_types.specs.declared.control.Control.TheVariants.{Authorized}
 use Rattle.ug_kernel.specs.declared.device.Device.{Device}
 use Rattle.ug_kernel.specs.Kernel.{Kernel, Live}
@@ -94,7 +94,9 @@ DidNothing passed.Gone es b c = Unit {0}
 DidNothing (passed.Fault count) es b c = (es ≡ []) × Still b c
 DidNothing passed.Memory es b c = (es ≡ []) × Still b c
 
--- the same of the whole pass, with its listing: where it is done, of each interface of the device
+-- of the interfaces of the device i, each name once: those that were switched off are named by some
+-- rule, and each write stands directly behind its intent; where the pass is done, each that lived
+-- through and is named is off, or told to be unsettled; where it says that the device is gone, it is
 pub record PassSays (aim : Aim) (i : ℕ) (b c : Bus) (end : Passed)
     (es : List IfaceEntry) : Type 0 where
   pub sound : IsSoundBus c
@@ -103,6 +105,7 @@ pub record PassSays (aim : Aim) (i : ℕ) (b c : Bus) (end : Passed)
   pub log : c.log ≡ b.log ++ more
   pub names : List IfaceName
   pub named : AllOf aim.device.via_port names
+  pub distinct : AllDistinct names
   pub told : AreTold aim i c names es more
   pub off : end ≡ passed.Done → (name : IfaceName) → name.device ≡ aim.device.via_port
       → AreOff aim name b c es
