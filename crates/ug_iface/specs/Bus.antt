@@ -1,5 +1,5 @@
 -- Devices and their interfaces as plain data, and what they do by themselves.
-use Rattle.std.specs.Prelude.{◌≡◌, ℕ, ◌<◌, true, false, List, [], ◌∷◌, length, Some, slice_get}
+use Rattle.std.specs.Prelude.{◌≡◌, ℕ, ◌+◌, ◌<◌, ◌≤◌, not, ◌&&◌, nat_eq, if◌then◌else◌, true, false, List, [], ◌∷◌, length, Some, slice_get}
 use Rattle.ug_kernel.specs.declared.device.Device.{Device}
 use Rattle.ug_kernel.specs.Kernel.{Kernel, Live, IsKernel, Moves}
 use Rattle.ug_iface.specs.declared.interface.Interface.{Interface}
@@ -27,15 +27,23 @@ pub record IsCalled (name : IfaceName) (d : Device) (x : Interface) : Type 0 whe
   pub config : x.config ≡ name.config
   pub number : x.number ≡ name.number
 
--- live interfaces of one device differ in configuration or number; an interface is of a device that
--- was born, and of a configuration from 1 on; and a held file is of an interface that was made
+-- how many interfaces of a device aren't gone
+abbrev pub ungone_of : ℕ → List Interface → ℕ
+ungone_of i [] = 0
+ungone_of i (x ∷ xs) = (if not x.gone && nat_eq x.device i then 1 else 0) + ungone_of i xs
+
+-- live interfaces of one device differ in configuration or number, and at most 1,024 aren't gone;
+-- an interface is of a device that was born, and of a configuration from 1 on; and a held file is of
+-- an interface that was made
 pub record IsSoundBus (b : Bus) : Type 0 where
   pub kernel : IsKernel b.kernel
   pub apart : (i j : ℕ) (x y : Interface) → LiveIface b i x → LiveIface b j y
       → x.device ≡ y.device → x.config ≡ y.config → x.number ≡ y.number → i ≡ j
   pub born : (i : ℕ) (x : Interface) → slice_get b.interfaces i ≡ Some x
       → (d : Device) × (slice_get b.kernel.devices x.device ≡ Some d)
-  pub configured : (i : ℕ) (x : Interface) → slice_get b.interfaces i ≡ Some x → 0 < x.config
+  pub configured : (i : ℕ) (x : Interface) → slice_get b.interfaces i ≡ Some x
+      → 0 < x.config
+  pub few : (i : ℕ) → ungone_of i b.interfaces ≤ 1024
   pub files : (h i : ℕ) → slice_get b.files h ≡ Some i → i < length b.interfaces
 
 -- y is what became of the interface x: its facts stay, and gone never becomes not gone

@@ -96,7 +96,8 @@ DidNothing passed.Memory es b c = (es ≡ []) × Still b c
 
 -- of the interfaces of the device i, each name once: those that were switched off are named by some
 -- rule, and each write stands directly behind its intent; where the pass is done, each that lived
--- through and is named is off, or told to be unsettled; where it says that the device is gone, it is
+-- through and is named is off, or told to be unsettled; where it says that the device is gone, that
+-- is so
 pub record PassSays (aim : Aim) (i : ℕ) (b c : Bus) (end : Passed)
     (es : List IfaceEntry) : Type 0 where
   pub sound : IsSoundBus c

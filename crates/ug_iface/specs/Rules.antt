@@ -5,16 +5,18 @@ use Rattle.ug_lex.specs.declared.token.Token.{Token}
 use Rattle.ug_lex.specs.Grammar.{Good, Bad}
 use Rattle.ug_lex.specs.Lexing as lexing
 use Rattle.ug_types.specs.declared.rule.Iface.{Iface}
+use Rattle.ug_types.specs.declared.rule.Op.TheVariants.{Equals}
 use Rattle.ug_rule.specs.declared.fault.Fault.{Fault}
 use Rattle.ug_rule.specs.declared.fault.FaultKind.TheVariants.{BadValue}
 use Rattle.ug_rule.specs.declared.fault.RuleFault.{RuleFault}
 use Rattle.ug_rule.specs.declared.fault.RuleFault.TheVariants as answered
 use Rattle.ug_rule.specs.Faults.{kind_number, fault_at, on_ok}
 use Rattle.ug_rule.specs.Grammar.{Asks}
+use Rattle.ug_rule.specs.Queries.{id_query}
 use Rattle.ug_rule.specs.Rules.{query_read}
 use Rattle.ug_rule.specs.Texts.{lexical_fault}
 use Rattle.ug_rule.specs.Tokens.{word_of, tokens_read}
-use Rattle.ug_rule.specs.Values.{interface_in, item_of}
+use Rattle.ug_rule.specs.Values.{interface_in, item_of, valued}
 use Rattle.ug_iface.specs.declared.rules.IfaceRule.{IfaceRule}
 
 -- what is wrong with a line: it doesn't begin with `off`, or what a rule's text can have
@@ -96,3 +98,12 @@ pub data HasRuleFault (line : List ℕ) : Fault → Type 0 where
       → Good line (first ∷ second ∷ rest) → word_of line first ≡ codes "off"
       → interface_in line second ≡ Some iface → query_read (blanked second.end line) ≡ Err fault
       → HasRuleFault line fault
+
+-- ---- an example
+
+-- interfaces of human interface devices, of all devices of one vendor
+abbrev pub keyboards_off : IfaceRule
+keyboards_off = record {
+  iface = record { class = 3; subclass = None; protocol = None };
+  query = id_query (valued Equals (record { vendor = Some 4176; product = None } ∷ []));
+}

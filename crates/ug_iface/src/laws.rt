@@ -1,7 +1,9 @@
 // Laws of the meaning of a line that switches off interfaces.
-ghost use Rattle.std.specs.Prelude.{◌≡◌, ◌↔◌, ℕ, List, Ok, Err};
+ghost use Rattle.std.specs.Prelude.{◌≡◌, ◌↔◌, ℕ, List, Ok, Err, codes};
+ghost use Rattle.ug_rule.specs.Faults.{fault_at};
 ghost use Rattle.ug_rule.specs.declared.fault.Fault.{Fault};
-ghost use Rattle.ug_iface.specs.Rules.{HasNoOff, HasRuleFault, IsIfaceRule, InRule, NoOff, iface_rule_read};
+ghost use Rattle.ug_rule.specs.declared.fault.FaultKind.TheVariants.{BadByte, BadValue, ConditionInQuery, Repeated, TrailingToken, UnknownWord};
+ghost use Rattle.ug_iface.specs.Rules.{HasNoOff, HasRuleFault, IsIfaceRule, InRule, NoOff, keyboards_off, iface_rule_read};
 
 use crate::rules::IfaceRule;
 
@@ -15,4 +17,32 @@ pub fn iface_rules_law()
         → (iface_rule_read line ≡ Err (NoOff place)) ↔ HasNoOff line place }
     ensures others { (line : List ℕ) (fault : Fault)
         → (iface_rule_read line ≡ Err (InRule fault)) ↔ HasRuleFault line fault }
+{}
+
+/// Lines by example: a rule, and faults with their places in the whole line.
+pub fn iface_lines_law()
+    ensures rule { iface_rule_read (codes "off 03:*:* 1050:*")
+        ≡ Ok keyboards_off }
+    ensures attribute { iface_rule_read (codes "  off 03:*:* id 1050:* # keyboards")
+        ≡ Ok keyboards_off }
+    ensures other_word { iface_rule_read (codes "on 03:*:* 1050:*")
+        ≡ Err (NoOff 0) }
+    ensures comment { iface_rule_read (codes "  # off")
+        ≡ Err (NoOff 7) }
+    ensures lexical { iface_rule_read (codes "on 03:*:* 1050;")
+        ≡ Err (InRule (fault_at BadByte 14)) }
+    ensures no_type { iface_rule_read (codes "off ")
+        ≡ Err (InRule (fault_at BadValue 4)) }
+    ensures bad_type { iface_rule_read (codes "off 3:*:* 1050:*")
+        ≡ Err (InRule (fault_at BadValue 4)) }
+    ensures no_query { iface_rule_read (codes "off 03:*:*")
+        ≡ Err (InRule (fault_at BadValue 10)) }
+    ensures unknown { iface_rule_read (codes "off 03:*:* 1050:* port")
+        ≡ Err (InRule (fault_at UnknownWord 18)) }
+    ensures repeated { iface_rule_read (codes "off 03:*:* 1050:* id 1050:*")
+        ≡ Err (InRule (fault_at Repeated 18)) }
+    ensures condition { iface_rule_read (codes "off 03:*:* 1050:* if true")
+        ≡ Err (InRule (fault_at ConditionInQuery 18)) }
+    ensures trailing { iface_rule_read (codes "off 03:*:* 1050:* {")
+        ≡ Err (InRule (fault_at TrailingToken 18)) }
 {}
