@@ -33,8 +33,8 @@ ungone_of i [] = 0
 ungone_of i (x ∷ xs) = (if not x.gone && nat_eq x.device i then 1 else 0) + ungone_of i xs
 
 -- live interfaces of one device differ in configuration or number, and at most 1,024 aren't gone;
--- an interface is of a device that was born, and of a configuration from 1 on; and a held file is of
--- an interface that was made
+-- an interface is of a device that was born, and of a configuration from 1 on; and a held file is
+-- of an interface that was made
 pub record IsSoundBus (b : Bus) : Type 0 where
   pub kernel : IsKernel b.kernel
   pub apart : (i j : ℕ) (x y : Interface) → LiveIface b i x → LiveIface b j y

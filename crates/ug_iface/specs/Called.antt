@@ -15,7 +15,7 @@ use Rattle.ug_iface.specs.declared.calls.IfaceOpened.{IfaceOpened}
 use Rattle.ug_iface.specs.declared.calls.IfaceOpened.TheVariants as opened
 use Rattle.ug_iface.specs.declared.calls.IfaceRead.{IfaceRead}
 use Rattle.ug_iface.specs.declared.calls.IfaceRead.TheVariants as read
-use Rattle.ug_iface.specs.Bus.{Bus, LiveIface, IsCalled, IsSoundBus, MovesBus}
+use Rattle.ug_iface.specs.Bus.{Bus, LiveIface, IsCalled, IsSoundBus, IfacesBegin, MovesBus}
 use Rattle.ug_iface.specs.Calls.{IfaceCall, Names_of, Open, Read, Ask_device, Ask, Put_off, Close, IfaceAnswer, AllOf}
 
 -- an interface of that name that lived from b to c
@@ -149,3 +149,13 @@ pub record IfaceFollows (call : IfaceCall) (answer : IfaceAnswer call) (told : O
   pub bus : Bus
   pub was : told ≡ Some bus
   pub called : IsSoundBus bus → IfaceCalled call answer bus c
+
+-- what a call of the devices' files leaves of the interfaces, where it tells them: they were told
+-- before it, and only moved
+pub record OnlyMoves (told : Option Bus) (c : Bus) : Type 0 where
+  pub bus : Bus
+  pub was : told ≡ Some bus
+  pub interfaces : IfacesBegin bus.kernel bus.interfaces c.interfaces
+  pub files : c.files ≡ bus.files
+  pub log : c.log ≡ bus.log
+  pub sound : IsSoundBus bus → IsSoundBus c

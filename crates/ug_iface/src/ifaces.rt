@@ -1,9 +1,9 @@
 // The trait of the outside: what the files of interfaces answer.
 ghost use Rattle.std.specs.Prelude.{◌≡◌, Option, Some};
 ghost use Rattle.ug_iface.specs.Bus.{Bus};
-ghost use Rattle.ug_iface.specs.Called.{IfaceFollows};
+ghost use Rattle.ug_iface.specs.Called.{IfaceFollows, OnlyMoves};
 ghost use Rattle.ug_iface.specs.Calls.{IfaceAnswer, Ask, Ask_device, IfaceCall, Close, CountsIface, Names_of, Open, Put_off, Read, HasFewIfaces, AreOf, AreDistinctIfaces};
-ghost use Rattle.ug_kernel.specs.Calls.{Closed};
+ghost use Rattle.ug_kernel.specs.Calls.{Answer, Call, Closed};
 
 use crate::calls::{IfaceHeld, IfaceListing, IfaceOpened, IfaceRead};
 use crate::name::IfaceName;
@@ -85,6 +85,13 @@ pub trait Ifaces: Sysfs {
     /// Where devices and interfaces are told after a call, they were told before it, and the call did what it may.
     ghost did_so: { (s : Self) (call : IfaceCall) (answer : IfaceAnswer call) (t : Self) (l : Bus)
         → serves s call answer t → bus t ≡ Some l → IfaceFollows call answer (bus s) l };
+
+    /// Where they are told after a call of the devices' files, they were told before it, and interfaces only moved.
+    ghost kept_so: { (s : Self) (call : Call) (answer : Answer call) (t : Self) (l : Bus)
+        → Self.gives s call answer t → bus t ≡ Some l → OnlyMoves (bus s) l };
+
+    /// The beginning of an event changes nothing of them.
+    ghost began_so: { (s t : Self) → Self.begins s t → bus t ≡ bus s };
 
     /// Where they are told, the kernel that is told is theirs.
     ghost one_kernel: { (s : Self) (b : Bus) → bus s ≡ Some b → Self.told s ≡ Some b.kernel };
