@@ -152,7 +152,7 @@ first_with : {fs left : List (List ℕ × Attr)} {ms : List Made} (gs : List (Li
 first_with gs (None_read files) = None_read (files ++ gs)
 first_with gs (One_read of at t ms files left came a) = One_read of at t ms (files ++ gs) (left ++ gs) came (first_with gs a)
 
-binds_behind : {name parent : List ℕ} {file : Held} {ns : List Made} {r : Binding} (call count : ℕ) (d p s c : Told ReadOut) → parent_of name ≡ Some parent → OwnRead name d p s c → Behind_by name parent file (own_told d p s c) ns r → Binds_by name (answered (Open name Authorized) (told (Opened.Token file) call count) ∷ reads_own name d p s c ns) r
+pub binds_behind : {name parent : List ℕ} {file : Held} {ns : List Made} {r : Binding} (call count : ℕ) (d p s c : Told ReadOut) → parent_of name ≡ Some parent → OwnRead name d p s c → Behind_by name parent file (own_told d p s c) ns r → Binds_by name (answered (Open name Authorized) (told (Opened.Token file) call count) ∷ reads_own name d p s c ns) r
 binds_behind {name} {parent} {file} call count d p s c above own h = by h
   where
     first : ReadsFirst (files_of name) (reads_own name d p s c []) (parent_files (Some parent))
@@ -303,7 +303,7 @@ under_says {name} {parent} {kept} j k l above f (Under_other file call count d p
     kept_says kept name k l r (behind_parent h) (binds_say k l (binds_behind call count d p s c above own h) (a.0, a.1, (b.0, b.1, (b.2.0, b.2.1, (b.2.2.0, b.2.2.1, (b.2.2.2.2.0, whole, b.2.2.2.2.2))))))
 under_says j k l above f x a = tt
 
-under_law : (name parent : List ℕ) (kept j : ℕ) (r : Binding) (k l : Kernel) → parent_of name ≡ Some parent → IsAuthorizedFile k parent kept j → IsKernel k → Runs calls k (binding_under name parent kept) r l → IsBindingBy (IsParentKept kept) name k l r
+pub under_law : (name parent : List ℕ) (kept j : ℕ) (r : Binding) (k l : Kernel) → parent_of name ≡ Some parent → IsAuthorizedFile k parent kept j → IsKernel k → Runs calls k (binding_under name parent kept) r l → IsBindingBy (IsParentKept kept) name k l r
 under_law name parent kept j r k l above f sound runs =
     let x = ways_run calls (Sure (Under_by name parent kept)) (binding_under name parent kept) k r l (under_by name parent kept above) runs in
     record {
