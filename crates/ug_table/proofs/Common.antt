@@ -25,11 +25,13 @@ pub use Rattle.ug_record.specs.Records.{judged_of}
 pub use Rattle.ug_table.specs.Bring.{CallsFor, NeedsMemory, after_default, by_default, default_due, default_write, defaulted_known, after_hold, after_value, after_write, close_gone, if_to_go, is_reject, is_to_go, to_value, wants, write_of}
 pub use Rattle.ug_table.specs.Done.{IsOnce, control_of, is_done}
 unfoldable pub use Rattle.ug_table.specs.Bring.{bringing, once, treating, valuing, writing}
-pub use Rattle.ug_table.specs.Laws.{Stand, IsSpared, Tries, IsDevice, MayHave, MayHaveNot, wrote_entries, HasDone, IsFirst, Account, Start, Had, Had_not, AreInOrder, none_before, IsProbed, numbers_of, Judge, IsOne, IsTold, HasStanding, IsFair, IsDoneMarked, swept_before, IsGone, Went, gone_of, IsRecordOf, IsNamed, IsAsJudged, IsSettled, TellsNeither, HasVerdict, Note, Swept, Sweeps, IsMarked, IsUnlisted, IsListed, IsMarkedIn, AreMarkedIn, Stands, IsJudged, AreLeft, WasDone, TellsDone}
+pub use Rattle.ug_table.specs.Laws.{Stand, HasHash, IsSpared, Tries, IsDevice, MayHave, MayHaveNot, wrote_entries, HasDone, IsFirst, Account, Start, Had, Had_not, AreInOrder, none_before, IsProbed, numbers_of, Judge, IsOne, IsTold, HasStanding, IsFair, IsDoneMarked, swept_before, IsGone, Went, gone_of, IsRecordOf, IsNamed, IsAsJudged, IsSettled, TellsNeither, HasVerdict, Note, Swept, Sweeps, IsMarked, IsUnlisted, IsListed, IsMarkedIn, AreMarkedIn, Stands, IsJudged, AreLeft, WasDone, TellsDone}
 pub use Rattle.ug_table.specs.One.{GoesAsPart, IsOf, LivedAs, NeedsRoom, ResettledOne, ResettlesOne, SettledOne, SettlesOne, again_numbered, failed_of, why_in, why_of, whys}
 unfoldable pub use Rattle.ug_table.specs.One.{resettling_numbered}
 pub use Rattle.ug_table.specs.Order.{IsNextNumbered, KeepsOrder, StandInOrder, is_nearer}
 pub use Rattle.ug_table.specs.Parts.{is_default, opens, opens_default, found_by, name_in, unsettled_names, EndsUnsettled, NamesOnce, Part, IsLast, unlisted_files, OpenFile, open_file, Behind, behind_more, IsWriteDue, PutMade, AtMostOneEach, told_by, failure_in, failures_told, write_in, writes_in, TellsWrites, IsBoundAnew, FoundNoRoom, LacksRoom, OpenedFile, IsOnceDue, known_files, AllBear, number_of, AreOfNumber, numbers_given, AreClosings, close_file, files_left, files_after, AreAbout, EndsAtFailure, AreDue, put_of, puts_of, InParts, AfterListing, GoesInParts, TellsFaults}
+pub use Rattle.ug_table.specs.Parent.{parent_standing, held_of, binding_by, binding_for, judged_bound, bound_hash}
+pub use Rattle.ug_table.specs.Ending.{reads_last, probes, without_asking, ending_calls, kept_file}
 pub use Rattle.ug_table.specs.Settle.{after_again, after_bind, after_known, again, dropped, from_standing, if_place, if_record, judged_entry, kept_standings, known_in, no_room, standing_for, stands, to_judge, to_keep, to_keep_mark, to_mark, tried_standings, unsettled_by}
 unfoldable pub use Rattle.ug_table.specs.Settle.{admitting, entering, resettling, settling}
 pub use Rattle.ug_table.specs.Standings.{did_default, with_default, lists, farewells, known_of, standing_of, without, with_standing, place_for, settled_standing, same_name, marked, numbered, removed_of}

@@ -1,11 +1,11 @@
 -- A part is fair, and so is a sweep.
 use Rattle.std.proofs.Common.{◌≡◌, ℕ, Bool, true, false, not, ◌&&◌, List, [], ◌∷◌, ◌++◌, ◌⊎◌, Some, slice_get, inl, inr, refl, sym, ◌∙◌, ap, subst, append_assoc, append-nil, ◌+◌, ◌<◌, is_none, Option, None, arith, cond, map, true≢false}
 use Rattle.std.proofs.lemmas.Bool.{and_parts, and_cases, both_ways, not-true, not-false, cond_both, cases_Bool}
-use Rattle.ug_table.proofs.Common.{Has, IsOpenable, AllDistinct, Terms, terms_for, did_default, with_default, defaulted_known, default_due, default_write, Default, Target, Control, Authorized, Remove, Write, Wrote, Put, Close, Told, Closing, Ask_alive, Names, Device, Kernel, Moves, IsKernel, Live, IsWritten, IsGoneAt, says_put, Called, says_listing, Grows, Quiet, calls, Runs, RemoveHold, Entry, State, Answers, Laters, known_of, standing_of, without, with_standing, place_for, lists, farewells, Tries, IsDevice, MayHave, MayHaveNot, wrote_entries, HasDone, WasDone, IsOnce, control_of, is_done, IsFirst, Account, Start, Had, Had_not, AreInOrder, none_before, IsProbed, Stand, numbers_of, Judge, IsOne, IsTold, HasStanding, IsFair, IsDoneMarked, swept_before, IsGone, Went as WentAway, gone_of, Standing, Settled, Made, answered, Along, failure_of, FailedCall, parent_of, Judged, Held, Cause, Bound, Binding, Known, in_sweep_order, unlisted_files, Fault, Probe, Listing, names_of, parted, marked_listed, sweeping, unsettled_by, standing_for, judged_entry, tried_standings, dropped, has_right, distinct_one, has_map, has_new, has_old, filter_has, has_filter, write_of, is_reject, CallsFor, is_to_go, Way, way_runs, along_split, filter, some_same, called_grows, called_quiet, quiet_grows, grows_refl, judged_of, binding, map_has, distinct_filter}
+use Rattle.ug_table.proofs.Common.{Has, IsOpenable, AllDistinct, Terms, terms_for, did_default, with_default, defaulted_known, default_due, default_write, Default, Target, Control, Authorized, Remove, Write, Wrote, Put, Close, Told, Closing, Ask_alive, Names, Device, Kernel, Moves, IsKernel, Live, IsWritten, IsGoneAt, says_put, Called, says_listing, Grows, Quiet, calls, Runs, RemoveHold, Entry, State, Answers, Laters, known_of, standing_of, without, with_standing, place_for, lists, farewells, Tries, IsDevice, MayHave, MayHaveNot, wrote_entries, HasDone, WasDone, IsOnce, control_of, is_done, IsFirst, Account, Start, Had, Had_not, AreInOrder, none_before, IsProbed, Stand, numbers_of, Judge, IsOne, IsTold, HasStanding, IsFair, IsDoneMarked, swept_before, IsGone, Went as WentAway, gone_of, Standing, Settled, Made, answered, Along, failure_of, FailedCall, parent_of, Judged, Held, Cause, Bound, Binding, Known, in_sweep_order, unlisted_files, Fault, Probe, Listing, names_of, parted, marked_listed, sweeping, unsettled_by, standing_for, judged_entry, tried_standings, dropped, has_right, distinct_one, has_map, has_new, has_old, filter_has, has_filter, write_of, is_reject, CallsFor, is_to_go, Way, way_runs, along_split, filter, some_same, called_grows, called_quiet, quiet_grows, grows_refl, HasHash, parent_standing, binding_for, judged_bound, bound_hash, map_has, distinct_filter}
 use Rattle.ug_kernel.specs.declared.device.HeldFile.{HeldFile}
 use Rattle.ug_kernel.specs.declared.device.Effect.{Effect}
 use Rattle.ug_node.specs.Removal.{holding, HoldSays}
-use Rattle.ug_node.proofs.Laws.{holding_law, gone_later, binding_law}
+use Rattle.ug_node.proofs.Laws.{holding_law, gone_later}
 use Rattle.ug_table.proofs.Standings.{did_stands, Owned, owned_refl, owned_quiet, owned_apart, IsHeldAs, file_same, file_later, IsFileOf, found, with_own, each_with, listed_is, IsOpen, open_name}
 use Rattle.ug_table.proofs.OnePart.{value_twice}
 use Rattle.ug_table.proofs.Devices.{device_stays, stand_stays}
@@ -13,7 +13,9 @@ use Rattle.ug_table.proofs.Lived.{piece_apart, stand_files}
 use Rattle.ug_table.proofs.Steps.{did_same, default_marks, Same as Alike, Marks, KeepMarks, none_of, NoneDone, AreMarked, keeps_itself, done_marks, done_more, marks_keep, keep_one, keep_marks, FairFrom, fair_trans, StepFrom, fair_by, After, same_refl, plain_fair, keep_fair, fair_end, then_quiet, then_called, then_note, then_same, then_went, one_itself, without_less, tried_after, left_all, in_order, stand_by, stand_of, fair_refl, gone_device, account_stays}
 use Rattle.ug_table.proofs.Shapes.{Written, Done, Went, Broke, Valued, Same, Set, Unheld, Gone_by, Failed_by, Short_by, OnceMade, Not_held, Put_on, Carried, By_value, And_removal, Brought, Left_open, Let_go, Treated, No_default, And_default, Cut_default, Gone_default, due_is, told_at, Piece, Opening, Fresh, Lost, Unbound_end, Failed_so, Short_so, Flat, Unprobed, Tried, Stopped, Unbound, No_place, Judged_so, IsGiven, next_after, judge_after, opening_none, opening_absent}
 use Rattle.ug_types.specs.declared.record.Attrs.{Attrs}
-use Rattle.ug_node.specs.Bound.{attrs_of, IsBound, BindSays}
+use Rattle.ug_node.specs.Bound.{attrs_of, is_core_long, IsBoundBy, SaysBy}
+use Rattle.ug_record.specs.Records.{child_hash_of}
+use Rattle.ug_table.proofs.Above.{ParentsBy, kept_at, for_law, bound_record}
 use Rattle.ug_table.proofs.Marks.{order_new, keeps_filter, sweep_in_order, AreIn, dropped_in, AreSplit, AreFresh, split_in, parted_split, parted_fresh, part_split, part_fresh, flat_part, order_distinct}
 use Rattle.ug_types.proofs.Sorting.{to_sweep_order}
 use Rattle.ug_kernel.proofs.Held.{live_before}
@@ -219,12 +221,12 @@ brought_fair {m = m} l s after (Let_go ms es shut c) has a h along =
 abbrev given_of : {J : Type 0} → Answers J → State J → List ℕ → Judged → Terms → Bool → Target × Cause
 given_of answer w name judged terms on = answer w.judge judged (is_none (parent_of name)) terms.present on w.standings
 
-abbrev new_standing : {J : Type 0} → Answers J → State J → List ℕ → ℕ → Judged → Terms → Bool → Standing
-new_standing answer w name held judged terms on = standing_for w name held judged (given_of answer w name judged terms on)
+abbrev new_standing : {J : Type 0} → Answers J → State J → List ℕ → ℕ → Judged → List ℕ → Terms → Bool → Standing
+new_standing answer w name held judged hash terms on = standing_for w name held judged hash (given_of answer w name judged terms on)
 
-abbrev just_judged : {J : Type 0} → Answers J → Laters J → State J → List ℕ → ℕ → Judged → Terms → Bool → State J
-just_judged answer later w name held judged terms on = record w {
-  standings = with_standing (new_standing answer w name held judged terms on) w.standings;
+abbrev just_judged : {J : Type 0} → Answers J → Laters J → State J → List ℕ → ℕ → Judged → List ℕ → Terms → Bool → State J
+just_judged answer later w name held judged hash terms on = record w {
+  standings = with_standing (new_standing answer w name held judged hash terms on) w.standings;
   next = w.next + 1;
   judge = later w.judge judged (is_none (parent_of name)) terms.present on w.standings;
   entries = w.entries ++ judged_entry w name held (given_of answer w name judged terms on) ∷ [];
@@ -239,10 +241,11 @@ new_unmarked s e f Authorized = refl
 new_unmarked s e f Remove = e
 new_unmarked s e f Default = f
 
-stand_more : (k : Kernel) (ss : List Standing) (next i : ℕ) (s : Standing) → IsDevice k i s.name s.held s.judged → s.number ≡ next → IsUnmarked s → (Has (names_of ss) s.name → ⊥) → Stand k ss next → Stand k (with_standing s ss) (next + 1)
-stand_more k ss next i s d number fresh absent stand =
+stand_more : (k : Kernel) (ss : List Standing) (next i : ℕ) (s : Standing) → IsDevice k i s.name s.held s.judged → HasHash k s → s.number ≡ next → IsUnmarked s → (Has (names_of ss) s.name → ⊥) → Stand k ss next → Stand k (with_standing s ss) (next + 1)
+stand_more k ss next i s d hash number fresh absent stand =
     stand_by k (with_standing s ss) (next + 1) (order_new next ss s number absent (in_order stand))
     (each_with (λ (v : Standing). (i : ℕ) × IsDevice k i v.name v.held v.judged) s ss (i, d) stand.devices)
+    (each_with (λ (v : Standing). HasHash k v) s ss hash stand.hashes)
     (λ control. each_with (λ (v : Standing). is_done control v ≡ true → HasDone control k v.held) s ss (λ r. absurd (true≢false (sym r ∙ fresh control))) (stand.done control))
 
 -- a new standing isn't marked
@@ -269,13 +272,13 @@ judged_same number n name m held g verdict u cause d (inl e) = ((cc), (cc), (cc)
 judged_same number n name m held g verdict u cause d (inr none) = absurd none
 
 -- a device was bound, and is judged
-judged_fair : {J : Type 0} (answer : Answers J) (later : Laters J) (terms : Terms) (n m : Kernel) (u : State J) (name : List ℕ) (held i : ℕ) (judged : Judged) (on : Bool) → IsKernel m → Quiet n m → IsDevice m i name (record { 0 = held }) judged → IsProbed n m name held i on → (Has (names_of u.standings) name → ⊥) → Stand n u.standings u.next → FairFrom answer later terms none_before n u m (just_judged answer later u name held judged terms on)
-judged_fair answer later terms n m u name held i judged on sound q d probed absent stand =
+judged_fair : {J : Type 0} (answer : Answers J) (later : Laters J) (terms : Terms) (n m : Kernel) (u : State J) (name : List ℕ) (held i : ℕ) (judged : Judged) (hash : List ℕ) (on : Bool) → IsKernel m → Quiet n m → IsDevice m i name (record { 0 = held }) judged → HasHash m (new_standing answer u name held judged hash terms on) → IsProbed n m name held i on → (Has (names_of u.standings) name → ⊥) → Stand n u.standings u.next → FairFrom answer later terms none_before n u m (just_judged answer later u name held judged hash terms on)
+judged_fair answer later terms n m u name held i judged hash on sound q d seen probed absent stand =
     let given = given_of answer u name judged terms on in
-    let s = new_standing answer u name held judged terms on in
+    let s = new_standing answer u name held judged hash terms on in
     let e = judged_entry u name held given in
     let file : Held = record { 0 = held } in
-    let now = just_judged answer later u name held judged terms on in
+    let now = just_judged answer later u name held judged hash terms on in
     let there = stand_stays n m u.standings u.next (quiet_grows n m q) stand in
     let account : Account answer later terms none_before n m u.standings m.log u.judge u.next (e ∷ []) m.log now.judge now.next = Judge [] m.log u.judge u.next i name file judged on u.standings d probed there (left_all u.standings stand.distinct) (λ s a. inr (refl, a)) Start in
     let fair : IsFair answer later terms none_before n u m now = record {
@@ -283,7 +286,7 @@ judged_fair answer later terms n m u name held i judged on sound q d probed abse
       grows = quiet_grows n m q;
       rest = e ∷ [];
       entries = refl;
-      stand = stand_more m u.standings u.next i s d refl (new_unmarked s refl refl) absent there;
+      stand = stand_more m u.standings u.next i s d seen refl (new_unmarked s refl refl) absent there;
       account = subst (λ (v : List Effect). Account answer later terms none_before n m u.standings v u.judge u.next (e ∷ []) m.log now.judge now.next) q.log account;
       left = record {
         told = each_with (λ (v : Standing). IsTold u.standings (e ∷ []) v) s u.standings (inr (inl refl)) (λ t a. inl (one_itself u.standings t a));
@@ -303,14 +306,17 @@ judged_fair answer later terms n m u name held i judged on sound q d probed abse
     } in
     record { stood = stand; fair = fair }
 
-bound_device : (name : List ℕ) (k l : Kernel) (b : Bound) (x : IsBound name k l b) → IsDevice l x.i name b.held (judged_of name b.attrs b.parent)
-bound_device name k l b x =
-    let named : judged_of name b.attrs b.parent ≡ judged_of x.d.name b.attrs b.parent = ap (λ (v : List ℕ). judged_of v b.attrs b.parent) (sym x.named) in
-    let own : judged_of x.d.name b.attrs b.parent ≡ judged_of x.d.name (attrs_of x.d) b.parent = ap (λ (v : Attrs). judged_of x.d.name v b.parent) x.own in
-    record { d = x.d; device = x.device; file = x.file; named = x.named; of = (b.parent, x.parents, cc (named, own)) }
+-- and the hash that its children see
+bound_seen : {J : Type 0} {Parents : Kernel → Option ℕ → Option Attrs → Type 0} (answer : Answers J) (terms : Terms) (u : State J) (name : List ℕ) (k l : Kernel) (b : Bound) (judged : Judged) → IsBoundBy Parents name k l b → HasHash l (new_standing answer u name b.held.0 judged (bound_hash b) terms b.on)
+bound_seen answer terms u name k l b judged x i d file device =
+    let is : i ≡ x.i = file_same l b.held.0 i x.i file x.file in
+    let same : d ≡ x.d = some_same (slice_get l.devices i) d x.d device (subst (λ (v : ℕ). slice_get l.devices v ≡ Some x.d) (sym is) x.device) in
+    ap (λ (v : Attrs). child_hash_of v b.core_long) x.own
+    ∙ ap (λ (v : Bool). child_hash_of (attrs_of x.d) v) x.core_long
+    ∙ ap (λ (v : Device). child_hash_of (attrs_of v) (is_core_long v)) (sym same)
 
 -- the value that was probed is the one that the device had where its name's devices kept theirs
-met_by : (name : List ℕ) (k n m : Kernel) (b : Bound) (x : IsBound name n m b) → Grows k n → Quiet n m → Owned name k n → (d : Device) → slice_get k.devices x.i ≡ Some d → d.on ≡ b.on
+met_by : {Parents : Kernel → Option ℕ → Option Attrs → Type 0} (name : List ℕ) (k n m : Kernel) (b : Bound) (x : IsBoundBy Parents name n m b) → Grows k n → Quiet n m → Owned name k n → (d : Device) → slice_get k.devices x.i ≡ Some d → d.on ≡ b.on
 met_by name k n m b x g q own d at =
     let p = g.devices x.i d at in
     let r = q.devices x.i p.0 p.1 in
@@ -320,17 +326,18 @@ met_by name k n m b x g q own d at =
     let here : now.0 ≡ p.0 = some_same (slice_get n.devices x.i) now.0 p.0 now.1 p.1 in
     sym now.2 ∙ ap (λ (v : Device). v.on) here ∙ sym r.2.on ∙ ap (λ (v : Device). v.on) same ∙ x.value
 
-bound_fair : {J : Type 0} {answer : Answers J} {later : Laters J} {terms : Terms} {tried : Tries} {k n : Kernel} {w u : State J} (m : Kernel) (name : List ℕ) (b : Bound) → IsKernel m → Quiet n m → IsBound name n m b → (Has (names_of u.standings) name → ⊥) → AreIn tried name w u → Owned name k n → FairFrom answer later terms tried k w n u → FairFrom answer later terms tried k w m (just_judged answer later u name b.held.0 (judged_of name b.attrs b.parent) terms b.on)
+bound_fair : {J : Type 0} {answer : Answers J} {later : Laters J} {terms : Terms} {tried : Tries} {k n : Kernel} {w u : State J} (m : Kernel) (name : List ℕ) (b : Bound) → IsKernel m → Quiet n m → IsBoundBy (ParentsBy (parent_standing name u.standings)) name n m b → (Has (names_of u.standings) name → ⊥) → AreIn tried name w u → Owned name k n → FairFrom answer later terms tried k w n u → FairFrom answer later terms tried k w m (just_judged answer later u name b.held.0 (judged_bound name u.standings b) (bound_hash b) terms b.on)
 unfolding judged_fair
 bound_fair {J} {answer} {later} {terms} {tried} {k} {n} {w} {u} m name b sound q x absent so own h =
     let probed : IsProbed n m name b.held.0 x.i b.on = record { first = n; last = m; since = grows_refl n; lived = x.lived; until = grows_refl m; met = met_by name n n m b x (grows_refl n) q (owned_refl name n) } in
     let since : IsProbed k m name b.held.0 x.i b.on = record { first = n; last = m; since = h.fair.grows; lived = x.lived; until = grows_refl m; met = met_by name k n m b x h.fair.grows q own } in
-    let judged = judged_of name b.attrs b.parent in
-    let device = bound_device name n m b x in
-    let step = judged_fair answer later terms n m u name b.held.0 x.i judged b.on sound q device probed absent h.fair.stand in
-    let now = just_judged answer later u name b.held.0 judged terms b.on in
+    let judged = judged_bound name u.standings b in
+    let there = stand_stays n m u.standings u.next (quiet_grows n m q) h.fair.stand in
+    let device = bound_record name n m u.standings u.next b there x in
+    let step = judged_fair answer later terms n m u name b.held.0 x.i judged (bound_hash b) b.on sound q device (bound_seen answer terms u name n m b judged x) probed absent h.fair.stand in
+    let now = just_judged answer later u name b.held.0 judged (bound_hash b) terms b.on in
     let before = account_stays answer later terms tried k n m w.standings k.log w.judge w.next h.fair.rest n.log u.judge u.next (quiet_grows n m q) h.fair.account in
-    let whole : Account answer later terms tried k m w.standings k.log w.judge w.next (h.fair.rest ++ judged_entry u name b.held.0 (given_of answer u name judged terms b.on) ∷ []) n.log now.judge now.next = Judge h.fair.rest n.log u.judge u.next x.i name b.held judged b.on u.standings device since (stand_stays n m u.standings u.next (quiet_grows n m q) h.fair.stand) h.fair.left (so h.fair.rest h.fair.entries) before in
+    let whole : Account answer later terms tried k m w.standings k.log w.judge w.next (h.fair.rest ++ judged_entry u name b.held.0 (given_of answer u name judged terms b.on) ∷ []) n.log now.judge now.next = Judge h.fair.rest n.log u.judge u.next x.i name b.held judged b.on u.standings device since there h.fair.left (so h.fair.rest h.fair.entries) before in
     fair_by h step (subst (λ (v : List Effect). Account answer later terms tried k m w.standings k.log w.judge w.next (h.fair.rest ++ judged_entry u name b.held.0 (given_of answer u name judged terms b.on) ∷ []) v now.judge now.next) (sym q.log) whole)
 
 -- a known device is brought to its verdict
@@ -458,9 +465,10 @@ unbound_fair {J} {answer} {later} {terms} {tried} {k} {l} {w} {name} {r} {fs} u 
     by x h = none_more v h
 
 -- a binding leads to what it says
-binds_fair : {J : Type 0} {answer : Answers J} {later : Laters J} {terms : Terms} {tried : Tries} {k n : Kernel} {w u : State J} (m : Kernel) (name : List ℕ) (ns : List Made) (r : Binding) → Way (binding name (parent_of name)) ns r → FairFrom answer later terms tried k w n u → Along calls n ns m → IsKernel m × Quiet n m × BindSays name n m r × FairFrom answer later terms tried k w m u
-binds_fair {n = n} m name ns r way h a =
-    let law = binding_law name (parent_of name) r n m refl h.fair.sound (way_runs calls (binding name (parent_of name)) ns n r m way a) in
+binds_fair : {J : Type 0} {answer : Answers J} {later : Laters J} {terms : Terms} {tried : Tries} {k n : Kernel} {w u : State J} (m : Kernel) (name : List ℕ) (ns : List Made) (r : Binding) → Way (binding_for name u.standings) ns r → FairFrom answer later terms tried k w n u → Along calls n ns m → IsKernel m × Quiet n m × SaysBy (ParentsBy (parent_standing name u.standings)) name n m r × FairFrom answer later terms tried k w m u
+binds_fair {n = n} {u = u} m name ns r way h a =
+    let kept = kept_at n name u.standings (stand_files n u.standings u.next h.fair.stand) in
+    let law = for_law name (parent_standing name u.standings) r n m h.fair.sound kept (way_runs calls (binding_for name u.standings) ns n r m way a) in
     (law.sound, law.quiet, law.says, then_quiet m law.sound law.quiet h)
 
 flat_fair : {J : Type 0} {answer : Answers J} {later : Laters J} {terms : Terms} {tried : Tries} {binds : Bool} {given : List Standing → Bound → Standing → Type 0} {k m : Kernel} {w u : State J} {name : List ℕ} {ok : Bool} {ms : List Made} {rest : List Entry} {how : Settled} {rs : List Standing} {o : Option (List Standing × Bound)} (l : Kernel) → Flat terms.hub binds given name u.standings ok ms rest how rs o → ((ss : List Standing) (b : Bound) (x : Standing) → given ss b x → IsGiven answer terms name u ss b x) → (binds ≡ true → AreIn tried name w u × Owned name k m) → FairFrom answer later terms tried k w m u → Along calls m ms l → FairFrom answer later terms tried k w l (ended_as later terms name u o rs rest)
@@ -483,10 +491,10 @@ flat_fair {J} {answer} {later} {terms} {tried} {k = k} {m = m} {w = w} {u = u} {
     let v : State J = record u { standings = rs; entries = u.entries ++ es } in
     let n = far.0 in
     let y = binds_fair n name ns (Binding.Bound b) way o.fair far.1 in
-    let judged : Judged = judged_of name b.attrs b.parent in
+    let judged : Judged = judged_bound name rs b in
     let first = bound_fair n name b y.0 y.1 y.2 (opening_absent opening) (o.so t).0 (o.so t).1 o.fair in
-    let now = just_judged answer later v name b.held.0 judged terms b.on in
-    let s = new_standing answer v name b.held.0 judged terms b.on in
+    let now = just_judged answer later v name b.held.0 judged (bound_hash b) terms b.on in
+    let s = new_standing answer v name b.held.0 judged (bound_hash b) terms b.on in
     let e = judged_entry v name b.held.0 (given_of answer v name judged terms b.on) in
     let E : Standing → State J = λ z. ended_as later terms name u (Some (rs, b)) (tried_standings (did_default name d (with_standing z rs)) name how) (es ++ Entry.Judged z.number name z.held z.verdict z.cause ∷ (fs ++ unsettled_by name how)) in
     let T : Standing → Type 0 = λ z. Treated terms.hub name (known_of z) b.on d os fs how → FairFrom answer later terms tried k w l (E z) in

@@ -21,3 +21,5 @@ pub mod One
 pub mod Ordered
 pub mod Entries
 pub mod Agreement
+pub mod Above
+pub mod Asked

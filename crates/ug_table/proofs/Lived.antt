@@ -1,10 +1,12 @@
 -- What settling names leaves of devices: each one that lived through is as judged, or is told.
 use Rattle.std.proofs.Common.{◌≡◌, ℕ, Bool, List, [], ◌∷◌, ◌++◌, Option, Some, refl, sym, ◌∙◌, ap, subst, append_assoc, slice_get, false, ◌⊎◌, inl, inr, true, None, true≢false, cond, is_none, not, ◌&&◌}
-use Rattle.ug_table.proofs.Common.{Terms, did_default, defaulted_known, known_of, default_due, default_write, Default, Has, parent_of, Ask_alive, Put, Close, Closing, Told, Names, Authorized, Remove, Kernel, IsKernel, IsOpenable, Quiet, Grows, Made, answered, Along, Runs, calls, RemoveHold, Bound, Binding, Entry, State, Answers, Laters, standing_of, without, with_standing, place_for, same_name, lists, farewells, Standing, Known, Settled, Held, Target, Wrote, IsOnce, control_of, Device, Control, IsGoneAt, Called, Lived, IsNamed, HasStanding, Stand, IsAsJudged, IsSettled, FailedCall, in_sweep_order, Fault, unlisted_files, Probe, Write, Listing, names_of, sweeping, unsettled_by, tried_standings, has_right, has_left, has_new, cancel, filter_has, has_map, write_of, wants, is_reject, Way, way_runs, along_split, along_sound, along_grows, quiet_grows, called_grows, some_same, grows_refl, grows_trans, binding, called_quiet, quiet_refl, quiet_trans}
+use Rattle.ug_table.proofs.Common.{Terms, did_default, defaulted_known, known_of, default_due, default_write, Default, Has, parent_of, Ask_alive, Put, Close, Closing, Told, Names, Authorized, Remove, Kernel, IsKernel, IsOpenable, Quiet, Grows, Made, answered, Along, Runs, calls, RemoveHold, Bound, Binding, Entry, State, Answers, Laters, standing_of, without, with_standing, place_for, same_name, lists, farewells, Standing, Known, Settled, Held, Target, Wrote, IsOnce, control_of, Device, Control, IsGoneAt, Called, Lived, IsNamed, HasStanding, Stand, IsAsJudged, IsSettled, FailedCall, in_sweep_order, Fault, unlisted_files, Probe, Write, Listing, names_of, sweeping, unsettled_by, tried_standings, has_right, has_left, has_new, cancel, filter_has, has_map, write_of, wants, is_reject, Way, way_runs, along_split, along_sound, along_grows, quiet_grows, called_grows, some_same, grows_refl, grows_trans, parent_standing, binding_for, called_quiet, quiet_refl, quiet_trans}
 use Rattle.ug_table.proofs.Shapes.{Piece, Valued, Same, Set, OnceMade, Not_held, Put_on, Carried, By_value, And_removal, Brought, Left_open, Let_go, Treated, No_default, And_default, Cut_default, Gone_default, due_is, due_open, due_once, treated_done, Opening, Fresh, Lost, Flat, Unprobed, Tried, Stopped, Unbound, No_place, Judged_so, told_at, Written, Done, Went, Broke, Unheld, Gone_by, Failed_by, Short_by, Unbound_end, Failed_so, Short_so, opening_absent, opening_less, flat_rest}
 use Rattle.ug_node.specs.Removal.{holding, HoldSays}
-use Rattle.ug_node.proofs.Laws.{holding_law, binding_law}
-use Rattle.ug_node.specs.Bound.{BindSays}
+use Rattle.ug_node.proofs.Laws.{holding_law}
+use Rattle.ug_node.specs.Bound.{SaysBy}
+use Rattle.ug_types.specs.declared.record.Attrs.{Attrs}
+use Rattle.ug_table.proofs.Above.{ParentsBy, kept_at, for_law}
 use Rattle.ug_table.proofs.Standings.{Others, others_refl, others_trans, others_quiet, others_put, IsOpen, open_name, open_later, IsFileOf, file_later, LiveAs, lives_between, lived, live_same, gone_no, Value, quiet_value, done_value, alive_open, IsHeldAs, once_leaves, file_same, open_named, found, same_is, is_same, missing, Files, files_later, with_files, others_have, tried_files, tried_new, IsRemovedIf, Was, tried_was, did_was, did_files, did_has, default_as, known_as}
 use Rattle.ug_kernel.proofs.Held.{live_before}
 use Rattle.ug_table.proofs.Marks.{known_has}
@@ -99,11 +101,11 @@ opening_quiet {name} {ss} k l (Lost known failed shut e) sound f a =
     subst (λ v. Opened_quiet k v (without name ss)) (sym a.2.2) (record { quiet = q; sound = a.2.1.sound; files = tried_files n ss name Settled.Nobody (files_later k n ss (quiet_grows k n q) f) })
 
 -- and with it
-pub opening_bind : {name : List ℕ} {ss : List Standing} {ms : List Made} {es : List Entry} {rs : List Standing} (k l : Kernel) (ns : List Made) (r : Binding) → Opening name ss ms es rs → Way (binding name (parent_of name)) ns r → IsKernel k → Files k ss → Along calls k (ms ++ ns) l → Opened_quiet k l rs × ((m : Kernel) × Along calls k ms m × (Quiet m l × BindSays name m l r))
+pub opening_bind : {name : List ℕ} {ss : List Standing} {ms : List Made} {es : List Entry} {rs : List Standing} (k l : Kernel) (ns : List Made) (r : Binding) → Opening name ss ms es rs → Way (binding_for name rs) ns r → IsKernel k → Files k ss → Along calls k (ms ++ ns) l → Opened_quiet k l rs × ((m : Kernel) × Along calls k ms m × (Quiet m l × SaysBy (ParentsBy (parent_standing name rs)) name m l r))
 opening_bind {name} {ms = ms} {rs = rs} k l ns r opening way sound f a =
     let cut = along_split calls ms ns k l a in
     let o = opening_quiet k cut.0 opening sound f cut.1 in
-    let law = binding_law name (parent_of name) r cut.0 l refl o.sound (way_runs calls (binding name (parent_of name)) ns cut.0 r l way cut.2) in
+    let law = for_law name (parent_standing name rs) r cut.0 l o.sound (kept_at cut.0 name rs o.files) (way_runs calls (binding_for name rs) ns cut.0 r l way cut.2) in
     (record { quiet = quiet_trans k cut.0 l o.quiet law.quiet; sound = law.sound; files = files_later cut.0 l rs (quiet_grows cut.0 l law.quiet) o.files }, (cut.0, cut.1, (law.quiet, law.says)))
 
 flat_apart : {hub : Option Write} {binds : Bool} {given : List Standing → Bound → Standing → Type 0} {name : List ℕ} {ss : List Standing} {ok : Bool} {ms : List Made} {rest : List Entry} {how : Settled} {rs : List Standing} {o : Option (List Standing × Bound)} (k l : Kernel) → IsKernel k → Files k ss → Flat hub binds given name ss ok ms rest how rs o → Along calls k ms l → Others name k l × Files l rs
@@ -328,10 +330,10 @@ probed_own name held i on failed k m sound o first c =
 abbrev pub Ended : Option Write → Bool → Kernel → List Standing → List Entry → ℕ → List ℕ → Type 0
 Ended hub binds l rs rest i name = (StandsSo hub l rs i ⊎ IsNamed rest name) ⊎ ((binds ≡ false) × (Has (names_of rs) name → ⊥))
 
-unbound_own : {name : List ℕ} {r : Binding} {es : List Entry} {how : Settled} (k m : Kernel) (i : ℕ) → Unbound_end name r es how → BindSays name k m r → LiveAs k i name → LiveAs m i name → IsNamed es name
-unbound_own k m i (Failed_so failed) says first mid = (Fault.Call failed, inl refl)
-unbound_own k m i Short_so says first mid = (Fault.Memory, inl refl)
-unbound_own {name} k m i x says first mid = absurd
+unbound_own : (Parents : Kernel → Option ℕ → Option Attrs → Type 0) {name : List ℕ} {r : Binding} {es : List Entry} {how : Settled} (k m : Kernel) (i : ℕ) → Unbound_end name r es how → SaysBy Parents name k m r → LiveAs k i name → LiveAs m i name → IsNamed es name
+unbound_own Parents k m i (Failed_so failed) says first mid = (Fault.Call failed, inl refl)
+unbound_own Parents k m i Short_so says first mid = (Fault.Memory, inl refl)
+unbound_own Parents {name} k m i x says first mid = absurd
     (says i first.d (lived k m i name first mid) first.named)
 
 -- behind the entries of an opening
@@ -357,7 +359,7 @@ flat_own {name = name} i k l sound f first live (Unbound ms ns es fs rs r how t 
     let cut = along_split calls ms ns k l a in
     let mid = lives_between k cut.0 l i name (along_grows ms k cut.0 cut.1) (along_grows ns cut.0 l cut.2) first live in
     let start = lives_between k h.1.0 l i name (along_grows ms k h.1.0 h.1.1) (quiet_grows h.1.0 l h.1.2.0) first live in
-    inl (inr (named_later es fs name (unbound_own h.1.0 l i end h.1.2.1 start live)))
+    inl (inr (named_later es fs name (unbound_own (ParentsBy (parent_standing name rs)) h.1.0 l i end h.1.2.1 start live)))
 flat_own {name = name} i k l sound f first live (No_place ms ns es rs b shut t opening way) a = inl (inr (named_later es (Entry.Unsettled name Fault.Memory ∷ []) name (Fault.Memory, inl refl)))
 flat_own {hub} {name = name} i k l sound f first live (Judged_so ms ns os es fs rs b x d how t opening way given new brought) a =
     let cut = along_split calls (ms ++ ns) os k l (subst (λ v. Along calls k v l) (sym (append_assoc ms ns os)) a) in

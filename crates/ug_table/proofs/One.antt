@@ -3,7 +3,7 @@ use Rattle.std.proofs.Common.{◌≡◌, ℕ, Bool, true, false, not, nat_eq, �
 use Rattle.std.proofs.lemmas.Bool.{false_from_ne_true, or_right}
 use Rattle.std.proofs.lemmas.Bool.Decides.{same_from_decides}
 use Rattle.std.specs.Cmp.Lexicographic.{bytes_decides}
-use Rattle.ug_table.proofs.Common.{Has, AllDistinct, Call, Answer, Runs, calls, Made, Along, Bound, Entry, State, Kept, Answers, Laters, kept_of, with_kept, same_name, known_of, numbered, without, marked, removed_of, Control, Remove, Default, is_done, Terms, terms_of, Write, Known, standing_of, did_default, with_default, default_due, NeedsMemory, with_standing, numbers_of, Tries, none_before, Stand, IsGone, IsNamed, HasStanding, IsAsJudged, Standing, Settled, Device, Kernel, IsKernel, Follows, names_of, stands, tried_standings, settling, resettling, filter_has, map_has, has_map, distinct_one, cancel, is_reject, grows_refl, some_same, resettling_numbered, NeedsRoom, failed_of, whys, why_of, GoesAsPart, LivedAs, SettledOne, SettlesOne, IsOf, ResettledOne, ResettlesOne, told_run, StandInOrder}
+use Rattle.ug_table.proofs.Common.{kept_file, Has, AllDistinct, Call, Answer, Runs, calls, Made, Along, Bound, Entry, State, Kept, Answers, Laters, kept_of, with_kept, same_name, known_of, numbered, without, marked, removed_of, Control, Remove, Default, is_done, Terms, terms_of, Write, Known, standing_of, did_default, with_default, default_due, NeedsMemory, with_standing, numbers_of, Tries, none_before, Stand, IsGone, IsNamed, HasStanding, IsAsJudged, Standing, Settled, Device, Kernel, IsKernel, Follows, names_of, stands, tried_standings, settling, resettling, filter_has, map_has, has_map, distinct_one, cancel, is_reject, grows_refl, some_same, resettling_numbered, NeedsRoom, failed_of, whys, why_of, GoesAsPart, LivedAs, SettledOne, SettlesOne, IsOf, ResettledOne, ResettlesOne, told_run, StandInOrder}
 use Rattle.ug_table.specs.Marks.{has_name, has_number, stood_done, LeavesMarks}
 use Rattle.ug_table.proofs.Marks.{keeps_did, names_distinct, unnamed, flat_stands, flat_nobody}
 use Rattle.ug_table.proofs.Standings.{owned_refl, rest_map, known_as, default_as, default_own, default_other, did_stands, is_same, Test, own, rest_of, AreNamed, marked_rest, without_rest, of_name, without_with, each_with, same_is, found, missing, numbered_has, IsFileOf, file_same, file_later, LiveAs, IsOpen, or_none, open_name, open_later, open_named}
@@ -15,6 +15,7 @@ use Rattle.ug_kernel.proofs.Rises.{Counting, along_numbered, along_rises}
 use Rattle.ug_table.proofs.Steps.{FairFrom, had_before, fair_refl}
 use Rattle.ug_table.proofs.Lived.{IsDefaultedIf, as_due, as_number, as_removed, none_stands, lives_first, lives_last, stand_files, judged_at, piece_well}
 use Rattle.ug_table.proofs.Fair.{piece_fair}
+use Rattle.ug_table.proofs.Faults.{ending_rises}
 use Rattle.ug_kernel.proofs.Defaults.{along_logs}
 use Rattle.ug_table.proofs.Defaults.{fair_defaults}
 
@@ -240,7 +241,7 @@ as_part : {S J : Type 0} (gives : S → (call : Call) → Answer call → S → 
     {ms : List Made} {s t : S} {w v : State J} → Piece answer later binds terms name w ok ms how v
     → Along gives s ms t
     → GoesAsPart terms.hub binds gives calls faults name s w.standings w.entries t v.standings v.entries how
-as_part gives calls faults counted {name = name} {how = how} {ms = ms} {s = s} {t = t} p a =
+as_part gives calls faults counted {name = name} {how = how} {ms = ms} {s = s} {t = t} {w = w} p a =
     let part = flat_is_part p.flat in
     let why : whys p.rest ≡ why_of how = flat_whys p.flat in
     record {
@@ -254,7 +255,7 @@ as_part gives calls faults counted {name = name} {how = how} {ms = ms} {s = s} {
       stands = flat_stands p.flat;
       nobody = flat_nobody p.flat;
       numbered = along_numbered gives calls faults counted ms s t a;
-      rises = λ low. along_rises gives calls faults counted ms s t low a;
+      rises = λ low. ending_rises name (kept_file name w.standings) ms (calls s) (faults s) (along_rises gives calls faults counted ms s t low a);
     }
 
 pub settling_part : {S J : Type 0} (gives : S → (call : Call) → Answer call → S → Type 0) (calls faults : S → ℕ) (counted : Counting gives calls faults) (answer : Answers J) (later : Laters J) (name : List ℕ) (terms : Terms) (w : State J) (s : S) (p : Settled × State J) (t : S) → Runs gives s (settling answer later name terms w) p t → GoesAsPart terms.hub true gives calls faults name s w.standings w.entries t p.1.standings p.1.entries p.0

@@ -1,11 +1,13 @@
 -- One name's part of a sweep, from its shapes: one law on its calls, and one on its entries.
 use Rattle.std.proofs.Common.{◌≡◌, ℕ, ◌≤◌, Bool, true, false, not, ◌||◌, List, [], ◌∷◌, ◌++◌, map, length, Option, Some, None, ◌⊎◌, inl, inr, refl, sym, ◌∙◌, ap, subst, append_assoc, append-nil, arith}
-use Rattle.ug_table.proofs.Common.{Has, Held, Control, Default, Target, Authorized, Remove, IsOnce, has_cases, map_has, did_default, Write, FailedCall, Probe, Wrote, Open, Ask_alive, Put, Close, Told, Made, answered, failures, count_calls, Bound, Binding, RemoveHold, Entry, Fault, known_of, with_standing, standing_of, wrote_entries, OpenFile, open_file, Behind, behind_more, IsWriteDue, PutMade, AtMostOneEach, told_by, failure_in, failures_told, write_in, writes_in, TellsWrites, EndsUnsettled, IsBoundAnew, FoundNoRoom, LacksRoom, control_of, known_files, AllBear, number_of, AreOfNumber, numbers_given, Part, Standing, Known, Settled, unsettled_by, tried_standings, has_right, wants, write_of, is_to_go, why_in, whys, why_of}
-use Rattle.ug_node.proofs.BindShapes.{way_binds, Holds_by, way_holds}
+use Rattle.ug_table.proofs.Common.{Has, Held, Control, Default, Target, Authorized, Remove, IsOnce, has_cases, map_has, did_default, Write, FailedCall, Probe, Wrote, Open, Ask_alive, Put, Close, Told, Made, answered, failures, count_calls, Bound, Binding, RemoveHold, Entry, Fault, known_of, with_standing, standing_of, wrote_entries, OpenFile, open_file, Behind, behind_more, IsWriteDue, PutMade, AtMostOneEach, told_by, failure_in, failures_told, write_in, writes_in, TellsWrites, EndsUnsettled, IsBoundAnew, FoundNoRoom, LacksRoom, control_of, known_files, AllBear, number_of, AreOfNumber, numbers_given, Part, Standing, Known, Settled, unsettled_by, tried_standings, has_right, wants, write_of, is_to_go, why_in, whys, why_of, AreAbout, EndsAtFailure, parent_standing, held_of, kept_file}
+use Rattle.ug_node.proofs.BindShapes.{Holds_by, way_holds}
+use Rattle.ug_table.proofs.Above.{is_above}
+use Rattle.ug_table.proofs.Asked.{Passes, passes, treated_none, CallsBy, all_end, by_more, by_as, by_within, ending_is, for_calls, for_few, for_found}
 use Rattle.ug_table.specs.Bring.{NeedsMemory, default_due}
-use Rattle.ug_table.proofs.Shapes.{Written, Done, Went, Valued, Same, Set, Unheld, Gone_by, Short_by, OnceMade, Not_held, Put_on, Carried, By_value, And_removal, Brought, Left_open, Let_go, Treated, No_default, And_default, Cut_default, Gone_default, due_is, due_once, Opening, Fresh, Lost, Unbound_end, Absent_so, Vanished_so, Flat, Unprobed, Tried, Stopped, Unbound, No_place, Judged_so, told_at, opening_none, flat_rest, new_known}
+use Rattle.ug_table.proofs.Shapes.{Written, Done, Went, Valued, Same, Set, Unheld, Gone_by, Short_by, OnceMade, Not_held, Put_on, Carried, By_value, And_removal, Brought, Left_open, Let_go, Treated, No_default, And_default, Cut_default, Gone_default, due_is, due_once, Opening, Fresh, Lost, Unbound_end, Absent_so, Vanished_so, Flat, Unprobed, Tried, Stopped, Unbound, No_place, Judged_so, told_at, opening_none, opening_kept, flat_rest, new_known}
 use Rattle.ug_table.proofs.Standings.{known_as, did_stands, others_stand, stands_file, stands_number, without_own, tried_own}
-use Rattle.ug_table.proofs.PartCalls.{has_want, failed_by, are_short, behind_after, CallsOf, calls_are, calls_more, calls_within, calls_as, closed_first, binding_faults, binding_files, binds_calls, bound_few, treating_most, both_most, treating_least, root_most, IsFound, bound_found, hold_faults, hold_files, holds_calls, ready_due, default_found, hold_short}
+use Rattle.ug_table.proofs.PartCalls.{has_want, failed_by, are_short, behind_after, CallsOf, calls_are, calls_more, calls_as, closed_first, binding_faults, binding_files, treating_most, both_most, treating_least, root_most, IsFound, hold_faults, hold_files, holds_calls, ready_due, default_found, hold_short}
 use Rattle.ug_table.proofs.PartOrders.{flat_order}
 
 -- entries
@@ -450,10 +452,16 @@ opening_goes {name} b (Lost known failed shut e) =
       anew = λ ns. inr (m, n ∷ ns, refl, (known, t, refl, refl, refl));
     })
 
-unbound_goes : {name : List ℕ} {r : Binding} {es : List Entry} {how : Settled} {b : Behind}
+-- none of them asks the parent's file
+opening_passes : {name : List ℕ} {ss : List Standing} {ms : List Made} {es : List Entry} {rs : List Standing} (kept : Option ℕ) → Opening name ss ms es rs → Passes name kept ms
+opening_passes {name} kept (Fresh e) = passes name kept [] (λ held. refl)
+opening_passes {name} kept (Lost known failed shut e) =
+    passes name kept (answered (Ask_alive known.held.0) (told_at Probe.Gone failed) ∷ answered (Close known.held.0) shut ∷ []) (λ held. (refl, (refl, refl)))
+
+unbound_goes : {name : List ℕ} {kept : Option ℕ} {r : Binding} {es : List Entry} {how : Settled} {b : Behind}
     {ms : List Made} → Unbound_end name r es how
-    → CallsOf name [] b ms (binding_files r []) (binding_faults r) [] 9
-    → CallsOf name [] b ms [] (why_of how) [] 9 × EntriesOf name None es None (why_of how) [] []
+    → CallsBy name kept [] b ms (binding_files r []) (binding_faults r) [] 10
+    → CallsBy name kept [] b ms [] (why_of how) [] 10 × EntriesOf name None es None (why_of how) [] []
 unbound_goes Absent_so c = (c, entries_are refl refl refl tt tt refl)
 unbound_goes Vanished_so c = (c, entries_are refl refl refl tt tt refl)
 unbound_goes x c = (c, entries_are refl refl refl ((refl, refl), tt) (refl, tt) refl)
@@ -491,12 +499,12 @@ given_count None = 0
 given_count (Some judged) = 1
 
 -- All that a part says of its calls and entries. Where room was refused, the calls don't tell how it ended.
-record FlatGoes (hub : Option Write) (binds : Bool) (name : List ℕ) (o p : Option Known) (ok : Bool) (ms : List Made)
+record FlatGoes (hub : Option Write) (binds : Bool) (name : List ℕ) (kept : Option ℕ) (o p : Option Known) (ok : Bool) (ms : List Made)
     (es : List Entry) (how : Settled) (given : ℕ) : Type 0 where
   faults : List Fault
   ps : List PutMade
   ns : List ℕ
-  calls : CallsOf name (known_files o) start ms (known_files p) faults ps 14
+  calls : CallsBy name kept (known_files o) start ms (known_files p) faults ps 15
   entries : EntriesOf name (number_of o) es (number_of p) (why_of how) ps ns
   single : AtMostOneEach ps
   failed : failed_by faults ≡ failed_by (why_of how)
@@ -504,14 +512,14 @@ record FlatGoes (hub : Option Write) (binds : Bool) (name : List ℕ) (o p : Opt
   memory : how ≡ Settled.Memory → ((binds ≡ true) × IsBoundAnew o ms) ⊎ LacksRoom hub name o ms
   count : length ns ≡ given
 
-flat_are : {hub : Option Write} {binds : Bool} {name : List ℕ} {o p : Option Known} {ok : Bool} {ms : List Made}
+flat_are : {hub : Option Write} {binds : Bool} {name : List ℕ} {kept : Option ℕ} {o p : Option Known} {ok : Bool} {ms : List Made}
     {es : List Entry} {how : Settled} {given : ℕ} {faults : List Fault} {ps : List PutMade}
-    {ns : List ℕ} → CallsOf name (known_files o) start ms (known_files p) faults ps 14
+    {ns : List ℕ} → CallsBy name kept (known_files o) start ms (known_files p) faults ps 15
     → EntriesOf name (number_of o) es (number_of p) (why_of how) ps ns → AtMostOneEach ps
     → failed_by faults ≡ failed_by (why_of how)
     → (not ok || are_short faults) ≡ are_short (why_of how)
     → (how ≡ Settled.Memory → ((binds ≡ true) × IsBoundAnew o ms) ⊎ LacksRoom hub name o ms)
-    → length ns ≡ given → FlatGoes hub binds name o p ok ms es how given
+    → length ns ≡ given → FlatGoes hub binds name kept o p ok ms es how given
 flat_are {faults = faults} {ps = ps} {ns = ns} c e a f s m n = record {
   faults = faults;
   ps = ps;
@@ -529,16 +537,16 @@ flat_goes : {hub : Option Write} {binds : Bool} {given : List Standing → Bound
     {ss : List Standing} {ok : Bool} {ms : List Made} {rest : List Entry} {how : Settled}
     {rs : List Standing} {o : Option (List Standing × Bound)}
     → Flat hub binds given name ss ok ms rest how rs o
-    → FlatGoes hub binds name (standing_of name ss) (standing_of name rs) ok ms rest how (given_count o)
+    → FlatGoes hub binds name (kept_file name ss) (standing_of name ss) (standing_of name rs) ok ms rest how (given_count o)
 flat_goes {hub} {binds} {name = name} {ss = ss} {how = how} {rs = rs} (Unprobed known failed at) =
     let m : Made = answered (Ask_alive known.held.0) (told_at Probe.Failed failed) in
     let own : List OpenFile = open_file known.held.0 Authorized ∷ [] in
     let e : Entry = Entry.Unsettled name (Fault.Call failed) in
     let so = tried_so name ss how known at in
-    let one : CallsOf name own start (m ∷ []) own (Fault.Call failed ∷ []) [] 14 =
+    let one : CallsOf name own start (m ∷ []) own (Fault.Call failed ∷ []) [] 15 =
     calls_are (inl refl, tt) (inl refl, tt) (tt, tt) refl refl refl refl (omega arith) in
-    subst (λ o. FlatGoes hub binds name o (standing_of name rs) true (m ∷ []) (e ∷ []) how 0) (sym at)
-    (flat_are (calls_as so.0 (omega arith) one)
+    subst (λ o. FlatGoes hub binds name (kept_file name ss) o (standing_of name rs) true (m ∷ []) (e ∷ []) how 0) (sym at)
+    (flat_are (by_as so.0 (omega arith) (all_end (passes name (kept_file name ss) (m ∷ []) (λ held. (refl, refl))) one))
     (entries_to so.1 (entries_are refl refl refl ((refl, refl), tt) (refl, tt) refl))
     tt refl refl (λ e. let none : ⊥ = cc in absurd none) refl)
 flat_goes {hub} {binds} {name = name} {ss = ss} {rs = rs} (Tried known on failed d ms es how at brought) =
@@ -551,43 +559,50 @@ flat_goes {hub} {binds} {name = name} {ss = ss} {rs = rs} (Tried known on failed
     let one : CallsOf name own start (m ∷ []) own [] [] 1 =
     calls_are (inl refl, tt) (inl refl, tt) (tt, tt) refl refl refl refl (omega arith) in
     let all = es ++ unsettled_by name how in
-    subst (λ o. FlatGoes hub binds name o (standing_of name rs) true (m ∷ ms) all how 0) (sym at)
-    (flat_are (calls_as (known_file d known how ∙ so.0) (omega (arith, most)) (calls_more one h.calls))
+    let pass = passes name (kept_file name ss) (m ∷ ms) (λ held. (refl, treated_none name held brought)) in
+    subst (λ o. FlatGoes hub binds name (kept_file name ss) o (standing_of name rs) true (m ∷ ms) all how 0) (sym at)
+    (flat_are (by_as (known_file d known how ∙ so.0) (omega (arith, most)) (all_end pass (calls_more one h.calls)))
     (entries_to (known_number d known how ∙ so.1) (told_entries known.number how h.entries))
     h.single refl refl
     (λ e. inr (known, refl, lacks_behind hub name known (m ∷ []) ms (h.short e))) refl)
-flat_goes (Stopped ms es rs f opening) =
+flat_goes {name = name} {ss = ss} (Stopped ms es rs f opening) =
     let h = opening_goes start opening in
     let none = sym (opening_none opening) in
-    flat_are (calls_as (ap known_files none) (omega arith) h.calls)
+    flat_are (by_as (ap known_files none) (omega arith) (all_end (opening_passes (kept_file name ss) opening) h.calls))
     (entries_to (ap number_of none) h.entries)
     tt refl refl (λ e. let none : ⊥ = cc in absurd none) refl
-flat_goes {name = name} (Unbound ms ns es fs rs r how t opening way end) =
+flat_goes {hub} {binds} {name = name} {ss = ss} {rest = rest} (Unbound ms ns es fs rs r how t opening way end) =
     let h = opening_goes start opening in
     let none = sym (opening_none opening) in
-    let x = unbound_goes end (binds_calls [] (behind_after start ms) (way_binds name ns r way)) in
-    flat_are (calls_as (ap known_files none) (omega arith) (calls_more h.calls x.0))
+    let o : Option Standing = parent_standing name rs in
+    let x = unbound_goes end (for_calls name ns r o [] (behind_after start ms) (is_above name rs) way) in
+    subst (λ k. FlatGoes hub binds name k (standing_of name ss) (standing_of name rs) true (ms ++ ns) rest how 0) (sym (opening_kept opening))
+    (flat_are (by_as (ap known_files none) (omega arith) (by_more (all_end (opening_passes (held_of o) opening) h.calls) x.0))
     (entries_to (ap number_of none) (entries_more h.entries x.1))
-    tt refl refl (λ e. inl (t, h.anew ns)) refl
-flat_goes {name = name} (No_place ms ns es rs v shut t opening way) =
+    tt refl refl (λ e. inl (t, h.anew ns)) refl)
+flat_goes {hub} {binds} {name = name} {ss = ss} {rest = rest} (No_place ms ns es rs v shut t opening way) =
     let h = opening_goes start opening in
     let none = sym (opening_none opening) in
-    let x = binds_calls [] (behind_after start ms) (way_binds name ns (Binding.Bound v) way) in
+    let o : Option Standing = parent_standing name rs in
+    let x = for_calls name ns (Binding.Bound v) o [] (behind_after start ms) (is_above name rs) way in
     let last : List Made = answered (Close v.held.0) shut ∷ [] in
     let own : List OpenFile = open_file v.held.0 Authorized ∷ [] in
     let end : CallsOf name own (behind_after (behind_after start ms) ns) last [] [] [] 0 =
     calls_are ((Authorized, inl refl), tt) (inl refl, tt) (tt, tt)
     (closed_first v.held.0 Authorized [])
     refl refl refl (omega arith) in
-    flat_are (calls_as (ap known_files none) (omega arith) (calls_more h.calls (calls_more x end)))
+    let shuts = passes name (held_of o) last (λ held. (refl, refl)) in
+    subst (λ k. FlatGoes hub binds name k (standing_of name ss) (standing_of name rs) false (ms ++ (ns ++ last)) rest Settled.Memory 0) (sym (opening_kept opening))
+    (flat_are (by_as (ap known_files none) (omega arith) (by_more (all_end (opening_passes (held_of o) opening) h.calls) (by_more x (all_end shuts end))))
     (entries_to (ap number_of none)
     (entries_more h.entries (entries_are refl refl refl ((refl, refl), tt) (refl, tt) refl)))
-    tt refl refl (λ e. inl (t, h.anew (ns ++ last))) refl
-flat_goes {name = name} (Judged_so ms ns os es fs rs v x d how t opening way given new brought) =
+    tt refl refl (λ e. inl (t, h.anew (ns ++ last))) refl)
+flat_goes {hub} {binds} {name = name} {ss = ss} {rest = rest} {rs = us} (Judged_so ms ns os es fs rs v x d how t opening way given new brought) =
     let h = opening_goes start opening in
     let c : Behind = behind_after start ms in
-    let by = way_binds name ns (Binding.Bound v) way in
-    let f = bound_found c by in
+    let o : Option Standing = parent_standing name rs in
+    let above = is_above name rs in
+    let f = for_found name ns v o c above way in
     let found = subst (λ (w : Held). IsFound (behind_after c ns) w.0 v.on) (sym new.held) f in
     let k = treated_goes (behind_after c ns) found brought in
     let held = ap (λ (w : Held). open_file w.0 Authorized ∷ []) (sym new.held) in
@@ -595,12 +610,14 @@ flat_goes {name = name} (Judged_so ms ns os es fs rs v x d how t opening way giv
     let e : List Entry = Entry.Judged x.number name x.held x.verdict x.cause ∷ [] in
     let given : EntriesOf name None e (Some x.number) [] [] (x.number ∷ []) =
     entries_are (refl, refl) refl refl (tt, tt) (refl, tt) refl in
-    let bound = calls_within held (bound_few by) (binds_calls [] c by) in
+    let bound = by_within held (for_few name ns v o above way) (for_calls name ns (Binding.Bound v) o [] c above way) in
     let most = both_most name in
-    flat_are (calls_as (known_file d (known_of x) how ∙ so.0) (omega (arith, most)) (calls_more h.calls (calls_more bound k.calls)))
+    let writes = all_end (passes name (held_of o) os (λ held. treated_none name held brought)) k.calls in
+    subst (λ kept. FlatGoes hub binds name kept (standing_of name ss) (standing_of name us) true (ms ++ (ns ++ os)) rest how 1) (sym (opening_kept opening))
+    (flat_are (by_as (known_file d (known_of x) how ∙ so.0) (omega (arith, most)) (by_more (all_end (opening_passes (held_of o) opening) h.calls) (by_more bound writes)))
     (entries_to (known_number d (known_of x) how ∙ so.1)
     (entries_more h.entries (entries_more given (told_entries x.number how k.entries))))
-    k.single refl refl (λ e. inl (t, h.anew (ns ++ os))) refl
+    k.single refl refl (λ e. inl (t, h.anew (ns ++ os))) refl)
 
 -- where nothing is bound, no number is given out
 pub flat_none : {hub : Option Write} {binds : Bool} {given : List Standing → Bound → Standing → Type 0} {name : List ℕ}
@@ -654,7 +671,7 @@ module _ {hub : Option Write} {binds : Bool} {given : List Standing → Bound �
   pub flat_short : (not ok || has_want ms) ≡ are_short (why_of how)
   flat_short = let h = flat_goes f in ap (λ (v : Bool). not ok || v) h.calls.short ∙ h.short
 
-  pub flat_few : count_calls ms ≤ 14
+  pub flat_few : count_calls ms ≤ 15
   flat_few = (flat_goes f).calls.few
 
   -- a number is given out where a device is judged
@@ -674,11 +691,12 @@ module _ {hub : Option Write} {binds : Bool} {given : List Standing → Bound �
       let h = flat_goes f in
       let c = h.calls in
       let e = h.entries in
+      let same = ending_is c in
       record {
-        about = c.about;
+        about = subst (λ (v : List Made). AreAbout name (known_files (standing_of name ss)) v) (sym same) c.about;
         leaves = c.left;
-        ends = c.ends;
-        told = tells_why name rest e.last ∙ ap failed_by e.why ∙ sym (c.failed ∙ h.failed);
+        ends = subst (λ (v : List Made). EndsAtFailure [] v) (sym same) c.ends;
+        told = tells_why name rest e.last ∙ ap failed_by e.why ∙ sym (ap failures same ∙ c.failed ∙ h.failed);
         last = e.last;
         memory = λ a. elim (h.memory (tells_memory rest name how e.why a)) [
           | inl x ↦ inl x.1

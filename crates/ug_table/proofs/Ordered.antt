@@ -2,7 +2,7 @@
 use Rattle.std.proofs.Common.{◌≡◌, ℕ, ◌≤◌, Bool, true, false, cond, nat_eq, List, [], ◌∷◌, ◌++◌, Option, Some, None, is_none, not, ◌&&◌, map, ◌⊎◌, inl, inr, refl, sym, ◌∙◌, ap, subst, append_assoc, arith}
 use Rattle.ug_types.specs.Principals.{Named}
 use Rattle.ug_kernel.specs.declared.device.Effect.{Effect}
-use Rattle.ug_table.proofs.Common.{Has, Control, Authorized, Remove, Default, is_done, Terms, terms_of, Write, default_write, parent_of, open_file, Quiet, says_probe, none_before, Held, Target, Call, Answer, Ask_alive, Told, Follows, Runs, calls, Made, Entry, State, Kept, Answers, Laters, kept_of, with_kept, known_of, known_files, standing_of, numbered, number_of, AreOfNumber, numbers_given, AtMostOneEach, TellsWrites, writes_in, HasDone, wrote_entries, Account, Start, Note, Judge, Had, Had_not, Went, Tries, IsNamed, Stand, IsDevice, Standing, Settled, Probe, Kernel, IsKernel, Cause, names_of, unsettled_by, tried_standings, cancel, has_left, has_right, last_is, map_has, distinct_one, bringing, Ways, Sure, Ran, ways_run, sure_last, NeedsRoom, told_run, called_quiet, StandInOrder, KeepsOrder, AllBear}
+use Rattle.ug_table.proofs.Common.{Has, Control, Authorized, Remove, Default, is_done, Terms, terms_of, Write, default_write, parent_of, open_file, Quiet, says_probe, none_before, Held, Target, Call, Answer, Ask_alive, Told, Follows, Runs, calls, Made, Entry, State, Kept, Answers, Laters, kept_of, with_kept, known_of, known_files, standing_of, numbered, number_of, AreOfNumber, numbers_given, AtMostOneEach, TellsWrites, writes_in, HasDone, HasHash, wrote_entries, Account, Start, Note, Judge, Had, Had_not, Went, Tries, IsNamed, Stand, IsDevice, Standing, Settled, Probe, Kernel, IsKernel, Cause, names_of, unsettled_by, tried_standings, cancel, has_left, has_right, last_is, map_has, distinct_one, bringing, Ways, Sure, Ran, ways_run, sure_last, NeedsRoom, told_run, called_quiet, StandInOrder, KeepsOrder, AllBear}
 use Rattle.ug_table.specs.Marks.{has_number, stood_done, LeavesMarks}
 use Rattle.ug_table.specs.Orders.{to_probe, probing, ProbesOne, with_verdict, ordered_standing, with_order, verdict_entry, to_tried, to_order, ordering, behind_probe, GoesAsOrder, HasOrdered, IsStopped, just_ordered, OrderedOne, OrdersOne}
 use Rattle.ug_kernel.specs.Along.{count_calls}
@@ -220,6 +220,7 @@ stand_ordered k ss next number verdict who stand =
     let f = ordered_standing number verdict who in
     stand_by k (with_order number verdict who ss) next (keeps_ordered number verdict who ss next (in_order stand))
     (λ s a. let m = map_has f ss s a in subst (λ (v : Standing). (i : ℕ) × IsDevice k i v.name v.held v.judged) m.2 (stand.devices m.0 m.1))
+    (λ s a. let m = map_has f ss s a in subst (λ (v : Standing). HasHash k v) m.2 (stand.hashes m.0 m.1))
     (λ control s a. let m = map_has f ss s a in subst (λ (v : Standing). is_done control v ≡ true → HasDone control k v.held) m.2 (λ r. stand.done control m.0 m.1 (sym (ordered_done control number verdict who m.0) ∙ r)))
 
 -- no verdict is told, and no write but of that number

@@ -53,13 +53,13 @@ are_short fs = list_any is_short fs
 
 -- of lists joined
 
-puts_more : (ms ns : List Made) → puts_of (ms ++ ns) ≡ puts_of ms ++ puts_of ns
+pub puts_more : (ms ns : List Made) → puts_of (ms ++ ns) ≡ puts_of ms ++ puts_of ns
 puts_more [] ns = refl
 puts_more (m ∷ ms) ns =
     ap (λ (v : List PutMade). put_of m.call m.answer ++ v) (puts_more ms ns)
     ∙ sym (append_assoc (put_of m.call m.answer) (puts_of ms) (puts_of ns))
 
-files_join : (files : List OpenFile) (ms ns : List Made)
+pub files_join : (files : List OpenFile) (ms ns : List Made)
     → files_after files (ms ++ ns) ≡ files_after (files_after files ms) ns
 files_join files [] ns = refl
 files_join files (m ∷ ms) ns = files_join (files_left m.call m.answer files) ms ns
@@ -73,13 +73,13 @@ behind_join : (b : Behind) (ms ns : List Made)
 behind_join b [] ns = refl
 behind_join b (m ∷ ms) ns = behind_join (behind_more b m) ms ns
 
-about_more : (name : List ℕ) (files : List OpenFile) (ms ns : List Made) → AreAbout name files ms
+pub about_more : (name : List ℕ) (files : List OpenFile) (ms ns : List Made) → AreAbout name files ms
     → AreAbout name (files_after files ms) ns → AreAbout name files (ms ++ ns)
 about_more name files [] ns a b = b
 about_more name files (m ∷ ms) ns a b =
     (a.0, about_more name (files_left m.call m.answer files) ms ns a.1 b)
 
-ends_more : (before : List FailedCall) (ms ns : List Made) → EndsAtFailure before ms
+pub ends_more : (before : List FailedCall) (ms ns : List Made) → EndsAtFailure before ms
     → EndsAtFailure (before ++ failures ms) ns → EndsAtFailure before (ms ++ ns)
 ends_more before [] ns a b = subst (λ v. EndsAtFailure v ns) (append-nil before) b
 ends_more before (m ∷ ms) ns a b =
@@ -87,7 +87,7 @@ ends_more before (m ∷ ms) ns a b =
     let later = subst (λ v. EndsAtFailure v ns) (sym (append_assoc before f (failures ms))) b in
     (a.0, ends_more (before ++ f) ms ns a.1 later)
 
-due_more : (b : Behind) (ms ns : List Made) → AreDue b ms → AreDue (behind_after b ms) ns
+pub due_more : (b : Behind) (ms ns : List Made) → AreDue b ms → AreDue (behind_after b ms) ns
     → AreDue b (ms ++ ns)
 due_more b [] ns a c = c
 due_more b (m ∷ ms) ns a c = (a.0, due_more (behind_more b m) ms ns a.1 c)
@@ -182,7 +182,7 @@ binding_files (Binding.Bound b) files = open_file b.held.0 Authorized ∷ files
 binding_files r files = files
 
 -- an opening, readings, and an end
-open_calls : {name : List ℕ} {ms ns : List Made} {after : List OpenFile} {faults : List Fault}
+pub open_calls : {name : List ℕ} {ms ns : List Made} {after : List OpenFile} {faults : List Fault}
     (files : List OpenFile) (b : Behind) (file : Held) (call count : ℕ) → Reads name ms
     → count_calls ms ≤ 7
     → ((c : Behind) → CallsOf name (open_file file.0 Authorized ∷ files) c ns after faults [] 1)
@@ -197,7 +197,7 @@ open_calls {name} {ms} files b file call count r few k =
     calls_as refl (omega (arith, few))
     (calls_more one (calls_more (reads_calls own c r) (k (behind_after c ms))))
 
-stop_calls : {name : List ℕ} {at : Attr} {t : Told ReadOut} {why : Stop} (files : List OpenFile)
+pub stop_calls : {name : List ℕ} {at : Attr} {t : Told ReadOut} {why : Stop} (files : List OpenFile)
     (c : Behind) (of : List ℕ) (file : ℕ) (shut : Closing) → IsReadable name of → Stops at t why
     → CallsOf name (open_file file Authorized ∷ files) c
     (answered (Read of at) t ∷ answered (Close file) shut ∷ []) files
@@ -209,7 +209,7 @@ stop_calls files c of file shut may x =
     calls_are (may, ((Authorized, inl refl), tt)) (inl refl, (inr tt, tt)) (tt, (tt, tt))
     (closed_first file Authorized files) refl refl refl (omega arith)
 
-stop_files : (why : Stop) (files : List OpenFile) → files ≡ binding_files (binding_of why) files
+pub stop_files : (why : Stop) (files : List OpenFile) → files ≡ binding_files (binding_of why) files
 stop_files Stop.Vanished files = refl
 stop_files x files = refl
 
@@ -235,17 +235,18 @@ binds_calls files b (Bound_by call count number total ms x a first are) =
 binds_calls files b x = calls_are (refl, tt) (inl refl, tt) (tt, tt) refl refl refl refl
     (omega arith)
 
--- the most calls that bind a device of that name, and that write to it: a root hub has no parent's files, and it alone a default
+-- the most calls that bind a device of that name, and that write to it: a root hub has no parent whose held file is probed and whose
+-- files are read, and it alone a default
 abbrev pub binding_most : List ℕ → ℕ
-binding_most name = cond (is_none (parent_of name)) 6 9
+binding_most name = cond (is_none (parent_of name)) 6 10
 
 abbrev pub treating_most : List ℕ → ℕ
 treating_most name = cond (is_none (parent_of name)) 7 4
 
-pub both_most : (name : List ℕ) → binding_most name + treating_most name ≤ 13
+pub both_most : (name : List ℕ) → binding_most name + treating_most name ≤ 14
 both_most name = by (is_none (parent_of name))
   where
-    by : (root : Bool) → cond root 6 9 + cond root 7 4 ≤ 13
+    by : (root : Bool) → cond root 6 10 + cond root 7 4 ≤ 14
     by true = omega arith
     by false = omega arith
 
@@ -262,16 +263,16 @@ root_most name root = ap (λ (o : Option (List ℕ)). cond (is_none o) 7 4) root
 files_few : {name : List ℕ} {ms : List Made} {own : OwnFiles} {parent : Option Attrs}
     → Files name ms own parent → count_calls ms + 2 ≤ binding_most name
 files_few (Alone d p s c e) =
-    subst (λ (o : Option (List ℕ)). 6 ≤ cond (is_none o) 6 9) (sym e) (omega arith)
+    subst (λ (o : Option (List ℕ)). 6 ≤ cond (is_none o) 6 10) (sym e) (omega arith)
 files_few (Below of d p s c x y z e) =
-    subst (λ (o : Option (List ℕ)). 9 ≤ cond (is_none o) 6 9) (sym e) (omega arith)
+    subst (λ (o : Option (List ℕ)). 9 ≤ cond (is_none o) 6 10) (sym e) (omega arith)
 
 -- the device of that open file was found alive last
 abbrev pub IsFound : Behind → ℕ → Bool → Type 0
 IsFound b held on = (t : Told Probe) × (b.found ≡ Some (answered (Ask_alive held) t)) ×
     (t.answer ≡ Probe.Alive on)
 
-stop_unbound : (why : Stop) (x : Bound) → Binding.Bound x ≡ binding_of why → ⊥
+pub stop_unbound : (why : Stop) (x : Bound) → Binding.Bound x ≡ binding_of why → ⊥
 stop_unbound Stop.Vanished x e = let none : ⊥ = cc in none
 stop_unbound y x e = let none : ⊥ = cc in none
 

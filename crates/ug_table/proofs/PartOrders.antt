@@ -1,16 +1,21 @@
 -- The order of the calls in a part, from its shapes.
-use Rattle.std.proofs.Common.{◌≡◌, ℕ, Bool, true, false, List, [], ◌∷◌, ◌++◌, Option, Some, inl, inr, refl, sym, subst, append-nil}
-use Rattle.ug_table.proofs.Common.{Authorized, Ask_alive, Bound, Binding, Close, Control, Entry, FailedCall, Fault, Held, Known, Made, Open, Probe, Put, Read, RemoveHold, Settled, Standing, Target, Told, Write, Wrote, answered, default_due, has_right, is_to_go, known_of, standing_of, unsettled_by, wants, write_of}
+use Rattle.std.proofs.Common.{◌≡◌, ℕ, Bool, true, false, List, [], ◌∷◌, ◌++◌, Option, Some, None, inl, inr, refl, sym, subst, append_assoc, append-nil}
+use Rattle.ug_table.proofs.Common.{Authorized, Ask_alive, Bound, Binding, Close, Control, Entry, FailedCall, Fault, Held, Known, Made, Open, Probe, Put, Read, RemoveHold, Settled, Standing, Target, Told, Write, Wrote, answered, default_due, has_right, is_to_go, known_of, standing_of, unsettled_by, wants, write_of, parent_of, parent_standing, held_of, kept_file, binding_by, binding_of, Way}
 use Rattle.ug_types.specs.declared.control.Attr.{Attr}
 use Rattle.ug_kernel.specs.Calls.{Closing}
 use Rattle.ug_kernel.specs.declared.calls.Opened.{Opened}
 use Rattle.ug_kernel.specs.declared.calls.ReadOut.{ReadOut}
 use Rattle.ug_node.proofs.BindShapes.{told, Holds_by, Not_there, Not_opened, No_memory, Held_on, Died, Unasked, way_binds, way_holds}
 use Rattle.ug_table.specs.Done.{control_of}
-use Rattle.ug_node.specs.CallOrder.{Act, To_open, To_probe, To_write, To_close, act_of, leads_on, OnlyCloses, GoBy, bind_acts}
-use Rattle.ug_node.proofs.CallOrders.{Behind_bound, binds_order}
-use Rattle.ug_table.specs.PartOrder.{once_acts, default_acts, value_acts, removal_acts, verdict_acts, write_acts, told_known, GoByVerdict, GoAsNew, GoWhereBound, GoInOrder}
-use Rattle.ug_table.proofs.Shapes.{Written, Done, Valued, Same, Set, Unheld, Gone_by, Failed_by, Short_by, OnceMade, Not_held, Put_on, Carried, By_value, And_removal, Brought, Left_open, Let_go, Treated, No_default, And_default, Cut_default, Gone_default, Opening, Fresh, Lost, Unbound_end, Absent_so, Flat, Unprobed, Tried, Stopped, Unbound, No_place, Judged_so, told_at}
+use Rattle.ug_types.specs.declared.record.Attrs.{Attrs}
+use Rattle.ug_node.specs.CallOrder.{Act, To_open, To_probe, To_write, To_close, act_of, leads_on, OnlyCloses, GoBy, GoByProbe, bind_acts, own_acts, parent_acts}
+use Rattle.ug_node.specs.declared.files.OwnFiles.{OwnFiles}
+use Rattle.ug_node.specs.declared.files.Stop.{Stop}
+use Rattle.ug_node.proofs.CallOrders.{Behind_bound, binds_order, reads_go, stops_end}
+use Rattle.ug_node.proofs.UnderShapes.{Under_by, Under_cut, Under_alive, Under_other, Probed_by, Found_alive, Found_gone, Found_none, Behind_by, Cut_behind, Read_behind, IsntAlive}
+use Rattle.ug_table.proofs.Above.{OfParent, is_above, way_under}
+use Rattle.ug_table.specs.PartOrder.{once_acts, default_acts, value_acts, removal_acts, verdict_acts, write_acts, told_known, GoByVerdict, GoBehindParent, GoByParent, GoByFiles, GoAsNew, GoWhereBound, GoInOrder}
+use Rattle.ug_table.proofs.Shapes.{Written, Done, Valued, Same, Set, Unheld, Gone_by, Failed_by, Short_by, OnceMade, Not_held, Put_on, Carried, By_value, And_removal, Brought, Left_open, Let_go, Treated, No_default, And_default, Cut_default, Gone_default, Opening, Fresh, Lost, opening_kept, Unbound_end, Absent_so, Flat, Unprobed, Tried, Stopped, Unbound, No_place, Judged_so, told_at}
 
 -- all of these acts were made, and each led on
 abbrev pub AllLed : List Act → List Made → Type 0
@@ -203,17 +208,82 @@ unbound_behind : {name : List ℕ} {r : Binding} {es : List Entry} {how : Settle
 unbound_behind alive Absent_so = tt
 unbound_behind alive x = tt
 
+-- a binding beside the standing of the parent
+
+stop_closes : (alive : Bool → List Made → Type 0) (why : Stop) (ns : List Made) → Behind_bound alive (binding_of why) ns → OnlyCloses ns
+stop_closes alive Stop.Vanished ns c = c
+stop_closes alive (Stop.Fault failed) ns c = c
+stop_closes alive Stop.Memory ns c = c
+
+last_goes : {file : Held} {own : OwnFiles} {parent : Option Attrs} {ns : List Made} {r : Binding} (alive : Bool → List Made → Type 0)
+    (os : List Made) → Probed_by file own parent ns r → Behind_bound alive r os → GoByProbe alive OnlyCloses (ns ++ os)
+last_goes alive os (Found_alive on number total) c = c
+last_goes alive os (Found_gone number total shut) c = (refl, c)
+last_goes alive os (Found_none number total shut) c = (refl, c)
+
+behind_goes : {name parent : List ℕ} {file : Held} {own : OwnFiles} {ns : List Made} {r : Binding} (alive : Bool → List Made → Type 0)
+    (os : List Made) → Behind_by name parent file own ns r → Behind_bound alive r os
+    → GoBy (parent_acts (Some parent)) (GoByProbe alive OnlyCloses) (ns ++ os)
+behind_goes {name} {parent} {file} alive os (Cut_behind ms at t shut why r left a first stops e) c =
+    let rest : List Made → Type 0 = GoByProbe alive OnlyCloses in
+    let last : List Made = answered (Read parent at) t ∷ answered (Close file.0) shut ∷ [] in
+    let closes = stop_closes alive why os (subst (λ (v : Binding). Behind_bound alive v os) e c) in
+    subst (λ (v : List Made). GoBy (parent_acts (Some parent)) rest v) (sym (append_assoc ms last os))
+    (reads_go rest (last ++ os) first (refl, inr (stops_end stops, (refl, closes))))
+behind_goes alive os (Read_behind x y z ns r a first h) c = reads_go (GoByProbe alive OnlyCloses) (ns ++ os) first (last_goes alive os h c)
+
+-- the parent's files are read where its held file wasn't found alive
+isnt_goes : (name : List ℕ) (rest : List Made → Type 0) (p : Probe) (ns : List Made) → IsntAlive p → GoBy (parent_acts (parent_of name)) rest ns → GoBehindParent name rest p ns
+isnt_goes name rest (Probe.Alive on) ns isnt h = absurd isnt
+isnt_goes name rest Probe.Gone ns isnt h = h
+isnt_goes name rest Probe.Failed ns isnt h = h
+
+under_goes : {name parent : List ℕ} {kept : ℕ} {ms : List Made} {r : Binding} (alive : Bool → List Made → Type 0)
+    (os : List Made) → parent_of name ≡ Some parent → Under_by name parent kept ms r → Behind_bound alive r os
+    → GoBy (own_acts name []) (GoByParent name kept (GoByProbe alive OnlyCloses)) (ms ++ os)
+under_goes {name} {parent} {kept} alive os above (Under_cut file call count ms at t shut why r left a first stops e) c =
+    let rest : List Made → Type 0 = GoByParent name kept (GoByProbe alive OnlyCloses) in
+    let front : Made = answered (Open name Authorized) (told (Opened.Token file) call count) in
+    let last : List Made = answered (Read name at) t ∷ answered (Close file.0) shut ∷ [] in
+    let closes = stop_closes alive why os (subst (λ (v : Binding). Behind_bound alive v os) e c) in
+    subst (λ (v : List Made). GoBy (own_acts name []) rest (front ∷ v)) (sym (append_assoc ms last os))
+    (refl, inl (refl, reads_go rest (last ++ os) first (refl, inr (stops_end stops, (refl, closes)))))
+under_goes {name} {parent} {kept} alive os above (Under_alive file call count d p s q on number total ns r own h) c =
+    let rest : List Made → Type 0 = GoByParent name kept (GoByProbe alive OnlyCloses) in
+    (refl, inl (refl, reads_go rest (answered (Ask_alive kept) (told (Probe.Alive on) number total) ∷ (ns ++ os)) own.1 (refl, last_goes alive os h c)))
+under_goes {name} {parent} {kept} alive os above (Under_other file call count d p s q t ns r isnt own h) c =
+    let probed : List Made → Type 0 = GoByProbe alive OnlyCloses in
+    let reads = subst (λ (o : Option (List ℕ)). GoBy (parent_acts o) probed (ns ++ os)) (sym above) (behind_goes alive os h c) in
+    (refl, inl (refl, reads_go (GoByParent name kept probed) (answered (Ask_alive kept) t ∷ (ns ++ os)) own.1 (refl, isnt_goes name probed t.answer (ns ++ os) isnt reads)))
+under_goes alive os above x c = (refl, inr (refl, c))
+
+for_order : (name : List ℕ) (ms : List Made) (r : Binding) (o : Option Standing) (alive : Bool → List Made → Type 0)
+    (os : List Made) → OfParent name o → Way (binding_by name o) ms r → Behind_bound alive r os
+    → GoByFiles name (held_of o) (GoByProbe alive OnlyCloses) (ms ++ os)
+for_order name ms r None alive os above way c = binds_order alive os (way_binds name ms r way) c
+for_order name ms r (Some s) alive os above way c = under_goes alive os above (way_under name s ms r above way) c
+
 -- a part
 
 opening_order : {name : List ℕ} {ss rs : List Standing} {ms : List Made} {es : List Entry} (binds : Bool)
-    (hub : Option Write) (entries : List Entry) (ns : List Made) → Opening name ss ms es rs
-    → GoWhereBound binds hub name entries ns
-    → GoInOrder binds hub name (standing_of name ss) entries (ms ++ ns)
-opening_order {name} binds hub entries ns (Fresh e) h =
-    subst (λ (o : Option Known). GoInOrder binds hub name o entries ns) (sym e) h
-opening_order {name} binds hub entries ns (Lost known failed shut e) h =
+    (hub : Option Write) (kept : Option ℕ) (entries : List Entry) (ns : List Made) → Opening name ss ms es rs
+    → GoWhereBound binds hub name kept entries ns
+    → GoInOrder binds hub name kept (standing_of name ss) entries (ms ++ ns)
+opening_order {name} binds hub kept entries ns (Fresh e) h =
+    subst (λ (o : Option Known). GoInOrder binds hub name kept o entries ns) (sym e) h
+opening_order {name} binds hub kept entries ns (Lost known failed shut e) h =
     let ms : List Made = answered (Ask_alive known.held.0) (told_at Probe.Gone failed) ∷ answered (Close known.held.0) shut ∷ ns in
-    subst (λ (o : Option Known). GoInOrder binds hub name o entries ms) (sym e) (refl, inl (refl, h))
+    subst (λ (o : Option Known). GoInOrder binds hub name kept o entries ms) (sym e) (refl, inl (refl, h))
+
+-- and where the name is bound, beside the standing of its parent
+new_order : {name : List ℕ} {ss rs : List Standing} {ms : List Made} {es : List Entry} {binds : Bool}
+    (hub : Option Write) (entries : List Entry) (ns : List Made) → binds ≡ true → Opening name ss ms es rs
+    → GoAsNew hub name (held_of (parent_standing name rs)) entries ns
+    → GoInOrder binds hub name (kept_file name ss) (standing_of name ss) entries (ms ++ ns)
+new_order {name} {ss} {rs} {ms} {binds = binds} hub entries ns t opening h =
+    subst (λ (k : Option ℕ). GoInOrder binds hub name k (standing_of name ss) entries (ms ++ ns)) (sym (opening_kept opening))
+    (opening_order binds hub (held_of (parent_standing name rs)) entries ns opening
+    (subst (λ (b : Bool). GoWhereBound b hub name (held_of (parent_standing name rs)) entries ns) (sym t) h))
 
 -- it tells no verdict
 opening_told : {name : List ℕ} {ss rs : List Standing} {ms : List Made} {es : List Entry}
@@ -225,34 +295,32 @@ pub flat_order : {hub : Option Write} {binds : Bool} {given : List Standing → 
     {name : List ℕ} {ss : List Standing} {ok : Bool} {ms : List Made} {rest : List Entry}
     {how : Settled} {rs : List Standing} {o : Option (List Standing × Bound)}
     → Flat hub binds given name ss ok ms rest how rs o
-    → GoInOrder binds hub name (standing_of name ss) rest ms
-flat_order {hub} {binds} {name = name} {ms = ms} {rest = rest} (Unprobed known failed at) =
-    subst (λ (v : Option Known). GoInOrder binds hub name v rest ms) (sym at) tt
-flat_order {hub} {binds} {name = name} {ms = ms} {rest = rest} (Tried known on failed d os es how at treated) =
-    subst (λ (v : Option Known). GoInOrder binds hub name v rest ms) (sym at) (treated_order treated)
+    → GoInOrder binds hub name (kept_file name ss) (standing_of name ss) rest ms
+flat_order {hub} {binds} {name = name} {ss = ss} {ms = ms} {rest = rest} (Unprobed known failed at) =
+    subst (λ (v : Option Known). GoInOrder binds hub name (kept_file name ss) v rest ms) (sym at) tt
+flat_order {hub} {binds} {name = name} {ss = ss} {ms = ms} {rest = rest} (Tried known on failed d os es how at treated) =
+    subst (λ (v : Option Known). GoInOrder binds hub name (kept_file name ss) v rest ms) (sym at) (treated_order treated)
 flat_order {hub} {binds} {name = name} {ss = ss} (Stopped ms es rs f opening) =
-    subst (λ (v : List Made). GoInOrder binds hub name (standing_of name ss) es v) (append-nil ms)
-    (opening_order binds hub es [] opening (subst (λ (b : Bool). GoWhereBound b hub name es []) (sym f) refl))
+    subst (λ (v : List Made). GoInOrder binds hub name (kept_file name ss) (standing_of name ss) es v) (append-nil ms)
+    (opening_order binds hub (kept_file name ss) es [] opening (subst (λ (b : Bool). GoWhereBound b hub name (kept_file name ss) es []) (sym f) refl))
 flat_order {hub} {binds} {name = name} {rest = rest} (Unbound ms ns es fs rs r how t opening way end) =
     let alive : Bool → List Made → Type 0 = GoByVerdict hub name rest (told_known rest) in
-    let goes = binds_order alive [] (way_binds name ns r way) (unbound_behind alive end) in
-    let new = subst (λ (v : List Made). GoAsNew hub name rest v) (append-nil ns) goes in
-    opening_order binds hub rest ns opening (subst (λ (b : Bool). GoWhereBound b hub name rest ns) (sym t) new)
+    let goes = for_order name ns r (parent_standing name rs) alive [] (is_above name rs) way (unbound_behind alive end) in
+    let new = subst (λ (v : List Made). GoAsNew hub name (held_of (parent_standing name rs)) rest v) (append-nil ns) goes in
+    new_order hub rest ns t opening new
 flat_order {hub} {binds} {name = name} {rest = rest} (No_place ms ns es rs b shut t opening way) =
     let short : Entry = Entry.Unsettled name Fault.Memory in
     let last : List Made = answered (Close b.held.0) shut ∷ [] in
     let alive : Bool → List Made → Type 0 = GoByVerdict hub name rest (told_known rest) in
     let so = subst (λ (v : Option Known). GoByVerdict hub name rest v b.on last) (sym (opening_told opening (short ∷ []))) (has_right es (short ∷ []) short (inl refl), (refl, tt)) in
-    let new : GoAsNew hub name rest (ns ++ last) = binds_order alive last (way_binds name ns (Binding.Bound b) way) so in
-    opening_order binds hub rest (ns ++ last) opening (subst (λ (v : Bool). GoWhereBound v hub name rest (ns ++ last)) (sym t) new)
+    new_order hub rest (ns ++ last) t opening (for_order name ns (Binding.Bound b) (parent_standing name rs) alive last (is_above name rs) way so)
 flat_order {hub} {binds} {name = name} {rest = rest} (Judged_so ms ns os es fs rs b x d how t opening way given new treated) =
     let fresh : Known = record { number = x.number; held = x.held; verdict = x.verdict; removed = false; defaulted = false } in
     let same : known_of x ≡ fresh = cc (new.stays, new.undone) in
     let alive : Bool → List Made → Type 0 = GoByVerdict hub name rest (told_known rest) in
     let writes = subst (λ (v : Known). GoBy (write_acts hub name v b.on) OnlyCloses os) same (treated_order treated) in
     let so = subst (λ (v : Option Known). GoByVerdict hub name rest v b.on os) (sym (opening_told opening (Entry.Judged x.number name x.held x.verdict x.cause ∷ (fs ++ unsettled_by name how)))) writes in
-    let as_new : GoAsNew hub name rest (ns ++ os) = binds_order alive os (way_binds name ns (Binding.Bound b) way) so in
-    opening_order binds hub rest (ns ++ os) opening (subst (λ (v : Bool). GoWhereBound v hub name rest (ns ++ os)) (sym t) as_new)
+    new_order hub rest (ns ++ os) t opening (for_order name ns (Binding.Bound b) (parent_standing name rs) alive os (is_above name rs) way so)
 
 -- Calls that the order refuses, whatever else is true of them.
 
@@ -271,10 +339,10 @@ serial_first name held bytes a b c d t ms rest h = elim h.1 [
 ]
 
 -- a file of a known device read before its probe
-known_read : (binds : Bool) (hub : Option Write) (name of : List ℕ) (known : Known) (entries : List Entry)
+known_read : (binds : Bool) (hub : Option Write) (name of : List ℕ) (kept : Option ℕ) (known : Known) (entries : List Entry)
     (at : Attr) (t : Told ReadOut) (ms : List Made)
-    → GoInOrder binds hub name (Some known) entries (answered (Read of at) t ∷ ms) → ⊥
-known_read binds hub name of known entries at t ms h = h
+    → GoInOrder binds hub name kept (Some known) entries (answered (Read of at) t ∷ ms) → ⊥
+known_read binds hub name of kept known entries at t ms h = h
 
 -- a second probe before an order switches a device on
 probed_again : (name : List ℕ) (known : Known) (held : ℕ) (t : Told Probe) (ms : List Made)
@@ -289,11 +357,22 @@ probed_again name known held t ms e h =
     let none : ⊥ = cc in none
 
 -- a call behind a device that is gone, where the listing didn't succeed
-bound_unlisted : (hub : Option Write) (name : List ℕ) (known : Known) (entries : List Entry) (failed : FailedCall)
+bound_unlisted : (hub : Option Write) (name : List ℕ) (kept : Option ℕ) (known : Known) (entries : List Entry) (failed : FailedCall)
     (shut : Closing) (m : Made) (ms : List Made)
     → let gone = answered (Ask_alive known.held.0) (told_at Probe.Gone failed) in
-    GoInOrder false hub name (Some known) entries (gone ∷ answered (Close known.held.0) shut ∷ m ∷ ms) → ⊥
-bound_unlisted hub name known entries failed shut m ms h = elim h.1 [
+    GoInOrder false hub name kept (Some known) entries (gone ∷ answered (Close known.held.0) shut ∷ m ∷ ms) → ⊥
+bound_unlisted hub name kept known entries failed shut m ms h = elim h.1 [
   | inl on ↦ let end = on.1 in let none : ⊥ = cc in none
   | inr off ↦ let end = off.0 in let none : ⊥ = cc in none
 ]
+
+-- the parent's files read where its held file is alive
+read_alive : (name : List ℕ) (kept : ℕ) (p : Bool) (a b : ℕ) (of : List ℕ) (at : Attr) (t : Told ReadOut) (ms : List Made)
+    (alive : Bool → List Made → Type 0)
+    → GoByParent name kept (GoByProbe alive OnlyCloses) (answered (Ask_alive kept) (told (Probe.Alive p) a b) ∷ answered (Read of at) t ∷ ms) → ⊥
+read_alive name kept p a b of at t ms alive h = h.1
+
+-- another file probed in its place
+asked_other : (name : List ℕ) (kept held : ℕ) (t : Told Probe) (ms : List Made) (rest : List Made → Type 0)
+    → (held ≡ kept → ⊥) → GoByParent name kept rest (answered (Ask_alive held) t ∷ ms) → ⊥
+asked_other name kept held t ms rest ne h = ne h.0

@@ -1,10 +1,11 @@
 -- One name's part, flat: each way through the trees of a settling and a resettling has one of these shapes.
 use Rattle.ug_kernel.specs.Tree.{Return}
 use Rattle.std.proofs.Common.{cond, ◌≡◌, ℕ, ◌+◌, Bool, true, false, ◌&&◌, not, is_none, List, [], ◌∷◌, ◌++◌, Option, Some, None, refl, sym, ◌∙◌, ap, subst, append_assoc, append-nil}
-use Rattle.ug_table.proofs.Common.{Control, IsOpenable, parent_of, Judged, Held, Target, Cause, Probe, Write, Wrote, Ask_alive, Put, Close, Closing, Told, Made, answered, failure_of, Bound, Binding, RemoveHold, Entry, State, Kept, with_kept, Answers, Laters, Has, known_of, standing_of, did_default, defaulted_known, default_due, default_write, IsOnce, Default, Terms, treating, after_default, by_default, same_name, without, with_standing, Standing, Known, Settled, FailedCall, Fault, names_of, unsettled_by, kept_standings, to_keep, no_room, standing_for, known_in, judged_entry, if_place, if_record, admitting, after_bind, entering, tried_standings, to_mark, after_known, from_standing, settling, to_keep_mark, after_again, again, resettling, filter_has, wants, write_of, after_write, to_value, valuing, after_hold, once, control_of, is_to_go, if_to_go, after_value, writing, close_gone, bringing, Ways, Sure, Way, ways_more, behind_sure, sure_last, judged_of, binding}
+use Rattle.ug_table.proofs.Common.{Control, IsOpenable, parent_of, Judged, Held, Target, Cause, Probe, Write, Wrote, Ask_alive, Put, Close, Closing, Told, Made, answered, failure_of, Bound, Binding, RemoveHold, Entry, State, Kept, with_kept, Answers, Laters, Has, known_of, standing_of, did_default, defaulted_known, default_due, default_write, IsOnce, Default, Terms, treating, after_default, by_default, same_name, without, with_standing, Standing, Known, Settled, FailedCall, Fault, names_of, unsettled_by, kept_standings, to_keep, no_room, standing_for, known_in, judged_entry, if_place, if_record, admitting, after_bind, entering, tried_standings, to_mark, after_known, from_standing, settling, to_keep_mark, after_again, again, resettling, filter_has, wants, write_of, after_write, to_value, valuing, after_hold, once, control_of, is_to_go, if_to_go, after_value, writing, close_gone, bringing, Ways, Sure, Way, ways_more, behind_sure, sure_last, parent_standing, held_of, binding_for, judged_bound, bound_hash, kept_file}
 use Rattle.ug_node.specs.Removal.{holding}
-use Rattle.ug_node.proofs.BindShapes.{sure_binding, sure_hold}
-use Rattle.ug_table.proofs.Standings.{known_as, did_without, did_with, missing, without_own, without_with, with_own, kept_tried, tried_without}
+use Rattle.ug_node.proofs.BindShapes.{sure_hold}
+use Rattle.ug_table.proofs.Above.{sure_for, is_above}
+use Rattle.ug_table.proofs.Standings.{known_as, did_without, did_with, missing, without_none, without_own, without_with, with_own, kept_tried, tried_without}
 pub use Rattle.ug_table.proofs.Standings.{told_at}
 
 -- the shapes
@@ -110,6 +111,11 @@ opening_none {name} {ss} (Lost known failed shut e) = without_own name ss
 pub opening_absent : {name : List ℕ} {ss : List Standing} {ms : List Made} {es : List Entry} {rs : List Standing} → Opening name ss ms es rs → Has (names_of rs) name → ⊥
 opening_absent {name} {rs = rs} opening = missing name rs (opening_none opening)
 
+-- its parent's standing is among what is left
+pub opening_kept : {name : List ℕ} {ss : List Standing} {ms : List Made} {es : List Entry} {rs : List Standing} → Opening name ss ms es rs → kept_file name ss ≡ held_of (parent_standing name rs)
+opening_kept {name} {ss} (Fresh e) = ap (λ (v : List Standing). held_of (parent_standing name v)) (without_none name ss (missing name ss e))
+opening_kept (Lost known failed shut e) = refl
+
 pub opening_less : {name : List ℕ} {ss : List Standing} {ms : List Made} {es : List Entry} {rs : List Standing} → Opening name ss ms es rs → (s : Standing) → Has rs s → Has ss s
 opening_less (Fresh e) s a = a
 opening_less {name} {ss} (Lost known failed shut e) s a = (filter_has (λ (v : Standing). not (same_name v.name name)) ss s a).0
@@ -139,9 +145,9 @@ pub data Flat (hub : Option Write) (binds : Bool) (given : List Standing → Bou
   Unprobed : (known : Known) (failed : FailedCall) → standing_of name ss ≡ Some known → Flat hub binds given name ss true (answered (Ask_alive known.held.0) (told_at Probe.Failed failed) ∷ []) (Entry.Unsettled name (Fault.Call failed) ∷ []) (Settled.Fault failed) (tried_standings ss name (Settled.Fault failed)) None
   Tried : (known : Known) (on : Bool) (failed : FailedCall) (d : Bool) (ms : List Made) (es : List Entry) (how : Settled) → standing_of name ss ≡ Some known → Treated hub name known on d ms es how → Flat hub binds given name ss true (answered (Ask_alive known.held.0) (told_at (Probe.Alive on) failed) ∷ ms) (es ++ unsettled_by name how) how (tried_standings (did_default name d ss) name how) None
   Stopped : (ms : List Made) (es : List Entry) (rs : List Standing) → binds ≡ false → Opening name ss ms es rs → Flat hub binds given name ss true ms es Settled.Nobody rs None
-  Unbound : (ms ns : List Made) (es fs : List Entry) (rs : List Standing) (r : Binding) (how : Settled) → binds ≡ true → Opening name ss ms es rs → Way (binding name (parent_of name)) ns r → Unbound_end name r fs how → Flat hub binds given name ss true (ms ++ ns) (es ++ fs) how rs None
-  No_place : (ms ns : List Made) (es : List Entry) (rs : List Standing) (b : Bound) (shut : Closing) → binds ≡ true → Opening name ss ms es rs → Way (binding name (parent_of name)) ns (Binding.Bound b) → Flat hub binds given name ss false (ms ++ (ns ++ answered (Close b.held.0) shut ∷ [])) (es ++ Entry.Unsettled name Fault.Memory ∷ []) Settled.Memory rs None
-  Judged_so : (ms ns os : List Made) (es fs : List Entry) (rs : List Standing) (b : Bound) (x : Standing) (d : Bool) (how : Settled) → binds ≡ true → Opening name ss ms es rs → Way (binding name (parent_of name)) ns (Binding.Bound b) → given rs b x → IsNew name b x → Treated hub name (known_of x) b.on d os fs how → Flat hub binds given name ss true (ms ++ (ns ++ os)) (es ++ Entry.Judged x.number name x.held x.verdict x.cause ∷ (fs ++ unsettled_by name how)) how (tried_standings (did_default name d (with_standing x rs)) name how) (Some (rs, b))
+  Unbound : (ms ns : List Made) (es fs : List Entry) (rs : List Standing) (r : Binding) (how : Settled) → binds ≡ true → Opening name ss ms es rs → Way (binding_for name rs) ns r → Unbound_end name r fs how → Flat hub binds given name ss true (ms ++ ns) (es ++ fs) how rs None
+  No_place : (ms ns : List Made) (es : List Entry) (rs : List Standing) (b : Bound) (shut : Closing) → binds ≡ true → Opening name ss ms es rs → Way (binding_for name rs) ns (Binding.Bound b) → Flat hub binds given name ss false (ms ++ (ns ++ answered (Close b.held.0) shut ∷ [])) (es ++ Entry.Unsettled name Fault.Memory ∷ []) Settled.Memory rs None
+  Judged_so : (ms ns os : List Made) (es fs : List Entry) (rs : List Standing) (b : Bound) (x : Standing) (d : Bool) (how : Settled) → binds ≡ true → Opening name ss ms es rs → Way (binding_for name rs) ns (Binding.Bound b) → given rs b x → IsNew name b x → Treated hub name (known_of x) b.on d os fs how → Flat hub binds given name ss true (ms ++ (ns ++ os)) (es ++ Entry.Judged x.number name x.held x.verdict x.cause ∷ (fs ++ unsettled_by name how)) how (tried_standings (did_default name d (with_standing x rs)) name how) (Some (rs, b))
 
 -- the standings of other names stay
 
@@ -264,8 +270,8 @@ adds_told entries fs es name how e = ap (λ (v : List Entry). v ++ unsettled_by 
 -- the new standing is the judge's
 abbrev pub IsGiven : {J : Type 0} → Answers J → Terms → List ℕ → State J → List Standing → Bound → Standing → Type 0
 IsGiven answer terms name w rs b x =
-    let judged : Judged = judged_of name b.attrs b.parent in
-    x ≡ standing_for w name b.held.0 judged (answer w.judge judged (is_none (parent_of name)) terms.present b.on rs)
+    let judged : Judged = judged_bound name rs b in
+    x ≡ standing_for w name b.held.0 judged (bound_hash b) (answer w.judge judged (is_none (parent_of name)) terms.present b.on rs)
 
 abbrev pub next_after : {J : Type 0} → State J → Option (List Standing × Bound) → ℕ
 next_after w None = w.next
@@ -273,7 +279,7 @@ next_after w (Some x) = w.next + 1
 
 abbrev pub judge_after : {J : Type 0} → Laters J → Terms → List ℕ → State J → Option (List Standing × Bound) → J
 judge_after later terms name w None = w.judge
-judge_after later terms name w (Some x) = later w.judge (judged_of name x.1.attrs x.1.parent) (is_none (parent_of name)) terms.present x.1.on x.0
+judge_after later terms name w (Some x) = later w.judge (judged_bound name x.0 x.1) (is_none (parent_of name)) terms.present x.1.on x.0
 
 -- A run of one name's part from one state to another: whether room was granted, its calls, and how it ended.
 pub record Piece {J : Type 0} (answer : Answers J) (later : Laters J) (binds : Bool) (terms : Terms) (name : List ℕ) (w : State J) (granted : Bool) (made : List Made) (how : Settled) (v : State J) : Type 0 where
@@ -291,7 +297,7 @@ Settles answer later name terms w granted made p = Piece answer later true terms
 
 entered : {J : Type 0} (answer : Answers J) (later : Laters J) (name : List ℕ) (terms : Terms) (w : State J) (ms : List Made) (es fs : List Entry) (rs : List Standing) → fs ≡ w.entries ++ es → Opening name w.standings ms es rs → Ways (entering answer later name terms (record w { standings = rs; entries = fs })) (λ ok ns p. Settles answer later name terms w ok (ms ++ ns) p)
 unfolding entering admitting
-entered {J} answer later name terms w ms es fs rs same opening = behind_sure (Way (binding name (parent_of name))) (λ ok ns p. Settles answer later name terms w ok (ms ++ ns) p) (binding name (parent_of name)) (after_bind answer later name terms u) (sure_binding name) (λ ns r way. by ns r way)
+entered {J} answer later name terms w ms es fs rs same opening = behind_sure (Way (binding_for name rs)) (λ ok ns p. Settles answer later name terms w ok (ms ++ ns) p) (binding_for name rs) (after_bind answer later name terms u) (sure_for name (parent_standing name rs) (is_above name rs)) (λ ns r way. by ns r way)
   where
     u : State J
     u = record w { standings = rs; entries = fs }
@@ -299,17 +305,17 @@ entered {J} answer later name terms w ms es fs rs same opening = behind_sure (Wa
     more : (gs xs : List Entry) → gs ≡ fs ++ xs → gs ≡ w.entries ++ (es ++ xs)
     more gs xs e = e ∙ ap (λ v. v ++ xs) same ∙ append_assoc w.entries es xs
 
-    unbound : (ns : List Made) (r : Binding) (xs gs : List Entry) (how : Settled) → gs ≡ fs ++ xs → Way (binding name (parent_of name)) ns r → Unbound_end name r xs how → Settles answer later name terms w true (ms ++ (ns ++ [])) (how, record u { entries = gs })
+    unbound : (ns : List Made) (r : Binding) (xs gs : List Entry) (how : Settled) → gs ≡ fs ++ xs → Way (binding_for name rs) ns r → Unbound_end name r xs how → Settles answer later name terms w true (ms ++ (ns ++ [])) (how, record u { entries = gs })
     unbound ns r xs gs how e way end = subst (λ v. Settles answer later name terms w true (ms ++ v) (how, record u { entries = gs })) (sym (append-nil ns)) (record { rest = es ++ xs; judged = None; flat = Unbound ms ns es xs rs r how refl opening way end; entries = more gs xs e; listed = refl; hub = refl; next = refl; judge = refl })
 
-    no_place : (ns : List Made) (b : Bound) → Way (binding name (parent_of name)) ns (Binding.Bound b) → Ways (no_room u name b.held.0) (λ ok os p. Settles answer later name terms w false (ms ++ (ns ++ os)) p)
+    no_place : (ns : List Made) (b : Bound) → Way (binding_for name rs) ns (Binding.Bound b) → Ways (no_room u name b.held.0) (λ ok os p. Settles answer later name terms w false (ms ++ (ns ++ os)) p)
     no_place ns b way = λ shut. record { rest = es ++ Entry.Unsettled name Fault.Memory ∷ []; judged = None; flat = No_place ms ns es rs b shut refl opening way; entries = more _ _ refl; listed = refl; hub = refl; next = refl; judge = refl }
 
-    judged : (ns : List Made) (b : Bound) → Way (binding name (parent_of name)) ns (Binding.Bound b) → Ways (if_place answer later name terms u b (judged_of name b.attrs b.parent) true) (λ ok os p. Settles answer later name terms w ok (ms ++ (ns ++ os)) p)
+    judged : (ns : List Made) (b : Bound) → Way (binding_for name rs) ns (Binding.Bound b) → Ways (if_place answer later name terms u b (judged_bound name rs b) (bound_hash b) true) (λ ok os p. Settles answer later name terms w ok (ms ++ (ns ++ os)) p)
     judged ns b way =
-        let dev : Judged = judged_of name b.attrs b.parent in
+        let dev : Judged = judged_bound name rs b in
         let given : Target × Cause = answer w.judge dev (is_none (parent_of name)) terms.present b.on rs in
-        let x : Standing = standing_for w name b.held.0 dev given in
+        let x : Standing = standing_for w name b.held.0 dev (bound_hash b) given in
         let e : Entry = judged_entry w name b.held.0 given in
         let after : J = later w.judge dev (is_none (parent_of name)) terms.present b.on rs in
         sure_last (AddsDone (fs ++ e ∷ []) (Treated terms.hub name (known_of x) b.on)) (λ ok os p. Settles answer later name terms w ok (ms ++ (ns ++ os)) p) (treating terms.hub name (known_in u b.held.0 given) b.on (fs ++ e ∷ [])) (to_keep (record u { next = w.next + 1; judge = after }) x) (λ (q : Settled × Bool × List Entry). (q.0, record u { standings = kept_standings rs (record x { defaulted = q.1 }) q.0; next = w.next + 1; judge = after; entries = q.2 ++ unsettled_by name q.0 })) (λ q. refl) (treated terms.hub name (known_of x) b.on (fs ++ e ∷ []))
@@ -324,15 +330,15 @@ entered {J} answer later name terms w ms es fs rs same opening = behind_sure (Wa
           judge = refl;
         })
 
-    place : (ns : List Made) (b : Bound) → Way (binding name (parent_of name)) ns (Binding.Bound b) → (room : Bool) → Ways (if_place answer later name terms u b (judged_of name b.attrs b.parent) room) (λ ok os p. Settles answer later name terms w (room && ok) (ms ++ (ns ++ os)) p)
+    place : (ns : List Made) (b : Bound) → Way (binding_for name rs) ns (Binding.Bound b) → (room : Bool) → Ways (if_place answer later name terms u b (judged_bound name rs b) (bound_hash b) room) (λ ok os p. Settles answer later name terms w (room && ok) (ms ++ (ns ++ os)) p)
     place ns b way true = judged ns b way
     place ns b way false = no_place ns b way
 
-    room : (ns : List Made) (b : Bound) → Way (binding name (parent_of name)) ns (Binding.Bound b) → (room : Bool) → Ways (if_record answer later name terms u b room) (λ ok os p. Settles answer later name terms w (room && ok) (ms ++ (ns ++ os)) p)
+    room : (ns : List Made) (b : Bound) → Way (binding_for name rs) ns (Binding.Bound b) → (room : Bool) → Ways (if_record answer later name terms u b room) (λ ok os p. Settles answer later name terms w (room && ok) (ms ++ (ns ++ os)) p)
     room ns b way true = λ c. place ns b way c
     room ns b way false = no_place ns b way
 
-    by : (ns : List Made) (r : Binding) → Way (binding name (parent_of name)) ns r → Ways (after_bind answer later name terms u r) (λ ok os p. Settles answer later name terms w ok (ms ++ (ns ++ os)) p)
+    by : (ns : List Made) (r : Binding) → Way (binding_for name rs) ns r → Ways (after_bind answer later name terms u r) (λ ok os p. Settles answer later name terms w ok (ms ++ (ns ++ os)) p)
     by ns (Binding.Bound b) way = λ c. room ns b way c
     by ns Binding.Absent way = unbound ns Binding.Absent [] fs Settled.Nobody (sym (append-nil fs)) way Absent_so
     by ns Binding.Vanished way = unbound ns Binding.Vanished [] fs Settled.Nobody (sym (append-nil fs)) way Vanished_so

@@ -532,7 +532,7 @@ did_with true x ss fresh none =
     ap (λ (v : Standing). insert ss p v) (sym (default_own x.name x refl)) ∙ sym (default_between x.name x (take p ss) (drop p ss) absent)
 did_with false x ss fresh none = ap (λ (b : Bool). let y : Standing = record x { defaulted = b } in with_standing y ss) (sym fresh)
 
-without_none : (name : List ℕ) (ss : List Standing) → (Has (names_of ss) name → ⊥)
+pub without_none : (name : List ℕ) (ss : List Standing) → (Has (names_of ss) name → ⊥)
     → without name ss ≡ ss
 without_none name [] n = refl
 without_none name (s ∷ ss) n =

@@ -1,6 +1,6 @@
 -- Fair steps, one after another.
 use Rattle.std.proofs.Common.{◌||◌, ◌≡◌, ℕ, Bool, List, ◌++◌, inl, inr, sym, ◌∙◌, subst, true, false, ◌⊎◌, refl, ap, ◌<◌, ◌≤◌, append-nil, [], ◌∷◌, Some, slice_get, append_assoc, arith, not, map}
-use Rattle.ug_table.proofs.Common.{Terms, Has, AllDistinct, Held, Target, Kernel, Live, IsKernel, Grows, Quiet, Entry, Tries, HasVerdict, Account, Start, Note, Judge, Had, Had_not, Went, IsTold, HasDone, Stand, numbers_of, wrote_entries, IsDoneMarked, TellsDone, IsOnce, control_of, is_done, Control, Remove, IsDevice, IsGone, IsProbed, IsOne, Stands, HasStanding, IsJudged, gone_of, IsFair, AreLeft, WasDone, IsFirst, TellsNeither, Standing, Answers, Laters, State, noted, Judged, Cause, Device, Write, Wrote, Authorized, Call, Answer, IsGoneAt, Called, same_name, without, marked, removed_of, with_default, Default, Settled, names_of, tried_standings, has_left, has_right, distinct_one, has_cases, distinct_append, filter_has, has_filter, map_has, has_map, is_reject, some_same, quiet_grows, grows_trans, grows_refl, moves_quiet, WritesNothing, quiet_refl, called_quiet, StandInOrder, KeepsOrder}
+use Rattle.ug_table.proofs.Common.{Terms, Has, AllDistinct, Held, Target, Kernel, Live, IsKernel, Grows, Quiet, Entry, Tries, HasVerdict, Account, Start, Note, Judge, Had, Had_not, Went, IsTold, HasDone, Stand, HasHash, numbers_of, wrote_entries, IsDoneMarked, TellsDone, IsOnce, control_of, is_done, Control, Remove, IsDevice, IsGone, IsProbed, IsOne, Stands, HasStanding, IsJudged, gone_of, IsFair, AreLeft, WasDone, IsFirst, TellsNeither, Standing, Answers, Laters, State, noted, Judged, Cause, Device, Write, Wrote, Authorized, Call, Answer, IsGoneAt, Called, same_name, without, marked, removed_of, with_default, Default, Settled, names_of, tried_standings, has_left, has_right, distinct_one, has_cases, distinct_append, filter_has, has_filter, map_has, has_map, is_reject, some_same, quiet_grows, grows_trans, grows_refl, moves_quiet, WritesNothing, quiet_refl, called_quiet, StandInOrder, KeepsOrder}
 use Rattle.ug_kernel.specs.declared.device.Effect.{Effect}
 use Rattle.ug_table.proofs.Devices.{device_stays, gone_stays, probed_stays, stand_stays}
 use Rattle.std.proofs.lemmas.Bool.{cases_Bool, both_ways, true_from_ne_false, true≢false}
@@ -33,7 +33,7 @@ verdict_before before middle es fs number name held verdict told (inr h) = inr (
 
 pub told_before : (before middle : List Standing) (es fs : List Entry) (s : Standing) → AreTold before es middle → IsTold middle fs s → IsTold before (es ++ fs) s
 told_before before middle es fs s told (inl h) = elim (told h.0 h.1) [
-  | inl b ↦ inl (b.0, b.1, h.2 ∙ b.2, h.3 ∙ b.3, h.4 ∙ b.4, h.5 ∙ b.5, h.6 ∙ b.6, h.7 ∙ b.7)
+  | inl b ↦ inl (b.0, b.1, h.2 ∙ b.2, h.3 ∙ b.3, h.4 ∙ b.4, h.5 ∙ b.5, h.6 ∙ b.6, h.7 ∙ b.7, h.8 ∙ b.8)
   | inr t ↦
       let same : Entry.Judged h.0.number h.0.name h.0.held h.0.verdict h.0.cause ≡ Entry.Judged s.number s.name s.held s.verdict s.cause = cc (h.2, h.3, h.4, h.6, h.7) in
       inr (has_left es fs (Entry.Judged s.number s.name s.held s.verdict s.cause) (subst (λ v. Has es v) same t))
@@ -138,7 +138,7 @@ gone_as es number n name m e f h = let same : Entry.Gone number name ≡ Entry.G
 
 kept_later : (ss rs : List Standing) (es fs : List Entry) (x : Standing) → ((t : Standing) → Has ss t → IsOne rs t ⊎ Has fs (Entry.Gone t.number t.name)) → IsOne ss x ⊎ Has es (Entry.Gone x.number x.name) → IsOne rs x ⊎ Has (es ++ fs) (Entry.Gone x.number x.name)
 kept_later ss rs es fs x kept (inl t) = elim (kept t.0 t.1) [
-  | inl s ↦ inl (s.0, s.1, t.2 ∙ s.2, t.3 ∙ s.3, t.4 ∙ s.4, t.5 ∙ s.5, t.6 ∙ s.6, t.7 ∙ s.7)
+  | inl s ↦ inl (s.0, s.1, t.2 ∙ s.2, t.3 ∙ s.3, t.4 ∙ s.4, t.5 ∙ s.5, t.6 ∙ s.6, t.7 ∙ s.7, t.8 ∙ s.8)
   | inr g ↦ inr (has_right es fs (Entry.Gone x.number x.name) (gone_as fs t.0.number x.number t.0.name x.name (sym t.2) (sym t.3) g))
 ]
 kept_later ss rs es fs x kept (inr g) = inr (has_left es fs (Entry.Gone x.number x.name) g)
@@ -398,7 +398,7 @@ pub record Less (x : Standing) (ss rs : List Standing) : Type 0 where
   pub order : KeepsOrder ss rs
 
 pub one_itself : (ss : List Standing) (s : Standing) → Has ss s → IsOne ss s
-one_itself ss s a = (s, a, refl, refl, refl, refl, refl, refl)
+one_itself ss s a = (s, a, refl, refl, refl, refl, refl, refl, refl)
 
 -- without entries all are left
 pub left_all : (ss : List Standing) → AllDistinct (numbers_of ss) → AreLeft ss [] ss
@@ -420,12 +420,17 @@ one_device k before next s stand b =
     let held : IsDevice k x.0 s.name s.held b.0.judged = subst (λ (v : Held). IsDevice k x.0 s.name v b.0.judged) (sym b.4) named in
     (x.0, subst (λ (v : Judged). IsDevice k x.0 s.name s.held v) (sym b.5) held)
 
+one_hash : (k : Kernel) (before : List Standing) (next : ℕ) (s : Standing) → Stand k before next → IsOne before s → HasHash k s
+one_hash k before next s stand b i d file device =
+    b.8 ∙ stand.hashes b.0 b.1 i d (subst (λ (v : Held). IsFileOf k v.0 i) b.4 file) device
+
 pub in_order : {k : Kernel} {ss : List Standing} {next : ℕ} → Stand k ss next → StandInOrder next ss
 in_order stand = record { order = stand.order; distinct = stand.distinct; numbers = stand.numbers }
 
-pub stand_by : (k : Kernel) (ss : List Standing) (next : ℕ) → StandInOrder next ss → ((s : Standing) → Has ss s → (i : ℕ) × IsDevice k i s.name s.held s.judged) → AreDone k ss → Stand k ss next
-stand_by k ss next o devices done = record {
+pub stand_by : (k : Kernel) (ss : List Standing) (next : ℕ) → StandInOrder next ss → ((s : Standing) → Has ss s → (i : ℕ) × IsDevice k i s.name s.held s.judged) → ((s : Standing) → Has ss s → HasHash k s) → AreDone k ss → Stand k ss next
+stand_by k ss next o devices hashes done = record {
   devices = devices;
+  hashes = hashes;
   numbers = o.numbers;
   names = names_distinct (names_of ss) o.order;
   order = o.order;
@@ -435,7 +440,7 @@ stand_by k ss next o devices done = record {
 
 pub stand_of : (k : Kernel) (before ss : List Standing) (next : ℕ) → ((s : Standing) → Has ss s → IsOne before s) → KeepsOrder before ss → AreDone k ss → Stand k before next → Stand k ss next
 stand_of k before ss next there keeps done stand =
-    stand_by k ss next (keeps next (in_order stand)) (λ s h. one_device k before next s stand (there s h)) done
+    stand_by k ss next (keeps next (in_order stand)) (λ s h. one_device k before next s stand (there s h)) (λ s h. one_hash k before next s stand (there s h)) done
 
 -- a step whose entries tell no verdict and no end
 pub plain_fair : {J : Type 0} (answer : Answers J) (later : Laters J) (terms : Terms) (tried : Tries) (m l : Kernel) (u : State J) (rs : List Standing) (fs : List Entry) → IsKernel l → Grows m l → Stand m u.standings u.next → Same u.standings rs → AreMarked u.standings fs rs → AreDone l rs → Plain fs → Account answer later terms tried m l u.standings m.log u.judge u.next fs l.log u.judge u.next → StepFrom answer later terms tried m u l (record u { standings = rs; entries = u.entries ++ fs })
@@ -540,7 +545,7 @@ After x ss Settled.Stands rs = Same ss rs × Marks Remove (is_reject x.verdict �
 After x ss how rs = Same ss rs × KeepMarks ss rs
 
 marked_one : (ss : List Standing) (name : List ℕ) (mark : Bool) (s : Standing) → Has (map (marked name mark) ss) s → IsOne ss s
-marked_one ss name mark s a = let m = map_has (marked name mark) ss s a in (m.0, m.1, ap (λ (v : Standing). v.number) (sym m.2), ap (λ (v : Standing). v.name) (sym m.2), ap (λ (v : Standing). v.held) (sym m.2), ap (λ (v : Standing). v.judged) (sym m.2), ap (λ (v : Standing). v.verdict) (sym m.2), ap (λ (v : Standing). v.cause) (sym m.2))
+marked_one ss name mark s a = let m = map_has (marked name mark) ss s a in (m.0, m.1, ap (λ (v : Standing). v.number) (sym m.2), ap (λ (v : Standing). v.name) (sym m.2), ap (λ (v : Standing). v.held) (sym m.2), ap (λ (v : Standing). v.judged) (sym m.2), ap (λ (v : Standing). v.verdict) (sym m.2), ap (λ (v : Standing). v.cause) (sym m.2), ap (λ (v : Standing). v.hash) (sym m.2))
 
 pub tried_one : (ss : List Standing) (name : List ℕ) (how : Settled) (s : Standing) → Has (tried_standings ss name how) s → IsOne ss s
 tried_one ss name Settled.Nobody s a = one_itself ss s (filter_has (λ (v : Standing). not (same_name v.name name)) ss s a).0
@@ -550,7 +555,7 @@ tried_one ss name how s a = marked_one ss name false s a
 marked_same : (ss : List Standing) (name : List ℕ) (mark : Bool) → Same ss (map (marked name mark) ss)
 marked_same ss name mark = record {
   there = marked_one ss name mark;
-  kept = λ s a. (marked name mark s, has_map (marked name mark) ss s a, refl, refl, refl, refl, refl, refl);
+  kept = λ s a. (marked name mark s, has_map (marked name mark) ss s a, refl, refl, refl, refl, refl, refl, refl);
   order = keeps_marked name mark ss;
 }
 
@@ -563,12 +568,12 @@ unsettled_marks ss name s a control =
 -- marked as one whose default was written
 
 did_one : (ss : List Standing) (name : List ℕ) (s : Standing) → Has (map (with_default name) ss) s → IsOne ss s
-did_one ss name s a = let m = map_has (with_default name) ss s a in (m.0, m.1, ap (λ (v : Standing). v.number) (sym m.2), ap (λ (v : Standing). v.name) (sym m.2), ap (λ (v : Standing). v.held) (sym m.2), ap (λ (v : Standing). v.judged) (sym m.2), ap (λ (v : Standing). v.verdict) (sym m.2), ap (λ (v : Standing). v.cause) (sym m.2))
+did_one ss name s a = let m = map_has (with_default name) ss s a in (m.0, m.1, ap (λ (v : Standing). v.number) (sym m.2), ap (λ (v : Standing). v.name) (sym m.2), ap (λ (v : Standing). v.held) (sym m.2), ap (λ (v : Standing). v.judged) (sym m.2), ap (λ (v : Standing). v.verdict) (sym m.2), ap (λ (v : Standing). v.cause) (sym m.2), ap (λ (v : Standing). v.hash) (sym m.2))
 
 pub did_same : (ss : List Standing) (name : List ℕ) → Same ss (map (with_default name) ss)
 did_same ss name = record {
   there = did_one ss name;
-  kept = λ s a. (with_default name s, has_map (with_default name) ss s a, refl, refl, refl, refl, refl, refl);
+  kept = λ s a. (with_default name s, has_map (with_default name) ss s a, refl, refl, refl, refl, refl, refl, refl);
   order = keeps_map (with_default name) ss (λ s. refl) (λ s. refl);
 }
 

@@ -20,8 +20,8 @@ use Rattle.ug_kernel.specs.Kernel.{Kernel, IsKernel}
 use Rattle.ug_kernel.specs.Called.{Lived}
 use Rattle.ug_kernel.specs.Quiet.{Grows}
 use Rattle.ug_kernel.specs.Defaults.{default_at, set_by}
-use Rattle.ug_record.specs.Records.{judged_of}
-use Rattle.ug_node.specs.Bound.{attrs_of, IsParentRead, LivedUntilProbe}
+use Rattle.ug_record.specs.Records.{child_hash_of, judged_of}
+use Rattle.ug_node.specs.Bound.{attrs_of, is_core_long, IsParentRead, LivedUntilProbe}
 use Rattle.ug_audit.specs.declared.entry.Entry.{Entry}
 use Rattle.ug_audit.specs.declared.entry.Entry.TheVariants as entry
 use Rattle.ug_audit.specs.declared.entry.Fault.{Fault}
@@ -93,10 +93,17 @@ AreInOrder [] = Unit {0}
 AreInOrder (name ∷ names) =
     ((other : List ℕ) → Has names other → swept_before name other ≡ true) × AreInOrder names
 
--- each standing is of a device, its number was given out, no name and no number has two, and they
--- are in sweep order; and what one is marked with was done
+-- the standing's hash is the one that the children of its device see: of that device's own files
+abbrev pub HasHash : Kernel → Standing → Type 0
+HasHash k s = (i : ℕ) (d : Device)
+    → slice_get k.held s.held.0 ≡ Some (record { device = i; control = Authorized })
+    → slice_get k.devices i ≡ Some d → s.hash ≡ child_hash_of (attrs_of d) (is_core_long d)
+
+-- each standing is of a device, and has the hash that its children see; its number was given out,
+-- no name and no number has two, and they are in sweep order; and what one is marked with was done
 pub record Stand (k : Kernel) (ss : List Standing) (next : ℕ) : Type 0 where
   pub devices : (s : Standing) → Has ss s → (i : ℕ) × IsDevice k i s.name s.held s.judged
+  pub hashes : (s : Standing) → Has ss s → HasHash k s
   pub numbers : (s : Standing) → Has ss s → s.number < next
   pub names : AllDistinct (names_of ss)
   pub order : AreInOrder (names_of ss)
@@ -147,7 +154,7 @@ wrote_entries number name what outcome =
 abbrev pub IsOne : List Standing → Standing → Type 0
 IsOne ss s =
     (b : Standing) × Has ss b × (s.number ≡ b.number) × (s.name ≡ b.name) × (s.held ≡ b.held)
-    × (s.judged ≡ b.judged) × (s.verdict ≡ b.verdict) × (s.cause ≡ b.cause)
+    × (s.judged ≡ b.judged) × (s.verdict ≡ b.verdict) × (s.cause ≡ b.cause) × (s.hash ≡ b.hash)
 
 -- a standing at the end was there before, or its verdict was told since
 abbrev pub IsTold : List Standing → List Entry → Standing → Type 0

@@ -3,6 +3,8 @@ pub mod Done
 pub mod Bring
 pub mod Table
 pub mod State
+pub mod Parent
+pub mod Ending
 pub mod Settle
 pub mod Sweep
 pub mod Allowed

@@ -20,6 +20,7 @@ use Rattle.ug_types.specs.declared.control.Write.{Write}
 use Rattle.ug_table.specs.Bring.{NeedsMemory}
 use Rattle.ug_table.specs.Standings.{known_of, numbered}
 use Rattle.ug_table.specs.Laws.{Stand, AreDefaulted, Tries, none_before, IsFair, IsGone, IsNamed, IsAsJudged}
+use Rattle.ug_table.specs.Ending.{ending_calls, kept_file}
 use Rattle.ug_table.specs.Parts.{Part}
 use Rattle.ug_table.specs.declared.standing.Standing.{Standing}
 use Rattle.ug_table.specs.declared.standing.Settled.{Settled}
@@ -58,9 +59,10 @@ failed_of settled.Memory = []
 
 -- The settling of a name is one part of a sweep, in which a name without a standing is bound or
 -- isn't, from the standings and the entries before it to those after it. A fault is answered just
--- where a call of the part failed, with its number and count; and want of memory just where it is
--- told. A standing of the name is there where the answer says so, and none where it says that there
--- is nobody. Calls are numbered on, and so both numbers of a fault rise.
+-- where a call of the part failed, but for the probe of its parent's held file, with its number and
+-- count; and want of memory just where it is told. A standing of the name is there where the answer
+-- says so, and none where it says that there is nobody. Calls are numbered on, and so both numbers
+-- of a fault rise.
 pub record GoesAsPart {S : Type 0} (hub : Option Write) (binds : Bool)
     (gives : S → (call : Call) → Answer call → S → Type 0) (calls faults : S → ℕ) (name : List ℕ)
     (s : S) (before : List Standing) (es : List Entry) (t : S) (after : List Standing)
@@ -71,11 +73,12 @@ pub record GoesAsPart {S : Type 0} (hub : Option Write) (binds : Bool)
   pub entries : fs ≡ es ++ rest
   pub part : Part hub binds name before after made rest
   pub why : whys rest ≡ why_of how
-  pub failed : failures made ≡ failed_of how
+  pub failed : failures (ending_calls name (kept_file name before) made) ≡ failed_of how
   pub stands : how ≡ settled.Stands → Has (names_of after) name
   pub nobody : how ≡ settled.Nobody → Has (names_of after) name → ⊥
   pub numbered : AreNumbered (calls s) made
-  pub rises : calls s < 2 ^ 64 → Rises (calls s) (faults s) (failures made)
+  pub rises : calls s < 2 ^ 64
+      → Rises (calls s) (faults s) (failures (ending_calls name (kept_file name before) made))
 
 -- a device of that name lived through
 abbrev pub LivedAs : Kernel → Kernel → List ℕ → ℕ → Type 0

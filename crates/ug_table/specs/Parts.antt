@@ -36,6 +36,7 @@ use Rattle.ug_types.specs.declared.verdict.Held.{Held}
 use Rattle.ug_table.specs.Done.{control_of}
 use Rattle.ug_table.specs.Bring.{is_to_go, default_due}
 use Rattle.ug_table.specs.PartOrder.{GoInOrder}
+use Rattle.ug_table.specs.Ending.{ending_calls, kept_file}
 
 -- the failed call that an `unsettled` entry tells
 abbrev pub told_by : Fault → List FailedCall
@@ -333,20 +334,22 @@ LacksRoom hub name stands calls =
     × (((is_to_go known ≡ true) × FoundNoRoom Remove name calls)
     ⊎ ((what : Write) × (default_due hub name known ≡ Some what) × FoundNoRoom Default name calls))
 
--- One name's part of a sweep, from the standings before it to those after it: its calls are about
--- the name, and are over with one that fails; they are made in the order of a part, in which a name
--- without a standing is bound or isn't; the files that are open after them are those that the
--- name's standing holds; its entries tell that failure, and no other; what is told of want of
--- memory is of a new device, or of one that is still to be removed; each write is due and told, and
--- there is one of each kind at most; there are few calls; each entry bears the name, and the number
--- of its standing; one number at most is given out; and the standings of other names stay.
+-- One name's part of a sweep, from the standings before it to those after it: its calls, but for
+-- the probe of its parent's held file, are about the name, and are over with one that fails; all
+-- are made in the order of a part, in which a name without a standing is bound or isn't; the files
+-- that are open after them are those that the name's standing holds; its entries tell that failure,
+-- and no other; what is told of want of memory is of a new device, or of one that is still to be
+-- removed; each write is due and told, and there is one of each kind at most; there are few calls;
+-- each entry bears the name, and the number of its standing; one number at most is given out; and
+-- the standings of other names stay.
 pub record Part (hub : Option Write) (binds : Bool) (name : List ℕ) (before after : List Standing)
     (calls : List Made) (entries : List Entry) : Type 0 where
-  pub about : AreAbout name (known_files (standing_of name before)) calls
+  pub about : AreAbout name (known_files (standing_of name before))
+      (ending_calls name (kept_file name before) calls)
   pub leaves : files_after (known_files (standing_of name before)) calls
       ≡ known_files (standing_of name after)
-  pub ends : EndsAtFailure [] calls
-  pub told : failures_told entries ≡ failures calls
+  pub ends : EndsAtFailure [] (ending_calls name (kept_file name before) calls)
+  pub told : failures_told entries ≡ failures (ending_calls name (kept_file name before) calls)
   pub last : EndsUnsettled name entries
   pub memory : Has entries (entry.Unsettled name fault.Memory)
       → IsBoundAnew (standing_of name before) calls
@@ -354,8 +357,9 @@ pub record Part (hub : Option Write) (binds : Bool) (name : List ℕ) (before af
   pub due : AreDue (record { last = None; earlier = None; found = None }) calls
   pub single : AtMostOneEach (puts_of calls)
   pub writes : TellsWrites name (puts_of calls) (writes_in entries)
-  pub few : count_calls calls ≤ 14
-  pub order : GoInOrder binds hub name (standing_of name before) entries calls
+  pub few : count_calls calls ≤ 15
+  pub order : GoInOrder binds hub name (kept_file name before) (standing_of name before) entries
+      calls
   pub bears : AllBear name entries
   pub numbers : AreOfNumber (number_of (standing_of name before)) entries
       (number_of (standing_of name after))
@@ -363,15 +367,16 @@ pub record Part (hub : Option Write) (binds : Bool) (name : List ℕ) (before af
   pub others : (other : List ℕ) → (other ≡ name → ⊥)
       → standing_of other after ≡ standing_of other before
 
--- a part for each name, in this order
+-- A part for each name, in this order: all their calls, and those whose failure ends one.
 abbrev pub InParts : Option Write → Bool → List (List ℕ) → List Standing → List Standing → List Made
-    → List Entry → Type 0
-InParts hub binds [] before after calls entries =
-    (after ≡ before) × (calls ≡ []) × (entries ≡ [])
-InParts hub binds (name ∷ names) before after calls entries =
-    (mid : List Standing) × (now later : List Made) × (first rest : List Entry)
-    × (calls ≡ now ++ later) × (entries ≡ first ++ rest)
-    × Part hub binds name before mid now first × InParts hub binds names mid after later rest
+    → List Made → List Entry → Type 0
+InParts hub binds [] before after calls ending entries =
+    (after ≡ before) × (calls ≡ []) × (ending ≡ []) × (entries ≡ [])
+InParts hub binds (name ∷ names) before after calls ending entries =
+    (mid : List Standing) × (now later others : List Made) × (first rest : List Entry)
+    × (calls ≡ now ++ later) × (ending ≡ ending_calls name (kept_file name before) now ++ others)
+    × (entries ≡ first ++ rest) × Part hub binds name before mid now first
+    × InParts hub binds names mid after later others rest
 
 -- these calls close those files, in order
 abbrev pub AreClosings : List Held → List Made → Type 0
@@ -431,20 +436,22 @@ pub record GoesInParts {S J : Type 0} (gives : S → (call : Call) → Answer ca
   pub names : List (List ℕ)
   pub shut : List Made
   pub made : List Made
+  pub ending : List Made
   pub cut : later ≡ shut ++ made
   pub binds : Bool
   pub begins : AfterListing listed.answer (failure_of listed) w.standings head left names shut binds
-  pub parts : InParts w.hub binds names left v.standings made rest
+  pub parts : InParts w.hub binds names left v.standings made ending rest
   pub next : v.next ≡ w.next + length (numbers_given rest)
   pub given : length (numbers_given rest) ≤ count_listed listed.answer
 
 -- In a sweep in parts each call that failed is told with its number and the count of faults after
--- it, and no other is; and calls are numbered on, so that both numbers rise.
+-- it, but for the probes of parents' held files, and no other is; and calls are numbered on, so
+-- that both numbers rise.
 pub record TellsFaults {S J : Type 0} (gives : S → (call : Call) → Answer call → S → Type 0)
     (calls faults : S → ℕ) (s : S) (w : State J) (t : S) (v : State J) : Type 0 where
   pub goes : GoesInParts gives s w t v
   pub exact : failures_told (goes.head ++ goes.rest)
-      ≡ failures (answered Names goes.listed ∷ goes.later)
+      ≡ failures (answered Names goes.listed ∷ (goes.shut ++ goes.ending))
   pub numbered : AreNumbered (calls s) (answered Names goes.listed ∷ goes.later)
   pub rises : calls s < 2 ^ 64 → Rises (calls s) (faults s) (failures_told (goes.head ++ goes.rest))
 

@@ -11,8 +11,6 @@ use Rattle.ug_kernel.specs.declared.calls.Probe.TheVariants as probe
 use Rattle.ug_kernel.specs.Calls.{Ask_alive, Close}
 use Rattle.ug_kernel.specs.Tree.{Prog, Return, Ask, Room, then}
 use Rattle.ug_kernel.specs.Along.{failure_of}
-use Rattle.ug_record.specs.Records.{judged_of}
-use Rattle.ug_node.specs.Bind.{binding}
 use Rattle.ug_node.specs.declared.identity.Bound.{Bound}
 use Rattle.ug_node.specs.declared.identity.Binding.{Binding}
 use Rattle.ug_node.specs.declared.identity.Binding.TheVariants as bound
@@ -23,6 +21,7 @@ use Rattle.ug_audit.specs.declared.entry.Fault.TheVariants as fault
 use Rattle.ug_types.specs.declared.control.Write.{Write}
 use Rattle.ug_table.specs.State.{State, noted, Kept, Answers, Laters, Terms}
 use Rattle.ug_table.specs.Standings.{standing_of, without, did_default, marked, with_standing, settled_standing}
+use Rattle.ug_table.specs.Parent.{binding_for, judged_bound, bound_hash}
 use Rattle.ug_table.specs.Bring.{treating}
 use Rattle.ug_table.specs.declared.standing.Standing.{Standing}
 use Rattle.ug_table.specs.declared.standing.Known.{Known}
@@ -73,12 +72,14 @@ abbrev pub no_room : {J : Type 0} → State J → List ℕ → ℕ → Prog (Set
 no_room w name held = Ask (Close held) (λ closed. unsettled w name fault.Memory)
 
 -- the standing that a verdict makes
-abbrev pub standing_for : {J : Type 0} → State J → List ℕ → ℕ → Judged → Target × Cause → Standing
-standing_for w name held judged given = record {
+abbrev pub standing_for : {J : Type 0} → State J → List ℕ → ℕ → Judged → List ℕ → Target × Cause
+    → Standing
+standing_for w name held judged hash given = record {
   number = w.next;
   name = name;
   held = record { 0 = held };
   judged = judged;
+  hash = hash;
   verdict = given.0;
   cause = given.1;
   settled = false;
@@ -100,35 +101,37 @@ known_in w held given =
 abbrev pub judged_entry : {J : Type 0} → State J → List ℕ → ℕ → Target × Cause → Entry
 judged_entry w name held given = entry.Judged w.next name (record { 0 = held }) given.0 given.1
 
-abbrev pub judging : {J : Type 0} → Option Write → J → State J → List ℕ → ℕ → Judged → Bool
-    → Target × Cause → Prog (Settled × State J)
-judging hub later w name held judged on given =
+abbrev pub judging : {J : Type 0} → Option Write → J → State J → List ℕ → ℕ → Judged → List ℕ
+    → Bool → Target × Cause → Prog (Settled × State J)
+judging hub later w name held judged hash on given =
     then
     (treating hub name (known_in w held given) on
     (w.entries ++ judged_entry w name held given ∷ []))
     (to_keep (record w { next = w.next + 1; judge = later })
-    (standing_for w name held judged given))
+    (standing_for w name held judged hash given))
 
 abbrev pub to_judge : {J : Type 0} → Answers J → Laters J → List ℕ → Terms → State J → Bound
-    → Judged → Prog (Settled × State J)
-to_judge answer later name terms w b judged =
+    → Judged → List ℕ → Prog (Settled × State J)
+to_judge answer later name terms w b judged hash =
     judging terms.hub
     (later w.judge judged (is_none (parent_of name)) terms.present b.on w.standings) w name
-    b.held.0 judged b.on
+    b.held.0 judged hash b.on
     (answer w.judge judged (is_none (parent_of name)) terms.present b.on w.standings)
 
 abbrev pub if_place : {J : Type 0} → Answers J → Laters J → List ℕ → Terms → State J → Bound
-    → Judged → Bool → Prog (Settled × State J)
-if_place answer later name terms w b judged true = to_judge answer later name terms w b judged
-if_place answer later name terms w b judged false = no_room w name b.held.0
+    → Judged → List ℕ → Bool → Prog (Settled × State J)
+if_place answer later name terms w b judged hash true =
+    to_judge answer later name terms w b judged hash
+if_place answer later name terms w b judged hash false = no_room w name b.held.0
 
 abbrev pub if_record : {J : Type 0} → Answers J → Laters J → List ℕ → Terms → State J → Bound → Bool
     → Prog (Settled × State J)
 if_record answer later name terms w b true =
-    Room (if_place answer later name terms w b (judged_of name b.attrs b.parent))
+    Room (if_place answer later name terms w b (judged_bound name w.standings b) (bound_hash b))
 if_record answer later name terms w b false = no_room w name b.held.0
 
--- a bound device gets room for its record and its standing, a verdict and its writes
+-- a bound device gets room for its record with its hash, and for its standing, a verdict and its
+-- writes
 unfoldable pub admitting : {J : Type 0} → Answers J → Laters J → List ℕ → Terms → State J → Bound
     → Prog (Settled × State J)
 admitting answer later name terms w b = Room (if_record answer later name terms w b)
@@ -145,7 +148,7 @@ after_bind answer later name terms w bound.Memory = unsettled w name fault.Memor
 unfoldable pub entering : {J : Type 0} → Answers J → Laters J → List ℕ → Terms → State J
     → Prog (Settled × State J)
 entering answer later name terms w =
-    then (binding name (parent_of name)) (after_bind answer later name terms w)
+    then (binding_for name w.standings) (after_bind answer later name terms w)
 
 -- a standing that was tried again
 abbrev pub tried_standings : List Standing → List ℕ → Settled → List Standing

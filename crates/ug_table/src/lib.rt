@@ -5,6 +5,7 @@ mod bring;
 mod judge;
 mod kept;
 mod order;
+mod parent;
 mod settle;
 mod slots;
 mod standing;

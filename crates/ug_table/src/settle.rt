@@ -17,14 +17,14 @@ ghost use Rattle.ug_table.specs.Settle.{stopped_by, unsettled_by, stands, kept_s
 use crate::bring::{is_reject, treat};
 use crate::judge::Judge;
 use crate::kept::Standings;
+use crate::parent::{bind_name, facts_of};
 use crate::standing::{Known, Settled, Standing};
 use crate::table::{Table, known_of};
 use std::alloc::Global;
 use ug_audit::{Auditor, Entry, Fault, Journal};
 use ug_kernel::{Probe, Sysfs, Write};
-use ug_node::{Binding, Bound, bind, failed_call, reprobe};
-use ug_record::record_of;
-use ug_types::{Held, Judged, NodeName};
+use ug_node::{Binding, Bound, failed_call, reprobe};
+use ug_types::{Held, Judged, NodeName, Text};
 
 // Whether the name is a root hub's.
 fn is_controller(name: &NodeName) -> bool
@@ -151,6 +151,7 @@ impl Table {
         judge: &mut A,
         bound: &Bound,
         judged: Judged,
+        hash: Text,
         hub_default: Option<Write>,
         out: &mut Journal,
     ) -> Settled
@@ -160,7 +161,7 @@ impl Table {
         ensures runs { Runs Y.gives sysfs.old
             (Room (if_place A.answer A.later name.now (terms_of present hub_default)
             (state_of hub_default self.old (A.meaning judge.old) (noted_in out.old).entries)
-            bound.now judged))
+            bound.now judged hash))
             (result, state_of hub_default self.new (A.meaning judge.new) (noted_in out.new).entries)
             sysfs.new }
         ensures journal { Notes (λ b. ⟦<dyn Auditor as Auditor>⟧ b.vtable) 9 out.old out.new }
@@ -182,6 +183,7 @@ impl Table {
             name: *name,
             held,
             judged,
+            hash,
             verdict,
             cause,
             settled: false,
@@ -221,8 +223,8 @@ impl Table {
         ensures len { length self.new.standings ≤ length self.old.standings + 1 }
         ensures next { self.new.next ≤ self.old.next + 1 }
     {
-        let judged = match record_of(alloc, name, &bound.attrs, bound.parent.as_ref()) {
-            Ok(judged) => judged,
+        let (judged, hash) = match facts_of(alloc, &self.standings, name, &bound) {
+            Ok(facts) => facts,
             Err(_) => return self.lack_memory(sysfs, name, bound.held, judge, hub_default, out),
         };
         self.judge_bound(
@@ -233,6 +235,7 @@ impl Table {
             judge,
             &bound,
             judged,
+            hash,
             hub_default,
             out,
         )
@@ -262,7 +265,7 @@ impl Table {
         ensures len { length self.new.standings ≤ length self.old.standings + 1 }
         ensures next { self.new.next ≤ self.old.next + 1 }
     {
-        match bind(alloc, sysfs, name) {
+        match bind_name(alloc, &self.standings, sysfs, name) {
             Binding::Bound(bound) => self.admit(
                 alloc,
                 sysfs,

@@ -1,7 +1,7 @@
 // How a device stands.
 use ug_audit::Fault;
 use ug_kernel::FailedCall;
-use ug_types::{Cause, Held, Judged, NodeName, Target};
+use ug_types::{Cause, Held, Judged, NodeName, Target, Text};
 
 /// A device that was judged, with the file by which it is known.
 #[derive(Drop)]
@@ -11,6 +11,9 @@ pub struct Standing {
     /// Its `authorized` file.
     pub held: Held,
     pub judged: Judged,
+    /// What its children see as their parent's hash: that of its own files. It is empty where it is malformed, or one of the
+    /// files that it is made of was too long.
+    pub hash: Text,
     pub verdict: Target,
     pub cause: Cause,
     /// Its last settling came to its end without a failure.

@@ -16,6 +16,7 @@ invariant_of-self-3 g c =
       name = c.args.name.now;
       held = c.args.bound.now.held;
       judged = c.args.judged;
+      hash = c.args.hash;
       verdict = c.verdict-verdict.result.0;
       cause = c.verdict-verdict.result.1;
       settled = false;
