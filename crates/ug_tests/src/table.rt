@@ -95,14 +95,14 @@ fn next_after(table: &Table, number: u64) -> Option<u64> {
 fn settles_a_standing_again(rt: HostRuntime) {
     let alloc = rt.alloc();
     let mut kernel = hub_and_key(alloc, true).expect(&rt, "memory");
-    kernel.fail(17, false).expect(&rt, "memory");
+    kernel.fail(15, false).expect(&rt, "memory");
     let (mut table, mut entries) = swept(alloc, &mut kernel).expect(&rt, "memory");
     let failed: [&[u8]; 5] = [
         b"judged 1 usb1 allow implicit",
         b"judged 2 1-1 reject implicit",
         b"intent 2 1-1 off",
         b"wrote 2 1-1 off failed",
-        b"unsettled 1-1 fault 17 1",
+        b"unsettled 1-1 fault 15 1",
     ];
     assert!(rt; notes(&entries, &failed));
     let settled = again(alloc, &mut table, &mut kernel, 2, &mut entries);
