@@ -58,7 +58,7 @@ rests : (o : Option Disk) → StaysOnDisk o o
 rests o n is = (n, is, record { text = refl; fresh = refl; synced = refl; left = refl })
 
 nothing_stands : (k : Kernel) → Stand k [] 1
-nothing_stands k = record { devices = λ s h. absurd h; numbers = λ s h. absurd h; names = tt; order = tt; distinct = tt; done = λ control s h e. absurd h }
+nothing_stands k = record { devices = λ s h. absurd h; hashes = λ s h. absurd h; numbers = λ s h. absurd h; names = tt; order = tt; distinct = tt; done = λ control s h e. absurd h }
 
 stands_after : (k : Kernel) (d : DaemonState) (m : Kernel) (e : DaemonState) → Handled k d m e → Stand m e.sweep.standings e.sweep.next
 stands_after k d m e h = subst (λ (v : State Judging). Stand m v.standings v.next) (sym h.entries) h.law.fair.stand
