@@ -3,25 +3,27 @@ use Rattle.std.proofs.Common.{◌≡◌, ℕ, Bool, true, false, not, ◌&&◌, 
 use Rattle.std.specs.List.{list_any}
 use Rattle.std.proofs.lemmas.Bool.{or_left, or_parts, or_right}
 use Rattle.std.proofs.lemmas.List.Folds.{list_any-append}
-use Rattle.ug_table.proofs.Common.{Terms, in_sweep_order, Held, Made, failures, FailedCall, Entry, State, Answers, Laters, farewells, AreClosings, unlisted_files, failure_in, failures_told, Fault}
+use Rattle.ug_table.proofs.Common.{Terms, in_sweep_order, Held, Names, Made, failure, failures, failures_more, ending_calls, kept_file, FailedCall, Entry, State, Answers, Laters, farewells, AreClosings, unlisted_files, failure_in, failures_told, Fault}
 use Rattle.ug_kernel.specs.Tree.{Prog, Return, Runs, then}
 use Rattle.ug_kernel.proofs.Ways.{Ways, ways_more, ways_last}
 use Rattle.ug_sysfs.specs.World.{IsUnfailing, World, Gives}
 use Rattle.ug_table.specs.Sweep.{sweeping}
 use Rattle.ug_table.proofs.Standings.{farewells_by}
+use Rattle.ug_table.proofs.Shapes.{told_at}
 use Rattle.ug_table.proofs.Chains.{Chain, Over, First, List_failed, List_short, No_room, Goes, Listed, Unlisted, Comes, sweeping_by, goes_entries}
-use Rattle.ug_table.proofs.Faults.{goes_tells}
+use Rattle.ug_table.proofs.Faults.{Thinner, None_left, chain_ending, ending_thin, goes_ending, goes_tells, thin_more, thin_refl}
 use Rattle.ug_play.specs.Play.{play, entry_tells_memory, tells_memory, TellsMemory, IsPlayed, names_somebody, NameNobody}
 use Rattle.ug_table.proofs.PartCalls.{has_want, want_more}
 use Rattle.ug_play.proofs.Plays.{refused, play_way, TellsWant, played}
 use Rattle.ug_play.proofs.Wants.{memory_more, flat_want}
 
--- entries that are added tell want of memory just where memory was refused, and the failed calls
+-- entries that are added tell want of memory just where memory was refused, and no failed call where
+-- none failed
 pub record Sums (es : List Entry) (ok : Bool) (ms : List Made) (fs : List Entry) : Type 0 where
   pub rest : List Entry
   pub entries : fs ≡ es ++ rest
   pub wants : tells_memory rest ≡ refused ok ms
-  pub faults : failures_told rest ≡ failures ms
+  pub faults : failures ms ≡ [] → failures_told rest ≡ []
 
 pub refused_more : (a b x y : Bool) → ((not a || x) || (not b || y)) ≡ (not (a && b) || (x || y))
 refused_more true true x y = refl
@@ -65,6 +67,43 @@ goes_wants (Unlisted list failed room why ok made es v (List_short last) c) = sy
     (or_right (not ok) true refl)
 goes_wants (Unlisted list failed room why ok made es v (No_room found last) c) = refl
 
+thin_calm : (fs gs : List FailedCall) → Thinner fs gs → fs ≡ [] → gs ≡ []
+thin_calm fs gs t e = by (subst (λ (v : List FailedCall). Thinner v gs) e t)
+  where
+    by : {hs : List FailedCall} → Thinner [] hs → hs ≡ []
+    by None_left = refl
+
+-- some are left out of the failed calls that are told
+chain_thin : {J : Type 0} {answer : Answers J} {later : Laters J} {binds : Bool} {terms : Terms}
+    {names : List (List ℕ)} {w v : State J} {ok : Bool} {ms : List Made} {es : List Entry}
+    → (c : Chain answer later binds terms names w ok ms es v)
+    → Thinner (failures ms) (failures (chain_ending c))
+chain_thin (Over w) = None_left
+chain_thin (First name names how w x v ok more ms ns es p c) =
+    let own : List Made = ending_calls name (kept_file name w.standings) ms in
+    subst (λ (fs : List FailedCall). Thinner fs (failures (own ++ chain_ending c)))
+    (sym (failures_more ms ns))
+    (subst (λ (fs : List FailedCall). Thinner (failures ms ++ failures ns) fs)
+    (sym (failures_more own (chain_ending c)))
+    (thin_more (ending_thin name (kept_file name w.standings) ms) (chain_thin c)))
+
+goes_thin : {J : Type 0} {answer : Answers J} {later : Laters J} {w v : State J} {ok : Bool}
+    {ms : List Made} {es : List Entry} → (g : Goes answer later w ok ms es v)
+    → Thinner (failures ms) (failures (goes_ending g))
+goes_thin (Listed found failed ok shut made es v closings c) =
+    subst (λ (fs : List FailedCall). Thinner fs (failures (shut ++ chain_ending c)))
+    (sym (failures_more shut made))
+    (subst (λ (fs : List FailedCall). Thinner (failures shut ++ failures made) fs)
+    (sym (failures_more shut (chain_ending c)))
+    (thin_more (thin_refl (failures shut)) (chain_thin c)))
+goes_thin (Unlisted list failed room why ok made es v by c) =
+    thin_more (thin_refl (failure Names (told_at list failed))) (chain_thin c)
+
+goes_calm : {J : Type 0} {answer : Answers J} {later : Laters J} {w v : State J} {ok : Bool}
+    {ms : List Made} {es : List Entry} → Goes answer later w ok ms es v → failures ms ≡ []
+    → failures_told es ≡ []
+goes_calm {ms = ms} g e = goes_tells g ∙ thin_calm (failures ms) (failures (goes_ending g)) (goes_thin g) e
+
 pub sweeping_sums : {J : Type 0} (answer : Answers J) (later : Laters J) (w : State J)
     → Ways (sweeping answer later w) (λ ok ms v. Sums w.entries ok ms v.entries)
 sweeping_sums answer later w =
@@ -74,7 +113,7 @@ sweeping_sums answer later w =
       rest = x.0;
       entries = goes_entries x.1;
       wants = goes_wants x.1;
-      faults = goes_tells x.1;
+      faults = goes_calm x.1;
     })
     (sweeping_by answer later w)
 
@@ -122,4 +161,4 @@ nobody_told (e ∷ es) m f = nobody_told es (or_parts (entry_tells_memory e) (te
 pub quiet_sweep : {J : Type 0} (answer : Answers J) (later : Laters J) (w : State J) (s : World) → s.ran_out ≡ false → IsUnfailing s → NameNobody w.entries → NameNobody (play (sweeping answer later w) s).0.entries
 quiet_sweep {J} answer later w s o e n =
     let k = play_way (λ ok ms v. Sums w.entries ok ms v.entries) (sweeping answer later w) s (sweeping_sums answer later w) in
-    subst (λ (v : List Entry). NameNobody v) (sym k.so.entries) (nobody_more w.entries k.so.rest n (nobody_told k.so.rest (k.so.wants ∙ k.sure) (k.so.faults ∙ k.calm o e)))
+    subst (λ (v : List Entry). NameNobody v) (sym k.so.entries) (nobody_more w.entries k.so.rest n (nobody_told k.so.rest (k.so.wants ∙ k.sure) (k.so.faults (k.calm o e))))
