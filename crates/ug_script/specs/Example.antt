@@ -107,15 +107,15 @@ plugged_in =
     let p : Played = event_at 100 first_played in
     record p { world = with_devices (plugged key (over p.world).kernel.devices) (over p.world) }
 
--- the key goes and the other device takes its name, just before the twelfth call
+-- the key goes and the other device takes its name, just before the tenth call
 abbrev pub replaced : List Scheduled
 replaced =
-    record { call = 12; after = false; action = Unplug (codes "1-1") }
-    ∷ record { call = 12; after = false; action = Plug other } ∷ []
+    record { call = 10; after = false; action = Unplug (codes "1-1") }
+    ∷ record { call = 10; after = false; action = Plug other } ∷ []
 
--- the twelfth call fails, and has its effect all the same
+-- the tenth call fails, and has its effect all the same
 abbrev pub failing : List Failing
-failing = record { call = 12; effect = true } ∷ []
+failing = record { call = 10; effect = true } ∷ []
 
 -- no rule, and no device that comes is authorised
 abbrev pub with_none : SetupState

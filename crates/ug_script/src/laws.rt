@@ -165,7 +165,7 @@ pub fn worked_law()
         ∷ entry.Judged 2 (codes "1-1") (record { 0 = 1 }) target.Allow (cause.Rule 1)
         ∷ entry.Intent 2 (codes "1-1") write.On
         ∷ entry.Wrote 2 (codes "1-1") write.On wrote.Failed
-        ∷ entry.Unsettled (codes "1-1") (fault.Call (record { call = 12; count = 1 }))
+        ∷ entry.Unsettled (codes "1-1") (fault.Call (record { call = 10; count = 1 }))
         ∷ entry.End 2 ∷ [] }
     ensures again { (event_at 102 (event_with 101 [] failing plugged_in)).daemon.sweep.entries
         ≡ entry.Event 3 (record { 0 = 102 }) ∷ entry.End 3 ∷ [] }
