@@ -4,6 +4,7 @@ use Rattle.ug_types.specs.Elements.{Has}
 use Rattle.ug_types.proofs.Elements.{has_cases}
 use Rattle.ug_types.specs.Names.{parent_of}
 use Rattle.ug_types.specs.declared.control.Control.TheVariants.{Authorized}
+use Rattle.ug_types.specs.declared.record.Attrs.{Attrs}
 use Rattle.ug_types.specs.declared.record.DeviceRecord.{DeviceRecord}
 use Rattle.ug_types.specs.declared.record.Judged.{Judged}
 use Rattle.ug_types.specs.declared.record.Judged.TheVariants as judged
@@ -12,7 +13,6 @@ use Rattle.ug_types.specs.declared.verdict.Held.{Held}
 use Rattle.ug_types.specs.declared.verdict.Target.{Target}
 use Rattle.ug_conf.specs.declared.settings.Present.{Present}
 use Rattle.ug_types.specs.Sweep.{in_sweep_order}
-use Rattle.ug_record.specs.Records.{judged_of}
 use Rattle.ug_kernel.specs.declared.calls.Listing.{Listing}
 use Rattle.ug_kernel.specs.declared.calls.Opened.{Opened}
 use Rattle.ug_kernel.specs.declared.calls.Probe.{Probe}
@@ -23,23 +23,27 @@ use Rattle.ug_kernel.specs.Calls.{Call, Names, Open, Read, Ask_alive, Put, Close
 use Rattle.ug_kernel.specs.Kernel.{Kernel, IsKernel}
 use Rattle.ug_kernel.specs.Tree.{Runs, calls}
 use Rattle.ug_kernel.proofs.Quiet.{WritesNothing, moves_quiet, quiet_trans}
-use Rattle.ug_kernel.proofs.Ways.{Unwritten, Ways, along_quiet, along_split, ways_last, ways_run}
+use Rattle.ug_kernel.proofs.Ways.{Unwritten, Way, Ways, along_quiet, along_split, ways_last, ways_run}
 use Rattle.ug_node.specs.Bind.{binding_of}
+use Rattle.ug_node.specs.declared.files.OwnFiles.{OwnFiles}
 use Rattle.ug_node.specs.declared.files.Stop.{Stop}
 use Rattle.ug_node.specs.declared.identity.Binding.{Binding}
 use Rattle.ug_node.specs.declared.identity.Bound.{Bound}
-use Rattle.ug_node.proofs.BindShapes.{Binds_by, Bound_by, Cut, Reads, No_more, Then_read, told, way_binds}
+use Rattle.ug_node.proofs.BindShapes.{Binds_by, Bound_by, Cut, Reads, No_more, Then_read, reads_own, reads_parents, told, way_binds}
+use Rattle.ug_node.proofs.UnderShapes.{Behind_by, Cut_behind, Found_alive, Probed_by, Read_behind, Under_alive, Under_by, Under_cut, Under_other}
 use Rattle.ug_audit.specs.declared.entry.Entry.{Entry}
 use Rattle.ug_policy.specs.declared.entry.RuleEntry.{RuleEntry}
 use Rattle.ug_policy.specs.Deciding.{Found, decider}
 use Rattle.ug_policy.specs.Matching.{answer_by}
 use Rattle.ug_table.specs.Allowed.{allowed_records}
+use Rattle.ug_table.specs.Parent.{binding_by, binding_for, judged_bound, parent_standing}
 use Rattle.ug_table.specs.Parts.{numbers_given}
 use Rattle.ug_table.specs.Standings.{farewells, lists}
 use Rattle.ug_table.specs.State.{State, Terms}
 use Rattle.ug_table.specs.Sweep.{sweeping}
 use Rattle.ug_table.specs.declared.standing.Settled.{Settled}
 use Rattle.ug_table.specs.declared.standing.Standing.{Standing}
+use Rattle.ug_table.proofs.Above.{above_has, way_under}
 use Rattle.ug_table.proofs.Chains.{Chain, Over, First, Goes, Listed, Unlisted, Comes, goes_entries, sweeping_by}
 use Rattle.ug_table.proofs.OnePart.{flat_given, given_count}
 use Rattle.ug_table.proofs.Shapes.{Flat, IsGiven, Judged_so, told_at}
@@ -138,6 +142,40 @@ binding_binds (Bound_by call count number total ms x reads first are) = record {
   found = refl;
 }
 
+-- under the held file of the parent
+
+-- the opening, calls that ask, and the probe that ends it
+probed_binds : {name : List ℕ} {file : Held} {own : OwnFiles} {parent : Option Attrs} {ns : List Made} {x : Bound} (call count : ℕ) (asked : List Made) → AllOnlyAsk asked → Probed_by file own parent ns (Binding.Bound x) → Binds name x.held x.on (answered (Open name Authorized) (told (Opened.Token file) call count) ∷ (asked ++ ns))
+probed_binds {file = file} call count asked only (Found_alive on number total) = record {
+  earlier = [];
+  opening = told (Opened.Token file) call count;
+  asked = asked;
+  probing = told (Probe.Alive on) number total;
+  later = [];
+  cut = refl;
+  token = refl;
+  only = only;
+  found = refl;
+}
+
+under_binds : {name parent : List ℕ} {kept : ℕ} {ms : List Made} {x : Bound} → Under_by name parent kept ms (Binding.Bound x) → Binds name x.held x.on ms
+under_binds {x = x} (Under_cut file call count ms at t shut why r left own first stops e) = absurd (stop_unbound why x e)
+under_binds {name} {parent} {kept} (Under_alive file call count d p s c on number total ns r own h) =
+    probed_binds call count (reads_own name d p s c (answered (Ask_alive kept) (told (Probe.Alive on) number total) ∷ [])) (tt, (tt, (tt, (tt, (tt, tt))))) h
+under_binds {name} {parent} {kept} {x = x} (Under_other file call count d p s c t ns r isnt own h) = by h
+  where
+    by : {own : OwnFiles} {ns : List Made} → Behind_by name parent file own ns (Binding.Bound x) → Binds name x.held x.on (answered (Open name Authorized) (told (Opened.Token file) call count) ∷ reads_own name d p s c (answered (Ask_alive kept) t ∷ ns))
+    by (Cut_behind ms at t shut why r left a first stops e) = absurd (stop_unbound why x e)
+    by (Read_behind u v w ns r a first h) = probed_binds call count (reads_own name d p s c (answered (Ask_alive kept) t ∷ reads_parents parent u v w)) (tt, (tt, (tt, (tt, (tt, (tt, (tt, (tt, tt)))))))) h
+
+-- beside the standing of the parent, if there is one
+beside_binds : (name : List ℕ) (ss : List Standing) (ms : List Made) (x : Bound) → Way (binding_for name ss) ms (Binding.Bound x) → Binds name x.held x.on ms
+beside_binds name ss ms x way = by (parent_standing name ss) refl way
+  where
+    by : (o : Option Standing) → parent_standing name ss ≡ o → Way (binding_by name o) ms (Binding.Bound x) → Binds name x.held x.on ms
+    by None e way = binding_binds (way_binds name ms (Binding.Bound x) way)
+    by (Some s) e way = under_binds (way_under name s ms (Binding.Bound x) (above_has name ss s e).1 way)
+
 -- entries that give out one number have one verdict
 
 abbrev Tells : List Entry → ℕ → List ℕ → Held → Target → Cause → Type 0
@@ -180,13 +218,13 @@ part_got terms name w number other held verdict cause (Judged_so ms ns os es fs 
     let file : x.held ≡ held = cc in
     let judged : x.verdict ≡ verdict = cc in
     let why : x.cause ≡ cause = cc in
-    let own : Binds name b.held b.on ns = binding_binds (way_binds name ns (Binding.Bound b) way) in
+    let own : Binds name b.held b.on ns = beside_binds name rs ns b way in
     let whole : Binds name b.held b.on (ms ++ (ns ++ os)) = binds_behind ms (binds_more os own) in
     let placed : Binds other held b.on (ms ++ (ns ++ os)) = subst (λ (v : Held). Binds other v b.on (ms ++ (ns ++ os))) (sym new.held ∙ file) (subst (λ (v : List ℕ). Binds v b.held b.on (ms ++ (ns ++ os))) named whole) in
     record {
       on = b.on;
       calls = placed;
-      keeps = λ k. sym judged ∙ ap (λ (s : Standing). s.verdict) given ∙ verdict_keeps w.judge (allowed_records rs) (judged_of name b.attrs b.parent) (is_none (parent_of name)) terms.present b.on (sym (ap (λ (s : Standing). s.cause) given) ∙ why ∙ k);
+      keeps = λ k. sym judged ∙ ap (λ (s : Standing). s.verdict) given ∙ verdict_keeps w.judge (allowed_records rs) (judged_bound name rs b) (is_none (parent_of name)) terms.present b.on (sym (ap (λ (s : Standing). s.cause) given) ∙ why ∙ k);
     }
 part_got terms name w {es = es} number other held verdict cause f one a =
     let least = tells_given es number other held verdict cause a in

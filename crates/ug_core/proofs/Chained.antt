@@ -48,7 +48,7 @@ pub started_so : (policy : Judging) (hub : Option Write) (number : ℕ) (k : Ker
 started_so policy hub number k d s =
     let none : (x : Standing) → Has d.sweep.standings x → ⊥ = λ x a. subst (λ (ss : List Standing). Has ss x) s.standings a in
     record {
-      stand = subst (λ (ss : List Standing). Stand k ss d.sweep.next) (sym s.standings) (record { devices = λ x a. absurd a; numbers = λ x a. absurd a; names = tt; order = tt; distinct = tt; done = λ control x a. absurd a });
+      stand = subst (λ (ss : List Standing). Stand k ss d.sweep.next) (sym s.standings) (record { devices = λ x a. absurd a; hashes = λ x a. absurd a; numbers = λ x a. absurd a; names = tt; order = tt; distinct = tt; done = λ control x a. absurd a });
       steps = [];
       told = refl;
       can = tt;

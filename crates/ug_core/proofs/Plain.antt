@@ -11,16 +11,15 @@ use Rattle.ug_kernel.specs.declared.calls.Probe.TheVariants as probe
 use Rattle.ug_kernel.specs.Calls.{Call, Answer}
 use Rattle.ug_kernel.specs.Tree.{Prog, Return, Ask, Room, Runs, then}
 use Rattle.ug_kernel.specs.Along.{failure_of}
-use Rattle.ug_node.specs.Bind.{binding}
 use Rattle.ug_node.specs.declared.identity.Bound.{Bound}
 use Rattle.ug_node.specs.declared.identity.Binding.{Binding}
 use Rattle.ug_node.specs.declared.identity.Binding.TheVariants as bound
-use Rattle.ug_record.specs.Records.{judged_of}
 use Rattle.ug_audit.specs.declared.entry.Entry.TheVariants as entry
 use Rattle.ug_audit.specs.declared.entry.Fault.{Fault}
 use Rattle.ug_audit.specs.declared.entry.Fault.TheVariants as fault
 use Rattle.ug_table.specs.Allowed.{allowed_records}
 use Rattle.ug_table.specs.Bring.{treating}
+use Rattle.ug_table.specs.Parent.{binding_for, judged_bound, bound_hash}
 use Rattle.ug_table.specs.Settle.{to_keep, known_in, judged_entry, standing_for, to_judge, if_place, if_record, admitting, after_bind, entering, to_mark, dropped, after_known, from_standing, settling}
 use Rattle.ug_table.specs.Standings.{standing_of}
 use Rattle.ug_table.specs.State.{State, Terms, kept_of, terms_for}
@@ -64,21 +63,21 @@ Stays j w = SameRules j.judge w × (w.hub ≡ j.hub)
 abbrev SameAfter : State Judging → Settled × State Judging → Type 0
 SameAfter j p = Stays j p.1
 
-judge_so : (j : State Judging) (name : List ℕ) (terms : Terms) (w : State Judging) (b : Bound) (judged : Judged) → Stays j w → EndsSo (SameAfter j) (to_judge policy_answer policy_later name terms w b judged)
-judge_so j name terms w b judged h =
+judge_so : (j : State Judging) (name : List ℕ) (terms : Terms) (w : State Judging) (b : Bound) (judged : Judged) (hash : List ℕ) → Stays j w → EndsSo (SameAfter j) (to_judge policy_answer policy_later name terms w b judged hash)
+judge_so j name terms w b judged hash h =
     let given = policy_answer w.judge judged (is_none (parent_of name)) terms.present b.on w.standings in
     let later : Judging = policy_later w.judge judged (is_none (parent_of name)) terms.present b.on w.standings in
     let same : as_given later.rules ≡ as_given j.judge.rules = rules_stay w.judge (allowed_records w.standings) judged (is_none (parent_of name)) terms.present ∙ h.0 in
     ends_after (SameAfter j) (treating terms.hub name (known_in w b.held.0 given) b.on (w.entries ++ judged_entry w name b.held.0 given ∷ []))
-    (to_keep (record w { next = w.next + 1; judge = later }) (standing_for w name b.held.0 judged given))
+    (to_keep (record w { next = w.next + 1; judge = later }) (standing_for w name b.held.0 judged hash given))
     (λ p. (same, h.1))
 
-place_so : (j : State Judging) (name : List ℕ) (terms : Terms) (w : State Judging) (b : Bound) (judged : Judged) (place : Bool) → Stays j w → EndsSo (SameAfter j) (if_place policy_answer policy_later name terms w b judged place)
-place_so j name terms w b judged true h = judge_so j name terms w b judged h
-place_so j name terms w b judged false h = λ closed. h
+place_so : (j : State Judging) (name : List ℕ) (terms : Terms) (w : State Judging) (b : Bound) (judged : Judged) (hash : List ℕ) (place : Bool) → Stays j w → EndsSo (SameAfter j) (if_place policy_answer policy_later name terms w b judged hash place)
+place_so j name terms w b judged hash true h = judge_so j name terms w b judged hash h
+place_so j name terms w b judged hash false h = λ closed. h
 
 record_so : (j : State Judging) (name : List ℕ) (terms : Terms) (w : State Judging) (b : Bound) (room : Bool) → Stays j w → EndsSo (SameAfter j) (if_record policy_answer policy_later name terms w b room)
-record_so j name terms w b true h = λ place. place_so j name terms w b (judged_of name b.attrs b.parent) place h
+record_so j name terms w b true h = λ place. place_so j name terms w b (judged_bound name w.standings b) (bound_hash b) place h
 record_so j name terms w b false h = λ closed. h
 
 bind_so : (j : State Judging) (name : List ℕ) (terms : Terms) (w : State Judging) (found : Binding) → Stays j w → EndsSo (SameAfter j) (after_bind policy_answer policy_later name terms w found)
@@ -91,7 +90,7 @@ bind_so j name terms w bound.Memory h = h
 
 enter_so : (j : State Judging) (name : List ℕ) (terms : Terms) (w : State Judging) → Stays j w → EndsSo (SameAfter j) (entering policy_answer policy_later name terms w)
 unfolding entering
-enter_so j name terms w h = ends_after (SameAfter j) (binding name (parent_of name)) (after_bind policy_answer policy_later name terms w) (λ found. bind_so j name terms w found h)
+enter_so j name terms w h = ends_after (SameAfter j) (binding_for name w.standings) (after_bind policy_answer policy_later name terms w) (λ found. bind_so j name terms w found h)
 
 known_so : (j : State Judging) (name : List ℕ) (terms : Terms) (w : State Judging) (known : Known) (a : Probe) (failed : FailedCall) → Stays j w → EndsSo (SameAfter j) (after_known policy_answer policy_later name terms w known a failed)
 known_so j name terms w known (probe.Alive on) failed h = ends_after (SameAfter j) (treating terms.hub name known on w.entries) (to_mark w name) (λ p. h)

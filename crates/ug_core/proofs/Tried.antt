@@ -72,10 +72,10 @@ bearing_none name [] h = refl
 bearing_none name (entry.Save saved ∷ es) h = absurd h.0
 bearing_none name (e ∷ es) h = bearing_none name es h.1
 
-parts_none : (hub : Option Write) (binds : Bool) (names : List (List ℕ)) (before after : List Standing) (calls : List Made) (entries : List Entry) → InParts hub binds names before after calls entries → saves_in entries ≡ []
-parts_none hub binds [] before after calls entries h = ap (λ (es : List Entry). saves_in es) h.2
-parts_none hub binds (name ∷ names) before after calls entries h =
-    ap (λ (es : List Entry). saves_in es) h.6 ∙ none_both h.3 h.4 (bearing_none name h.3 h.7.bears) (parts_none hub binds names h.0 after h.2 h.4 h.8)
+parts_none : (hub : Option Write) (binds : Bool) (names : List (List ℕ)) (before after : List Standing) (calls ending : List Made) (entries : List Entry) → InParts hub binds names before after calls ending entries → saves_in entries ≡ []
+parts_none hub binds [] before after calls ending entries h = ap (λ (es : List Entry). saves_in es) h.3
+parts_none hub binds (name ∷ names) before after calls ending entries h =
+    ap (λ (es : List Entry). saves_in es) h.8 ∙ none_both h.4 h.5 (bearing_none name h.4 h.9.bears) (parts_none hub binds names h.0 after h.2 h.3 h.5 h.10)
 
 farewells_none : (names : List (List ℕ)) (ss : List Standing) → saves_in (farewells names ss) ≡ []
 farewells_none names [] = refl
@@ -224,7 +224,7 @@ tries_save gives calls faults keeps event o d tried q s became made m p a r t e 
     let b : Behind became (ready event tried d) a = answer_behind gives calls faults keeps event s q (ready event tried d) became made m p a answers goes in
     let both : List Entry = parts.head ++ parts.rest in
     let last : List Entry = both ++ entry.End a.event ∷ [] in
-    let none : saves_in last ≡ [] = none_both both (entry.End a.event ∷ []) (none_both parts.head parts.rest (head_none parts.listed.answer (failure_of parts.listed) a.sweep.standings parts.head parts.left parts.names parts.shut parts.binds parts.begins) (parts_none a.sweep.hub parts.binds parts.names parts.left swept.standings parts.made parts.rest parts.parts)) refl in
+    let none : saves_in last ≡ [] = none_both both (entry.End a.event ∷ []) (none_both parts.head parts.rest (head_none parts.listed.answer (failure_of parts.listed) a.sweep.standings parts.head parts.left parts.names parts.shut parts.binds parts.begins) (parts_none a.sweep.hub parts.binds parts.names parts.left swept.standings parts.made parts.ending parts.rest parts.parts)) refl in
     let adds : Adds (saves_stored became) (ready event tried d).sweep.entries e.sweep.entries =
     adds_behind (saves_stored became) (ready event tried d).sweep.entries a.sweep.entries e.sweep.entries last b.entries
     (ap (λ (v : State Judging). v.entries) ends ∙ ap (λ (es : List Entry). es ++ entry.End a.event ∷ []) parts.entries ∙ append_assoc a.sweep.entries both (entry.End a.event ∷ [])) none in

@@ -90,8 +90,9 @@ Handles told s d t e =
     → (k : Kernel) × (told s ≡ Some k)
     × (IsKernel k → Stand k d.sweep.standings d.sweep.next → Handled k d l e)
 
--- The calls of the sweep are in parts. Each that failed is told with its number and the count of
--- faults after it, and no other is; and calls are numbered on.
+-- The calls of the sweep are in parts. Each that failed, but for the probes of parents' held files,
+-- is told with its number and the count of faults after it, and no other is; and calls are numbered
+-- on.
 pub record TellsSweep {S : Type 0} (gives : S → (call : Call) → Answer call → S → Type 0)
     (calls faults : S → ℕ) (s : S) (d : DaemonState) (t : S) (e : DaemonState) : Type 0 where
   pub swept : State Judging
@@ -420,8 +421,9 @@ RunsAnswer gives keeps (Order moment who line) s o d became t p a =
 -- ---- a whole event
 
 -- The calls of an event, from where it begins, are those of its order and of a sweep in parts, and
--- are numbered from 1. Each that failed is told with its number and the count of faults after it,
--- and no other is; and both numbers rise from one to the next.
+-- are numbered from 1. Each that failed, but for the probes of parents' held files, is told with its
+-- number and the count of faults after it, and no other is; and both numbers rise from one to the
+-- next.
 pub record TellsEvent {S : Type 0} (gives : S → (call : Call) → Answer call → S → Type 0)
     (calls faults : S → ℕ) (event : Event) (s : S) (d : DaemonState) (became : Stored) (m : S)
     (a : DaemonState) (t : S) (e : DaemonState) : Type 0 where
@@ -432,7 +434,7 @@ pub record TellsEvent {S : Type 0} (gives : S → (call : Call) → Answer call 
   pub goes : GoesInParts gives m a.sweep t swept
   pub entries : e.sweep ≡ record swept { entries = swept.entries ++ entry.End a.event ∷ [] }
   pub exact : failures_told e.sweep.entries
-      ≡ failures (order ++ answered Names goes.listed ∷ goes.later)
+      ≡ failures (order ++ answered Names goes.listed ∷ (goes.shut ++ goes.ending))
   pub numbered : AreNumbered 0 (order ++ answered Names goes.listed ∷ goes.later)
   pub rises : Rises 0 (faults s) (failures_told e.sweep.entries)
 

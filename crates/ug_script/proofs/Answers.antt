@@ -398,7 +398,7 @@ swept_so a ok ms v sums =
       rest = sums.rest ++ last;
       entries = ap (λ (es : List Entry). es ++ last) sums.entries ∙ append_assoc a.sweep.entries sums.rest last;
       wants = wants;
-      nobody = λ n f. nobody_more sums.rest last (nobody_told sums.rest (sums.wants ∙ n) (sums.faults ∙ f)) refl;
+      nobody = λ n f. nobody_more sums.rest last (nobody_told sums.rest (sums.wants ∙ n) (sums.faults f)) refl;
       pending = refl;
     }
 

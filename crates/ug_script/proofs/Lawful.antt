@@ -195,7 +195,7 @@ plan_holds (plan.Fail f) d w h = record { told = h.told; sound = h.sound; stand 
 plan_holds (plan.OnDisk p) d w h = h
 
 pub no_standing : (k : Kernel) → Stand k [] 1
-no_standing k = record { devices = λ s a. absurd a; numbers = λ s a. absurd a; names = tt; order = tt; distinct = tt; done = λ control s a. absurd a }
+no_standing k = record { devices = λ s a. absurd a; hashes = λ s a. absurd a; numbers = λ s a. absurd a; names = tt; order = tt; distinct = tt; done = λ control s a. absurd a }
 
 -- what the event's entries tell of its calls
 

@@ -11,11 +11,11 @@ use Rattle.ug_types.proofs.Sorting.{length-sweep_order}
 use Rattle.ug_kernel.specs.Calls.{Call, Names, Open, Read, Ask_alive, Put, Close, Answer}
 use Rattle.ug_kernel.specs.Along.{Made, count_calls}
 use Rattle.ug_kernel.proofs.Ways.{Ways, ways_more}
-use Rattle.ug_record.specs.Records.{judged_of}
 use Rattle.ug_node.specs.declared.identity.Bound.{Bound}
 use Rattle.ug_node.proofs.BindShapes.{count_more}
 use Rattle.ug_audit.specs.declared.entry.Entry.{Entry}
 use Rattle.ug_table.specs.Allowed.{allowed_records}
+use Rattle.ug_table.specs.Parent.{judged_bound}
 use Rattle.ug_table.specs.State.{State, Terms}
 use Rattle.ug_table.specs.Sweep.{names_of, sweeping}
 use Rattle.ug_table.specs.Parts.{AreClosings, unlisted_files, count_listed}
@@ -38,7 +38,7 @@ judged_id : (terms : Terms) (name : List ℕ) (w : State Judging)
     → (judge_after policy_later terms name w o).next ≡ w.judge.next
 judged_id terms name w None = refl
 judged_id terms name w (Some x) =
-    let dev = judged_of name x.1.attrs x.1.parent in
+    let dev = judged_bound name x.0 x.1 in
     later_id w.judge (allowed_records x.0) dev (is_none (parent_of name)) terms.present
 
 chain_id : {binds : Bool} {terms : Terms} {names : List (List ℕ)} {w v : State Judging} {ok : Bool}
