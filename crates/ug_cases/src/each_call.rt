@@ -48,11 +48,22 @@ fn was_switched_on(kernel: &SimKernel, number: &[u8]) -> bool {
         && matches!(effect.write, Write::On))
 }
 
-fn is_met(setting: &Setting, output: &[u8], kernel: &SimKernel) -> bool {
+// Whether the setting `but` has that number.
+fn is_excepted(case: &Case, call: u64) -> bool {
+    let line = case.setting(b"but").unwrap_or(&[]);
+    for part in line.split(|byte| *byte == b' ') {
+        if number_of(part) == Some(call) {
+            return true;
+        }
+    }
+    false
+}
+
+fn is_met(setting: &Setting, output: &[u8], kernel: &SimKernel, excepted: bool) -> bool {
     let value = setting.value.as_slice();
     match str::from_utf8(&setting.key).unwrap_or("") {
-        "calls" | "line" => true,
-        "holds" => holds(output, value),
+        "calls" | "line" | "but" => true,
+        "holds" => holds(output, value) != excepted,
         "lacks" => !holds(output, value),
         "later-lacks" => !holds(later(output), value),
         "live-are-on" => live_are_on(kernel),
@@ -96,9 +107,10 @@ fn judge_call(
     second: u64,
 ) {
     let (status, kernel) = replay(alloc, &mut call);
+    let excepted = is_excepted(case, first);
     add_status(told, first, second, status);
     for setting in case.settings.as_slice() {
-        if !is_met(setting, call.out.bytes(), &kernel) {
+        if !is_met(setting, call.out.bytes(), &kernel, excepted) {
             add_calls(told, first, second);
             add_unmet(told, setting);
         }
