@@ -125,7 +125,7 @@ abbrev IsSilent : List Entry → Type 0
 IsSilent es = (failures_told es ≡ []) × (unsettled_names es ≡ [])
 
 change_silent : (change : Change) (next : ℕ) → IsSilent (change_entry change next ∷ [])
-change_silent (Rules (Insert place rule temporary)) next = (refl, refl)
+change_silent (Rules (Insert place rule mark)) next = (refl, refl)
 change_silent (Rules (Remove id)) next = (refl, refl)
 change_silent (Rules (Retarget id rule)) next = (refl, refl)
 change_silent (Set set) next = (refl, refl)

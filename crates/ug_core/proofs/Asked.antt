@@ -1,5 +1,5 @@
 -- What an order comes to, from the tree of its calls.
-use Rattle.std.proofs.Common.{◌≡◌, ℕ, ◌≤◌, nat_lt, length, arith, Bool, true, false, not, cond, List, [], ◌∷◌, Option, Some, None, Result, Ok, Err, ◌⊎◌, inl, inr, refl, sym, ◌∙◌, ap, subst}
+use Rattle.std.proofs.Common.{◌≡◌, ℕ, ◌≤◌, nat_lt, length, arith, Bool, true, false, cond, List, [], ◌∷◌, Option, Some, None, Result, Ok, Err, ◌⊎◌, inl, inr, refl, sym, ◌∙◌, ap, subst}
 use Rattle.std.specs.Prelude.{IsSome}
 use Rattle.std.specs.Option.{option_map}
 use Rattle.std.proofs.lemmas.Option.{same_Some}
@@ -40,7 +40,7 @@ use Rattle.ug_table.specs.Parts.{told_in_reply}
 use Rattle.ug_table.specs.Standings.{numbered}
 use Rattle.ug_table.specs.declared.standing.Standing.{Standing}
 use Rattle.ug_core.specs.Answering.{asking, asking_of, by_edit, by_name, by_permanent, by_probe, by_record, by_request, by_rule, by_setting, by_standing, by_value, changing, if_granted, if_read, if_room, if_rule_made, if_rule_read, only, refusing, unless}
-use Rattle.ug_core.specs.Changes.{CanChange, change_lines, edit_for, lines_of, parameter_at, record_change, rule_asked, setting_asked, standing_change}
+use Rattle.ug_core.specs.Changes.{CanChange, change_lines, edit_for, lines_of, ordered_mark, parameter_at, record_change, rule_asked, setting_asked, standing_change}
 use Rattle.ug_core.specs.DeviceRows.{device_rows}
 use Rattle.ug_core.specs.Event.{DaemonState}
 use Rattle.ug_core.specs.Laws.{Bad_rule, By_facts, Changes, ComesTo, Denied, Devices, Full, List_rules, No_device, No_memory, No_parameter, No_place, No_record, No_room, No_rule, No_setting, No_value, Outcome, Refuses, RefusesBehind, Unread, Value, Watches, WhyRefused, Without_memory, change_of, is_on_device, only_lines, outcome_of_change}
@@ -222,7 +222,7 @@ module _ {S : Type 0} (gives : S → (call : Call) → Answer call → S → Typ
 
   module _ (place : After) (permanent : Bool) (text : List ℕ) (reads : request_read line ≡ Ok (request.AppendRule place permanent text)) (granted : is_granted d.access who (needs (request.AppendRule place permanent text)) ≡ true) where
     abbrev Added : Rule → Change
-    Added rule = Rules (Insert place rule (not permanent))
+    Added rule = Rules (Insert place rule (ordered_mark permanent))
 
     by_few_asked : (rule : Rule) (b : Bool) → nat_lt (length d.sweep.judge.rules) 65536 ≡ b → rule_read text ≡ Ok rule → IsThere place d.sweep.judge.rules → (c ≡ unless (cond b None (Some refusal.RulesFull)) (changing (Added rule) (deed.Tell (change_lines (Added rule) d.sweep.judge.next)))) × (t ≡ s) → It
     by_few_asked rule false few read there h = facts (request.AppendRule place permanent text) reads granted refusal.RulesFull (Full place permanent text rule read there (full_from (length d.sweep.judge.rules) few)) refl h
@@ -236,7 +236,7 @@ module _ {S : Type 0} (gives : S → (call : Call) → Answer call → S → Typ
   by_place_asked after.Front permanent text rule read reads granted h = by_few_asked after.Front permanent text reads granted rule (nat_lt (length d.sweep.judge.rules) 65536) refl read tt h
   by_place_asked (after.Rule id) permanent text rule read reads granted h = by_there (has_rule id d.sweep.judge.rules) refl h
     where
-      by_there : (b : Bool) → has_rule id d.sweep.judge.rules ≡ b → (c ≡ unless (first_of (cond b None (Some (refusal.NoRule id))) (if_few d.sweep.judge.rules)) (changing (Rules (Insert (after.Rule id) rule (not permanent))) (deed.Tell (change_lines (Rules (Insert (after.Rule id) rule (not permanent))) d.sweep.judge.next)))) × (t ≡ s) → It
+      by_there : (b : Bool) → has_rule id d.sweep.judge.rules ≡ b → (c ≡ unless (first_of (cond b None (Some (refusal.NoRule id))) (if_few d.sweep.judge.rules)) (changing (Rules (Insert (after.Rule id) rule (ordered_mark permanent))) (deed.Tell (change_lines (Rules (Insert (after.Rule id) rule (ordered_mark permanent))) d.sweep.judge.next)))) × (t ≡ s) → It
       by_there false at k = facts (request.AppendRule (after.Rule id) permanent text) reads granted (refusal.NoRule id) (No_place id permanent text rule read at) refl k
       by_there true at k = by_few_asked (after.Rule id) permanent text reads granted rule (nat_lt (length d.sweep.judge.rules) 65536) refl read (rule_there id d.sweep.judge.rules at) k
 

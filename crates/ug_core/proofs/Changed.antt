@@ -72,7 +72,7 @@ placed (after.Rule id) es distinct there =
 -- ---- rules as they were given
 
 abbrev given : RuleEntry → RuleEntry
-given e = new_entry e.id e.rule e.temporary
+given e = new_entry e.id e.rule e.mark
 
 given_followed : (id : ℕ) (added : RuleEntry) (es : List RuleEntry) → as_given (flat_map (followed id added) es) ≡ flat_map (followed id (given added)) (as_given es)
 given_followed id added [] = refl
@@ -106,9 +106,9 @@ given_retargeted id target (e ∷ es) = ap (λ (v : List RuleEntry). given (cond
 -- ---- a policy that is later
 
 numbered_edited : (edit : Edit) (next : ℕ) (es : List RuleEntry) → CanEdit edit es → IsNumbered es next → IsNumbered (edited_by edit next es) (next_after edit next)
-numbered_edited (Insert place rule temporary) next es can n =
+numbered_edited (Insert place rule mark) next es can n =
     let k = placed place es n.distinct can.0 in
-    subst (λ (v : List RuleEntry). IsNumbered v (next + 1)) (sym (k.puts (new_entry next rule temporary))) (numbered_insert es next k.at (new_entry next rule temporary) n refl k.within can.1)
+    subst (λ (v : List RuleEntry). IsNumbered v (next + 1)) (sym (k.puts (new_entry next rule mark))) (numbered_insert es next k.at (new_entry next rule mark) n refl k.within can.1)
 numbered_edited (Remove id) next es can n = numbered_removed id next es n
 numbered_edited (Retarget id rule) next es can n = numbered_retargeted id rule.target es next n
 
@@ -117,9 +117,9 @@ numbered_changed (Rules edit) p can n = numbered_edited edit p.next p.rules can 
 numbered_changed (Set set) p can n = n
 
 stands_edited : (edit : Edit) (next : ℕ) (es : List RuleEntry) (js : List Judgement) → CanEdit edit es → IsNumbered es next → StandsFor es next js → StandsFor (edited_by edit next es) (next_after edit next) js
-stands_edited (Insert place rule temporary) next es js can n s =
+stands_edited (Insert place rule mark) next es js can n s =
     let k = placed place es n.distinct can.0 in
-    subst (λ (v : List RuleEntry). StandsFor v (next + 1) js) (sym (k.puts (new_entry next rule temporary))) (stands_insert es next k.at rule temporary js s)
+    subst (λ (v : List RuleEntry). StandsFor v (next + 1) js) (sym (k.puts (new_entry next rule mark))) (stands_insert es next k.at rule mark js s)
 stands_edited (Remove id) next es js can n s = stands_removed id es next js s
 stands_edited (Retarget id rule) next es js can n s = stands_retargeted id rule.target es next js s
 
@@ -128,7 +128,7 @@ stands_changed (Rules edit) p js can n s = stands_edited edit p.next p.rules js 
 stands_changed (Set set) p js can n s = s
 
 given_edited : (edit : Edit) (next : ℕ) (es : List RuleEntry) → as_given (edited_by edit next es) ≡ edited_by edit next (as_given es)
-given_edited (Insert place rule temporary) next es = given_inserted place (new_entry next rule temporary) es
+given_edited (Insert place rule mark) next es = given_inserted place (new_entry next rule mark) es
 given_edited (Remove id) next es = given_removed id es
 given_edited (Retarget id rule) next es = given_retargeted id rule.target es
 

@@ -10,6 +10,7 @@ use Rattle.ug_lines.specs.LineReading.{lines_read, text_read, then_on}
 use Rattle.ug_rule.specs.declared.fault.Fault.{Fault}
 use Rattle.ug_rule.specs.Files.{added, adding_line, file_read, line_read}
 use Rattle.ug_rule.specs.TextLines.{numbered}
+use Rattle.ug_policy.specs.declared.entry.Mark.TheVariants as mark
 use Rattle.ug_policy.specs.declared.entry.RuleEntry.{RuleEntry}
 use Rattle.ug_policy.specs.Edits.{new_entry}
 use Rattle.ug_policy.specs.Kept.{StandsFor}
@@ -101,16 +102,16 @@ holds_none list entries next history =
     let holds : HoldsJust [] list = record { entries = entries; next = omega (arith, next); history = history } in
     (none, subst (λ (rs : List Rule). HoldsJust rs list) (sym none) holds)
 
-pub holds_one_more : (rule : Rule) (list new : Rules) → HoldsJust (rules_in list.entries) list → new.entries ≡ list.entries ++ new_entry list.next rule false ∷ [] → new.next ≡ list.next + 1 → (StandsFor list.entries list.next [] → StandsFor new.entries new.next [])
+pub holds_one_more : (rule : Rule) (list new : Rules) → HoldsJust (rules_in list.entries) list → new.entries ≡ list.entries ++ new_entry list.next rule mark.File ∷ [] → new.next ≡ list.next + 1 → (StandsFor list.entries list.next [] → StandsFor new.entries new.next [])
     → (rules_in new.entries ≡ rules_in list.entries ++ rule ∷ []) × HoldsJust (rules_in new.entries) new
 holds_one_more rule list new h entries next history =
-    let is : rules_in new.entries ≡ rules_in list.entries ++ rule ∷ [] = ap (λ (es : List RuleEntry). rules_in es) entries ∙ map-append (λ (e : RuleEntry). e.rule) list.entries (new_entry list.next rule false ∷ []) in
+    let is : rules_in new.entries ≡ rules_in list.entries ++ rule ∷ [] = ap (λ (es : List RuleEntry). rules_in es) entries ∙ map-append (λ (e : RuleEntry). e.rule) list.entries (new_entry list.next rule mark.File ∷ []) in
     let holds : HoldsJust (rules_in list.entries ++ rule ∷ []) new = holds_more (rules_in list.entries) rule list new h entries next history in
     (is, subst (λ (rs : List Rule). HoldsJust rs new) (sym is) holds)
 
 -- the same of an answer, after which a refusal has changed nothing
 pub holds_once_tried : {X E : Type 0} (rule : Rule) (list new : Rules) (result : Result X E) → HoldsJust (rules_in list.entries) list
-    → OnOk result (new.entries ≡ list.entries ++ new_entry list.next rule false ∷ []) → OnOk result (new.next ≡ list.next + 1) → (StandsFor list.entries list.next [] → StandsFor new.entries new.next []) → OnErr result (new ≡ list)
+    → OnOk result (new.entries ≡ list.entries ++ new_entry list.next rule mark.File ∷ []) → OnOk result (new.next ≡ list.next + 1) → (StandsFor list.entries list.next [] → StandsFor new.entries new.next []) → OnErr result (new ≡ list)
     → HoldsJust (rules_in new.entries) new
 holds_once_tried rule list new (Ok done) h entries next history err = (holds_one_more rule list new h entries next history).1
 holds_once_tried rule list new (Err refused) h entries next history err = subst (λ (l : Rules). HoldsJust (rules_in l.entries) l) (sym err) h

@@ -82,7 +82,7 @@ first_listings number (Order moment who line) None = refl
 first_listings number (Order moment who line) (Some saved) = refl
 
 entry_unlisted : (change : Change) (next : ℕ) → list_any tells_unlisted (change_entry change next ∷ []) ≡ false
-entry_unlisted (Rules (Insert after rule temporary)) next = refl
+entry_unlisted (Rules (Insert after rule mark)) next = refl
 entry_unlisted (Rules (Remove id)) next = refl
 entry_unlisted (Rules (Retarget id rule)) next = refl
 entry_unlisted (Set set) next = refl

@@ -314,13 +314,13 @@ noted_so policy first k hs tl es fs w v none unwritten standings next hub judge 
 -- rules or a setting are changed
 
 pub entry_silent : (change : Change) (next : ℕ) → decisions_in (change_entry change next ∷ []) ≡ []
-entry_silent (Rules (Insert after rule temporary)) next = refl
+entry_silent (Rules (Insert after rule mark)) next = refl
 entry_silent (Rules (Remove id)) next = refl
 entry_silent (Rules (Retarget id rule)) next = refl
 entry_silent (Set set) next = refl
 
 entry_unwritten : (change : Change) (next : ℕ) → writes_in (change_entry change next ∷ []) ≡ []
-entry_unwritten (Rules (Insert after rule temporary)) next = refl
+entry_unwritten (Rules (Insert after rule mark)) next = refl
 entry_unwritten (Rules (Remove id)) next = refl
 entry_unwritten (Rules (Retarget id rule)) next = refl
 entry_unwritten (Set set) next = refl

@@ -1,7 +1,8 @@
 -- What a daemon starts with.
-use Rattle.std.proofs.Common.{◌≡◌, ℕ, ◌+◌, ◌<◌, ◌≤◌, Bool, List, [], ◌∷◌, length, false, Option, Result, Ok, Err, inl, inr, refl, sym, ap, subst, ◌∙◌, arith}
+use Rattle.std.proofs.Common.{◌≡◌, ℕ, ◌+◌, ◌<◌, ◌≤◌, Bool, List, [], ◌∷◌, length, Option, Result, Ok, Err, inl, inr, refl, sym, ap, subst, ◌∙◌, arith}
 use Rattle.ug_types.specs.Elements.{Has, AllDistinct}
 use Rattle.ug_types.specs.declared.rule.Rule.{Rule}
+use Rattle.ug_policy.specs.declared.entry.Mark.TheVariants as mark
 use Rattle.ug_policy.specs.declared.entry.RuleEntry.{RuleEntry}
 use Rattle.ug_policy.specs.Edits.{new_entry}
 use Rattle.ug_policy.specs.Kept.{StandsFor}
@@ -22,7 +23,7 @@ use Rattle.ug_core.proofs.Numbering.{permanent_length}
 
 given_permanent : (id : ℕ) (rules : List Rule) → as_given (permanent_entries id rules) ≡ permanent_entries id rules
 given_permanent id [] = refl
-given_permanent id (rule ∷ rules) = ap (λ (es : List RuleEntry). new_entry id rule false ∷ es) (given_permanent (id + 1) rules)
+given_permanent id (rule ∷ rules) = ap (λ (es : List RuleEntry). new_entry id rule mark.File ∷ es) (given_permanent (id + 1) rules)
 
 -- their ids are those from the first one on
 

@@ -127,7 +127,7 @@ store_adds stored.TooLong d = adds_nothing d.sweep.entries
 store_adds stored.Memory d = adds_nothing d.sweep.entries
 
 change_none : (change : Change) (next : ℕ) → saves_in (change_entry change next ∷ []) ≡ []
-change_none (Rules (Insert after rule temporary)) next = refl
+change_none (Rules (Insert after rule mark)) next = refl
 change_none (Rules (Remove id)) next = refl
 change_none (Rules (Retarget id rule)) next = refl
 change_none (Set set) next = refl

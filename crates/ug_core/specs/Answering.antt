@@ -1,6 +1,6 @@
 -- How an order is answered: by its line, by what its user or group may do, by rules, settings and
 -- standings, and by what a probe of its device finds.
-use Rattle.std.specs.Prelude.{◌≡◌, ◌⊎◌, ℕ, Bool, true, false, not, List, [], ◌∷◌, decimal, Option, Some, None, IsSome, Result, Ok, Err}
+use Rattle.std.specs.Prelude.{◌≡◌, ◌⊎◌, ℕ, Bool, true, false, List, [], ◌∷◌, decimal, Option, Some, None, IsSome, Result, Ok, Err}
 use Rattle.ug_types.specs.Principals.{Named}
 use Rattle.ug_types.specs.declared.refusal.Refusal.{Refusal}
 use Rattle.ug_types.specs.declared.refusal.Refusal.TheVariants as refusal
@@ -33,7 +33,7 @@ use Rattle.ug_table.specs.declared.standing.Settled.{Settled}
 use Rattle.ug_table.specs.declared.standing.Settled.TheVariants as settled
 use Rattle.ug_table.specs.declared.standing.Standing.{Standing}
 use Rattle.ug_core.specs.Event.{DaemonState, noting}
-use Rattle.ug_core.specs.Changes.{CanChange, ChangeReads, change_lines, parameter_at, verdict_edit}
+use Rattle.ug_core.specs.Changes.{CanChange, ChangeReads, change_lines, ordered_mark, parameter_at, verdict_edit}
 use Rattle.ug_core.specs.Privileges.{denied_of}
 use Rattle.ug_rules.specs.RuleEdits.{if_room_for}
 use Rattle.ug_rules.specs.RulePlaces.{if_taken, if_there}
@@ -149,7 +149,7 @@ abbrev pub by_rule : Judging → After → Bool → Result Rule Fault → Choice
 by_rule p after permanent (Err bad) = refusing (refusal.BadRule (kind_number bad.kind) bad.place)
 by_rule p after permanent (Ok rule) =
     unless (if_taken after p.rules)
-    (changing (Rules (Insert after rule (not permanent))) (deed.Tell (decimal p.next ∷ [])))
+    (changing (Rules (Insert after rule (ordered_mark permanent))) (deed.Tell (decimal p.next ∷ [])))
 
 -- memory is taken to read it
 abbrev pub if_rule_read : Judging → After → Bool → List ℕ → Bool → Prog Choice

@@ -1,5 +1,5 @@
 -- What orders change of rules and settings.
-use Rattle.std.specs.Prelude.{ℕ, Bool, true, false, not, List, [], ◌∷◌, decimal, Option, Some, None, Result, Ok, Err}
+use Rattle.std.specs.Prelude.{ℕ, Bool, true, false, List, [], ◌∷◌, decimal, Option, Some, None, Result, Ok, Err}
 use Rattle.std.specs.Option.{option_map}
 use Rattle.ug_types.specs.Parameters.{parameter_of, value_of}
 use Rattle.ug_types.specs.declared.parameter.Parameter.{Parameter}
@@ -16,6 +16,8 @@ use Rattle.ug_types.specs.declared.verdict.Target.{Target}
 use Rattle.ug_audit.specs.declared.entry.Entry.{Entry}
 use Rattle.ug_audit.specs.declared.entry.Entry.TheVariants as entry
 use Rattle.ug_audit.specs.declared.entry.RuleChange.TheVariants as noted
+use Rattle.ug_policy.specs.declared.entry.Mark.{Mark}
+use Rattle.ug_policy.specs.declared.entry.Mark.TheVariants as mark
 use Rattle.ug_policy.specs.declared.entry.RuleEntry.{RuleEntry}
 use Rattle.ug_print.specs.Generated.{generated_of}
 use Rattle.ug_proto.specs.declared.request.Request.{Request}
@@ -48,8 +50,13 @@ with_parameter (parameter.InsertedDevicePolicy policy) classes =
 
 -- ---- what a request asks to change
 
+-- a rule is ordered to be permanent or temporary
+abbrev pub ordered_mark : Bool → Mark
+ordered_mark true = mark.File
+ordered_mark false = mark.Temporary
+
 abbrev pub rule_asked : After → Bool → Result Rule Fault → Option Change
-rule_asked after permanent (Ok rule) = Some (Rules (Insert after rule (not permanent)))
+rule_asked after permanent (Ok rule) = Some (Rules (Insert after rule (ordered_mark permanent)))
 rule_asked after permanent (Err bad) = None
 
 abbrev pub setting_asked : Option ParameterName → List ℕ → Option Change
@@ -62,7 +69,7 @@ setting_asked None value = None
 abbrev pub edit_for : DeviceRecord → Bool → Target → Option ℕ → Edit
 edit_for device with_port verdict (Some id) = Retarget id (generated_of device verdict with_port)
 edit_for device with_port verdict None =
-    Insert after.End (generated_of device verdict with_port) false
+    Insert after.End (generated_of device verdict with_port) mark.File
 
 abbrev pub verdict_edit : DeviceRecord → Target → Judging → Edit
 verdict_edit device verdict p =
@@ -130,14 +137,14 @@ ChangeSaves (Set set) p = Unit {0}
 
 -- what is noted of it, where that id is the next
 abbrev pub change_entry : Change → ℕ → Entry
-change_entry (Rules (Insert after rule temporary)) next = entry.Rules noted.Added next
+change_entry (Rules (Insert after rule mark)) next = entry.Rules noted.Added next
 change_entry (Rules (Remove id)) next = entry.Rules noted.Removed id
 change_entry (Rules (Retarget id rule)) next = entry.Rules noted.Changed id
 change_entry (Set set) next = entry.Parameter set
 
 -- and the lines of its reply: the id of a rule that is new or has a new target
 abbrev pub change_lines : Change → ℕ → List (List ℕ)
-change_lines (Rules (Insert after rule temporary)) next = decimal next ∷ []
+change_lines (Rules (Insert after rule mark)) next = decimal next ∷ []
 change_lines (Rules (Remove id)) next = []
 change_lines (Rules (Retarget id rule)) next = decimal id ∷ []
 change_lines (Set set) next = []

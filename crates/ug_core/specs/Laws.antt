@@ -26,6 +26,7 @@ use Rattle.ug_audit.specs.declared.entry.Entry.TheVariants as entry
 use Rattle.ug_proto.specs.declared.reply.Reply.{Reply}
 use Rattle.ug_proto.specs.declared.reply.Reply.TheVariants as replies
 use Rattle.ug_policy.specs.Edits.{IsThere}
+use Rattle.ug_policy.specs.declared.entry.Mark.TheVariants as mark
 use Rattle.ug_proto.specs.declared.request.Request.{Request}
 use Rattle.ug_proto.specs.declared.request.Request.TheVariants as request
 use Rattle.ug_proto.specs.Privileges.{needs}
@@ -206,7 +207,7 @@ pub data RefusesBehind (d : DaemonState) (became : Stored) : Request → Refusal
       → RefusesBehind d became (request.Device number verdict true) (refusal.MalformedDevice number)
   No_room : (number : ℕ) (verdict : Target) (rule : Rule)
       → change_of d (request.Device number verdict true)
-      ≡ Some (Rules (Insert after.End rule false))
+      ≡ Some (Rules (Insert after.End rule mark.File))
       → 65536 ≤ length d.sweep.judge.rules → became ≡ stored.NotNeeded
       → RefusesBehind d became (request.Device number verdict true) refusal.RulesFull
   Unstored : (asked : Request) (refused : Refusal) (change : Change)

@@ -11,6 +11,7 @@ use Rattle.ug_rule.specs.TextLines.{rule_on_line}
 use Rattle.ug_print.specs.declared.rule_texts.RulesTextFault.{RulesTextFault}
 use Rattle.ug_print.specs.declared.rule_texts.RulesTextFault.TheVariants as printed
 use Rattle.ug_print.specs.RuleTexts.{rules_text_of}
+use Rattle.ug_policy.specs.declared.entry.Mark.TheVariants as mark
 use Rattle.ug_policy.specs.declared.entry.RuleEntry.{RuleEntry}
 use Rattle.ug_policy.specs.Edits.{new_entry}
 use Rattle.ug_policy.specs.Kept.{StandsFor}
@@ -46,7 +47,7 @@ fault_of_printing printed.Memory = fault.Memory
 -- permanent rules without histories, that bear ids from that one on
 abbrev pub permanent_entries : ℕ → List Rule → List RuleEntry
 permanent_entries id [] = []
-permanent_entries id (rule ∷ rules) = new_entry id rule false ∷ permanent_entries (id + 1) rules
+permanent_entries id (rule ∷ rules) = new_entry id rule mark.File ∷ permanent_entries (id + 1) rules
 
 -- the list has just these rules in this order, with ids from 1 on, and nothing was judged by them
 -- yet

@@ -221,7 +221,7 @@ impl<'z, R: Rng> Daemon<'z, R> {
         Some(saved)
     }
 
-    // Saves the rules that aren't temporary.
+    // Saves the permanent rules.
     #[tactic(auto, using(ug_store::proofs::DiskRuns::runs_then_disk))]
     fn save<D: RuleDisk>(&mut self, alloc: Global, disk: &mut D) -> Saved
         ensures runs { RunsDisk D.keeps disk.old

@@ -5,7 +5,7 @@ ghost use Rattle.ug_lines.specs.Splitting.{AreLines, IsLine};
 ghost use Rattle.ug_rule.specs.Rules.{rule_read};
 ghost use Rattle.ug_types.specs.Parameters.{parameter_of};
 ghost use Rattle.ug_core.specs.Answering.{asking, asking_of, by_edit, by_id, by_name, by_request, by_rule, by_setting, by_standing, by_value, if_rule_read, CanDo, CanMake, HasLines, IsChosenForGood, changing, only, refusing, telling};
-ghost use Rattle.ug_core.specs.Changes.{change_lines, verdict_edit};
+ghost use Rattle.ug_core.specs.Changes.{change_lines, ordered_mark, verdict_edit};
 ghost use Rattle.ug_core.specs.DeviceRows.{device_rows};
 ghost use Rattle.ug_core.specs.Event.{daemon_of};
 ghost use Rattle.ug_rules.specs.RuleRows.{rule_rows};
@@ -19,6 +19,7 @@ use itoa::Buffer;
 use rand_core::Rng;
 use std::alloc::Global;
 use ug_kernel::{Probe, Sysfs};
+use ug_policy::Mark;
 use ug_print::print_rule;
 use ug_proto::{Request, RequestFault, parse_request};
 use ug_rule::{RuleFault, parse_rule};
@@ -121,6 +122,17 @@ fn id_line(alloc: Global, id: u64) -> Result<List<Text>, NoMemory>
 {
     let mut digits = Buffer::new();
     one_line(alloc, digits.format(id).as_bytes())
+}
+
+// A rule is ordered to be permanent or temporary.
+fn ordered_mark(permanent: bool) -> Mark
+    ensures { result ≡ ordered_mark permanent }
+{
+    if permanent {
+        Mark::File
+    } else {
+        Mark::Temporary
+    }
 }
 
 // The lines of the reply to an edit that concerns one device, where that is the next rule's id.
@@ -293,7 +305,7 @@ impl<'z, R: Rng> Daemon<'z, R> {
         let edit = Edit::Insert {
             after,
             rule,
-            temporary: !permanent,
+            mark: ordered_mark(permanent),
         };
         change(Change::Rules(edit), Deed::Tell(lines))
     }

@@ -19,7 +19,7 @@ use rand_core::Rng;
 use std::alloc::Global;
 use ug_cond::{Allowed, Context, local_second};
 use ug_conf::Present;
-use ug_policy::RuleList;
+use ug_policy::{Mark, RuleList};
 use ug_print::{RulesTextFault, generated_rule};
 use ug_rules::{Edit, KeptRules};
 use ug_table::{Judge, Table};
@@ -170,7 +170,7 @@ impl<'z, R: Rng> Policy<'z, R> {
             None => Ok(Edit::Insert {
                 after: After::End,
                 rule,
-                temporary: false,
+                mark: Mark::File,
             }),
         }
     }
@@ -225,7 +225,7 @@ impl<'z, R: Rng> Policy<'z, R> {
         self.classes.parameter(name)
     }
 
-    /// The text of a rule file with the rules that aren't temporary, which reads as them again.
+    /// The text of a rule file with the permanent rules, which reads as them again.
     pub fn rules_text(&self, alloc: Global) -> Result<Text, NoMemory>
         ensures text { IfOk result
             (λ text. text ≡ permanent_text (judging_of R.stream self.now).rules) }
@@ -235,7 +235,7 @@ impl<'z, R: Rng> Policy<'z, R> {
         self.rules.text(alloc)
     }
 
-    /// The rules that aren't temporary read again from the text that is saved of them, for which a rule file has room.
+    /// The permanent rules read again from the text that is saved of them, for which a rule file has room.
     pub fn stay_saveable(&self)
         ensures { IsSaveable (judging_of R.stream self.now).rules }
     {

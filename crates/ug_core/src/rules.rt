@@ -10,7 +10,7 @@ use crate::start_fault::StartFault;
 use std::alloc::Global;
 use std::marker::Model;
 use ug_lines::{LineReader, read_lines};
-use ug_policy::RuleList;
+use ug_policy::{Mark, RuleList};
 use ug_rule::parse_line;
 use ug_rules::list_text;
 use ug_types::{After, FileFault, NoMemory, Rule};
@@ -23,14 +23,14 @@ fn append(list: &mut RuleList, rule: Rule) -> Result<(), NoMemory>
     requires few { length list.old.entries < 65536 }
     requires left { list.old.next < 2 ^ 64 - 1 }
     ensures rules { OnOk result (list.new.entries
-        ≡ list.old.entries ++ new_entry list.old.next rule false ∷ []) }
+        ≡ list.old.entries ++ new_entry list.old.next rule Mark.File ∷ []) }
     ensures next { OnOk result (list.new.next ≡ list.old.next + 1) }
     ensures history { StandsFor list.old.entries list.old.next []
         → StandsFor list.new.entries list.new.next [] }
     ensures err { OnErr result (list.new ≡ list.old) }
 {
     list.reserve()?;
-    let _id = list.insert(After::End, rule, false);
+    let _id = list.insert(After::End, rule, Mark::File);
     Ok(())
 }
 

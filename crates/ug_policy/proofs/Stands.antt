@@ -9,6 +9,7 @@ use Rattle.ug_types.specs.declared.rule.Rule as types
 use Rattle.ug_types.specs.declared.verdict.Moment.{Moment}
 use Rattle.ug_types.specs.declared.verdict.Target.{Target}
 use Rattle.ug_cond.specs.Judgements.{Judgement, WasEvaluated, WasApplied, IsGreatest, IsHistory}
+use Rattle.ug_policy.specs.declared.entry.Mark.{Mark}
 use Rattle.ug_policy.specs.declared.entry.RuleEntry.{RuleEntry}
 use Rattle.ug_policy.specs.Rules.{ids, IsNumbered}
 use Rattle.ug_policy.specs.Edits.{has_id, new_entry, removed, aimed, retargeted}
@@ -19,11 +20,11 @@ use Rattle.ug_types.proofs.Elements.{has_left, has_right, has_cases, insert_has,
 use Rattle.ug_policy.proofs.Members.{has_ids, ids_apart, ids_right, same_entry}
 
 -- a rule whose id is new has no past
-pub stands_insert : (es : List RuleEntry) (next i : ℕ) (rule : types.Rule) (temporary : Bool) (js : List Judgement) → StandsFor es next js → StandsFor (insert es i (new_entry next rule temporary)) (next + 1) js
-stands_insert es next i rule temporary js s = record {
+pub stands_insert : (es : List RuleEntry) (next i : ℕ) (rule : types.Rule) (mark : Mark) (js : List Judgement) → StandsFor es next js → StandsFor (insert es i (new_entry next rule mark)) (next + 1) js
+stands_insert es next i rule mark js s = record {
   evaluated = λ j id m h. let low : id < next = s.evaluated j id m h in omega arith;
   applied = λ j id m h. let low : id < next = s.applied j id m h in omega arith;
-  histories = λ e m. elim (insert_has es i (new_entry next rule temporary) e m) [
+  histories = λ e m. elim (insert_has es i (new_entry next rule mark) e m) [
     | inl same ↦ subst (λ (v : RuleEntry). IsHistory js v.id v.history) same (
       (λ t w. let low : next < next = s.evaluated w.0 next w.1 w.2 in absurd (omega arith)),
       (λ t w. let low : next < next = s.applied w.0 next w.1 w.2 in absurd (omega arith)),

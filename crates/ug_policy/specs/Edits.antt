@@ -6,12 +6,13 @@ use Rattle.ug_types.specs.declared.rule.Rule as types
 use Rattle.ug_types.specs.declared.rule.After.{After}
 use Rattle.ug_types.specs.declared.rule.After.TheVariants as after
 use Rattle.ug_types.specs.declared.verdict.Target.{Target}
+use Rattle.ug_policy.specs.declared.entry.Mark.{Mark}
 use Rattle.ug_policy.specs.declared.entry.RuleEntry.{RuleEntry}
 use Rattle.ug_policy.specs.Rules.{ids}
 
 -- a rule that is added has no history
-abbrev pub new_entry : ℕ → types.Rule → Bool → RuleEntry
-new_entry id rule temporary = record { id = id; rule = rule; temporary = temporary; history = record { evaluated = None; applied = None } }
+abbrev pub new_entry : ℕ → types.Rule → Mark → RuleEntry
+new_entry id rule mark = record { id = id; rule = rule; mark = mark; history = record { evaluated = None; applied = None } }
 
 abbrev pub has_id : ℕ → RuleEntry → Bool
 has_id id e = nat_eq e.id id

@@ -1,3 +1,4 @@
+pub mod Marks
 pub mod Rules
 pub mod Edits
 pub mod Matching

@@ -11,7 +11,7 @@ ghost use Rattle.ug_policy.specs.Deciding.{HasNoDecider, IsDecider, Judges, find
 ghost use Rattle.ug_policy.specs.Kept.{StandsFor};
 
 use crate::edits::{place_after, put_rule, remove_rule, set_rule_target};
-use crate::entry::{InsertFault, NoRule, RuleEntry};
+use crate::entry::{InsertFault, Mark, NoRule, RuleEntry};
 use crate::judging::judge_by;
 use rand_core::Rng;
 use std::alloc::Global;
@@ -109,12 +109,12 @@ impl RuleList {
 
     /// Adds a rule and gives its id. There is room for it, so that it takes no memory. An unknown id is refused before a
     /// full list is, and a refusal changes nothing.
-    pub fn insert(&mut self, after: After, rule: Rule, temporary: bool) -> Result<u64, InsertFault>
+    pub fn insert(&mut self, after: After, rule: Rule, mark: Mark) -> Result<u64, InsertFault>
         requires spare { 0 < self.old.spare }
         requires next { self.old.next < 2 ^ 64 - 1 }
         ensures id { IfOk result (λ id. id ≡ self.old.next) }
         ensures entries { OnOk result (self.new.entries
-            ≡ inserted after (new_entry self.old.next rule temporary) self.old.entries) }
+            ≡ inserted after (new_entry self.old.next rule mark) self.old.entries) }
         ensures next { OnOk result (self.new.next ≡ self.old.next + 1) }
         ensures spare { OnOk result (self.new.spare + 1 ≡ self.old.spare) }
         ensures no_rule { (result ≡ Err InsertFault.NoRule) ↔ (¬ IsThere after self.old.entries) }
@@ -139,7 +139,7 @@ impl RuleList {
         let entry = RuleEntry {
             id,
             rule,
-            temporary,
+            mark,
             history,
         };
         put_rule(&mut self.entries, place, entry);

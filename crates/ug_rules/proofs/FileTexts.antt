@@ -1,6 +1,6 @@
 -- The text of a rule file, rule by rule.
 use Rattle.std.proofs.Common.{◌≡◌, ◌<◌, ℕ, ◌+◌, List, [], ◌∷◌, ◌++◌, length, take, drop, slice_get, Option, Some, refl, sym, ◌∙◌, ap, subst, append_assoc, length-append, arith}
-use Rattle.std.specs.Prelude.{All, flat_map}
+use Rattle.std.specs.Prelude.{All, OnOk, Result, Ok, Err, flat_map}
 use Rattle.std.specs.List.{AllByRecursion}
 use Rattle.std.proofs.lemmas.List.{flat_map_more, take-append-drop, take_more}
 use Rattle.std.proofs.lemmas.List.Elements.{All-from_recursion, recursion_from_All}
@@ -22,6 +22,10 @@ all_append (r ∷ rs) ts a b = (a.0, all_append rs ts a.1 b)
 
 pub bytes_append : (rs ts : List Rule) → All RuleOfBytes rs → All RuleOfBytes ts → All RuleOfBytes (rs ++ ts)
 bytes_append rs ts a b = All-from_recursion RuleOfBytes (rs ++ ts) (all_append rs ts (recursion_from_All RuleOfBytes rs a) (recursion_from_All RuleOfBytes ts b))
+
+pub bytes_then : {X E : Type 0} (r : Result X E) (rs ts all : List Rule) → all ≡ rs ++ ts → All RuleOfBytes rs → OnOk r (All RuleOfBytes ts) → OnOk r (All RuleOfBytes all)
+bytes_then (Ok x) rs ts all is a b = subst (All RuleOfBytes) (sym is) (bytes_append rs ts a b)
+bytes_then (Err e) rs ts all is a b = tt
 
 -- the rules up to a place of the list
 abbrev pub rules_up_to : Option Edit → List RuleEntry → ℕ → List Rule

@@ -16,11 +16,11 @@ use Rattle.ug_rules.specs.RuleFile.{CanSave, IsSaveable, ReadsBack, as_given, pe
 use Rattle.ug_policy.specs.Rules.{rules_in}
 
 abbrev given : RuleEntry → RuleEntry
-given e = new_entry e.id e.rule e.temporary
+given e = new_entry e.id e.rule e.mark
 
 pub given_append : (es fs : List RuleEntry) → as_given (es ++ fs) ≡ as_given es ++ as_given fs
 given_append [] fs = refl
-given_append (e ∷ es) fs = ap (λ (v : List RuleEntry). new_entry e.id e.rule e.temporary ∷ v) (given_append es fs)
+given_append (e ∷ es) fs = ap (λ (v : List RuleEntry). new_entry e.id e.rule e.mark ∷ v) (given_append es fs)
 
 given_seen : (dev : DeviceRecord) (moment : Moment) (es : List RuleEntry) → as_given (map (seen dev moment) es) ≡ as_given es
 given_seen dev moment [] = refl

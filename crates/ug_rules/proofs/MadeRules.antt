@@ -1,5 +1,5 @@
 -- The first rule of a list that is made of a device.
-use Rattle.std.proofs.Common.{◌≡◌, ℕ, Bool, true, false, not, ◌&&◌, ◌||◌, cond, List, [], ◌∷◌, Option, Some, None, inl, inr, refl, sym, ap, ◌∙◌, subst}
+use Rattle.std.proofs.Common.{◌≡◌, ℕ, Bool, true, false, ◌&&◌, ◌||◌, cond, List, [], ◌∷◌, Option, Some, None, inl, inr, refl, sym, ap, ◌∙◌, subst}
 use Rattle.std.specs.Prelude.{IfSome}
 use Rattle.std.specs.List.{find}
 use Rattle.std.specs.Option.{option_map}
@@ -10,8 +10,11 @@ use Rattle.ug_types.proofs.Elements.{distinct_one, has_right}
 use Rattle.ug_types.specs.declared.rule.Rule.{Rule}
 use Rattle.ug_types.specs.declared.verdict.Target.{Target}
 use Rattle.ug_policy.specs.Edits.{has_id}
+use Rattle.ug_policy.specs.Marks.{is_permanent}
 use Rattle.ug_policy.specs.Rules.{ids}
 use Rattle.ug_types.specs.declared.record.DeviceRecord.{DeviceRecord}
+use Rattle.ug_policy.specs.declared.entry.Mark.{Mark}
+use Rattle.ug_policy.specs.declared.entry.Mark.TheVariants as mark
 use Rattle.ug_policy.specs.declared.entry.RuleEntry.{RuleEntry}
 use Rattle.ug_print.specs.Made.{is_made_of}
 use Rattle.ug_print.proofs.Made.{made_is}
@@ -20,18 +23,24 @@ use Rattle.ug_print.specs.Generated.{generated_of}
 use Rattle.ug_rules.specs.RuleEdits.{IsButForTarget}
 use Rattle.ug_rules.specs.RulePlaces.{has_permanent, is_made, made_rule}
 
+-- a permanent rule is one of the rule file
+file_mark : (m : Mark) → is_permanent m ≡ true → m ≡ mark.File
+file_mark mark.Folder h = let none : ⊥ = cc in absurd none
+file_mark mark.File h = refl
+file_mark mark.Temporary h = let none : ⊥ = cc in absurd none
+
 module _ (device : DeviceRecord) (with_port : Bool) where
   made_so : (e : RuleEntry) → is_made device with_port e ≡ true → IsMade device with_port e
-  made_so e h = by_flag e.temporary refl h
+  made_so e h = by_flag (is_permanent e.mark) refl h
     where
-      by_flag : (b : Bool) → e.temporary ≡ b → (not b && is_made_of device with_port e.rule) ≡ true → IsMade device with_port e
-      by_flag true is k = let none : ⊥ = cc in absurd none
-      by_flag false is k = (is, (made_is device with_port e.rule).0 k)
+      by_flag : (b : Bool) → is_permanent e.mark ≡ b → (b && is_made_of device with_port e.rule) ≡ true → IsMade device with_port e
+      by_flag false is k = let none : ⊥ = cc in absurd none
+      by_flag true is k = (file_mark e.mark is, (made_is device with_port e.rule).0 k)
 
   not_made : (e : RuleEntry) → is_made device with_port e ≡ false → IsMade device with_port e → ⊥
   not_made e h made =
       let yes : is_made_of device with_port e.rule ≡ true = (made_is device with_port e.rule).1 made.1 in
-      let so : (not e.temporary && is_made_of device with_port e.rule) ≡ true = ap (λ (b : Bool). not b && is_made_of device with_port e.rule) made.0 ∙ yes in
+      let so : (is_permanent e.mark && is_made_of device with_port e.rule) ≡ true = ap (λ (m : Mark). is_permanent m && is_made_of device with_port e.rule) made.0 ∙ yes in
       let none : ⊥ = cc in
       none
 
@@ -69,7 +78,7 @@ made_rule_some device with_port rules id h = found device with_port id rules h
 pub made_rule_none : (device : DeviceRecord) (with_port : Bool) (rules : List RuleEntry) → made_rule device with_port rules ≡ None → HasNoneMade device with_port rules
 made_rule_none device with_port rules h = none_found device with_port rules h
 
--- it is there, and isn't temporary
+-- it is there, and is permanent
 pub made_there : (device : DeviceRecord) (with_port : Bool) (rules : List RuleEntry) (id : ℕ) → made_rule device with_port rules ≡ Some id → Has (ids rules) id × (has_permanent id rules ≡ true)
 made_there device with_port [] id h = let none : ⊥ = cc in absurd none
 made_there device with_port (e ∷ es) id h = by_first (is_made device with_port e) refl h (made_there device with_port es id)
@@ -78,8 +87,8 @@ made_there device with_port (e ∷ es) id h = by_first (is_made device with_port
     by_first true is k rest =
         let same : e.id ≡ id = same_Some e.id id k in
         let made = made_so device with_port e is in
-        (inl same, ap (λ (b : Bool). (b && not e.temporary) || has_permanent id es) (eq-eqb e.id id same) ∙ ap (λ (t : Bool). (true && not t) || has_permanent id es) made.0)
-    by_first false is k rest = (inr (rest k).0, later (has_id id e && not e.temporary) (rest k).1)
+        (inl same, ap (λ (b : Bool). (b && is_permanent e.mark) || has_permanent id es) (eq-eqb e.id id same) ∙ ap (λ (m : Mark). (true && is_permanent m) || has_permanent id es) made.0)
+    by_first false is k rest = (inr (rest k).0, later (has_id id e && is_permanent e.mark) (rest k).1)
       where
         later : (b : Bool) → has_permanent id es ≡ true → (b || has_permanent id es) ≡ true
         later true h = refl

@@ -11,6 +11,7 @@ use Rattle.ug_types.specs.declared.rule.Rule.{Rule}
 use Rattle.ug_types.specs.declared.rule.After.{After}
 use Rattle.ug_types.specs.declared.rule.After.TheVariants as after
 use Rattle.ug_policy.specs.Edits.{aimed, followed, has_id, inserted, new_entry, removed, retargeted}
+use Rattle.ug_policy.specs.Marks.{is_permanent}
 use Rattle.ug_policy.specs.declared.entry.InsertFault.{InsertFault}
 use Rattle.ug_policy.specs.declared.entry.InsertFault.TheVariants as fault
 use Rattle.ug_policy.specs.declared.entry.RuleEntry.{RuleEntry}
@@ -22,19 +23,19 @@ use Rattle.ug_print.specs.RuleTexts.{rules_limit, rules_text_of}
 use Rattle.ug_print.specs.Words.{rule_text}
 use Rattle.ug_print.proofs.RuleTexts.{text_read}
 use Rattle.ug_rules.specs.RuleEdits.{CanEdit, EditReads, IsButForTarget, edited_by}
-use Rattle.ug_rules.specs.RuleFile.{CanSave, FitsFile, IsRuleFile, IsSaveable, ReadsBack, permanent_rules, permanent_text, saved_rule}
+use Rattle.ug_rules.specs.RuleFile.{CanSave, FitsFile, IsRuleFile, IsSaveable, ReadsBack, permanent_rules, permanent_text}
 use Rattle.ug_rules.specs.declared.edit.Edit.{Edit}
 use Rattle.ug_rules.specs.declared.edit.Edit.TheVariants.{Insert, Remove, Retarget}
 
--- ---- the text of those that aren't temporary
+-- ---- the text of the permanent ones
 
 well_permanent : (es : List RuleEntry) → AllByRecursion ReadsBack (rules_in es) → AllByRecursion WellFormed (permanent_rules es)
 well_permanent [] h = tt
-well_permanent (e ∷ es) h = by_flag e.temporary e.rule (permanent_rules es) h.0 (well_permanent es h.1)
+well_permanent (e ∷ es) h = by_flag (is_permanent e.mark) e.rule (permanent_rules es) h.0 (well_permanent es h.1)
   where
-    by_flag : (b : Bool) (rule : Rule) (rules : List Rule) → ReadsBack rule → AllByRecursion WellFormed rules → AllByRecursion WellFormed (saved_rule b rule ++ rules)
-    by_flag true rule rules r w = w
-    by_flag false rule rules r w = (read_well rule (rule_text rule, r), w)
+    by_flag : (b : Bool) (rule : Rule) (rules : List Rule) → ReadsBack rule → AllByRecursion WellFormed rules → AllByRecursion WellFormed (cond b (rule ∷ []) [] ++ rules)
+    by_flag false rule rules r w = w
+    by_flag true rule rules r w = (read_well rule (rule_text rule, r), w)
 
 -- each rule is one that some line reads as
 
@@ -89,7 +90,7 @@ back_retargeted id rule (e ∷ es) same new a = (by_id (has_id id e) refl, back_
     by_id false is = a.0
 
 back_edited : (edit : Edit) (next : ℕ) (es : List RuleEntry) → EditReads edit es → AllByRecursion ReadsBack (rules_in es) → AllByRecursion ReadsBack (rules_in (edited_by edit next es))
-back_edited (Insert place rule temporary) next es new a = back_inserted place (new_entry next rule temporary) es new a
+back_edited (Insert place rule mark) next es new a = back_inserted place (new_entry next rule mark) es new a
 back_edited (Remove id) next es new a = back_removed id es a
 back_edited (Retarget id rule) next es new a = back_retargeted id rule es new.1 new.0 a
 
@@ -140,9 +141,9 @@ text_of_list {E} too_long es rules r same back is bytes fits long = record {
 
 pub few_saved : (es : List RuleEntry) → length (permanent_rules es) ≤ length es
 few_saved [] = omega arith
-few_saved (e ∷ es) = by_flag e.temporary (few_saved es)
+few_saved (e ∷ es) = by_flag (is_permanent e.mark) (few_saved es)
   where
-    by_flag : (b : Bool) → length (permanent_rules es) ≤ length es → length (saved_rule b e.rule ++ permanent_rules es) ≤ suc (length es)
+    by_flag : (b : Bool) → length (permanent_rules es) ≤ length es → length (cond b (e.rule ∷ []) [] ++ permanent_rules es) ≤ suc (length es)
     by_flag true h = omega (arith, h)
     by_flag false h = omega (arith, h)
 
@@ -178,9 +179,9 @@ few_removed id (e ∷ es) = by_id (not (has_id id e)) (few_removed id es)
     by_id false k = omega (arith, k)
 
 few_by : (edit : Edit) (next : ℕ) (es : List RuleEntry) → CanEdit edit es → AllDistinct (ids es) → length es ≤ 65536 → length (edited_by edit next es) ≤ 65536
-few_by (Insert place rule temporary) next es can d few =
+few_by (Insert place rule mark) next es can d few =
     let less : length es < 65536 = can.1 in
-    let more : length (inserted place (new_entry next rule temporary) es) ≤ length es + 1 = few_inserted place (new_entry next rule temporary) es d in
+    let more : length (inserted place (new_entry next rule mark) es) ≤ length es + 1 = few_inserted place (new_entry next rule mark) es d in
     omega (arith, less, more)
 few_by (Remove id) next es can d few = let k : length (removed id es) ≤ length es = few_removed id es in omega (arith, k, few)
 few_by (Retarget id rule) next es can d few = let k = length-map es (λ (e : RuleEntry). cond (has_id id e) (aimed rule.target e) e) in omega (arith, k, few)

@@ -1,9 +1,11 @@
 -- Rows hold no newline.
-use Rattle.std.proofs.Common.{◌≡◌, ℕ, ◌<◌, ◌≤◌, ◌^◌, Bool, true, false, List, [], ◌∷◌, ◌++◌, codes, sym, subst, arith}
+use Rattle.std.proofs.Common.{◌≡◌, ℕ, ◌<◌, ◌≤◌, ◌^◌, List, [], ◌∷◌, ◌++◌, codes, sym, subst, arith}
 use Rattle.std.specs.Prelude.{decimal}
 use Rattle.std.specs.List.{AllByRecursion}
 use Rattle.ug_words.proofs.Decimals.{IsDigit, decimal_written}
 use Rattle.ug_lines.specs.Splitting.{IsLine, AreLines}
+use Rattle.ug_policy.specs.declared.entry.Mark.{Mark}
+use Rattle.ug_policy.specs.declared.entry.Mark.TheVariants as mark
 use Rattle.ug_rules.specs.Rows.{numbered_row}
 use Rattle.ug_rules.specs.RuleRows.{mark_text}
 
@@ -31,8 +33,10 @@ row_line number text h k =
     line_append (decimal number) (codes ": " ++ text) (decimal_line number h)
     (byte 58 (omega arith), (byte 32 (omega arith), k))
 
-mark_line : (temporary : Bool) → IsLine (mark_text temporary)
-mark_line true = (
+mark_line : (m : Mark) → IsLine (mark_text m)
+mark_line mark.Folder = tt
+mark_line mark.File = tt
+mark_line mark.Temporary = (
   byte 32 (omega arith),
   (
     byte 35 (omega arith),
@@ -51,7 +55,6 @@ mark_line true = (
     ),
   ),
 )
-mark_line false = tt
 
-pub marked_line : (row text : List ℕ) (temporary : Bool) → row ≡ text ++ mark_text temporary → IsLine text → IsLine row
-marked_line row text temporary e h = subst IsLine (sym e) (line_append text (mark_text temporary) h (mark_line temporary))
+pub marked_line : (row text : List ℕ) (m : Mark) → row ≡ text ++ mark_text m → IsLine text → IsLine row
+marked_line row text m e h = subst IsLine (sym e) (line_append text (mark_text m) h (mark_line m))

@@ -1,25 +1,27 @@
 -- The rules that are saved, and the text of the rule file with them.
-use Rattle.std.specs.Prelude.{◌≡◌, ◌≤◌, ℕ, Bool, if◌then◌else◌, List, [], ◌∷◌, length, map, flat_map, Ok}
+use Rattle.std.specs.Prelude.{◌≡◌, ◌≤◌, ℕ, if◌then◌else◌, List, [], ◌∷◌, length, map, flat_map, Ok}
 use Rattle.ug_types.specs.declared.rule.Rule.{Rule}
 use Rattle.ug_rule.specs.Files.{file_read}
 use Rattle.ug_rule.specs.Rules.{rule_read}
 use Rattle.ug_print.specs.RuleTexts.{rules_limit, rules_text_of}
 use Rattle.ug_print.specs.Words.{rule_text}
 use Rattle.ug_policy.specs.Edits.{new_entry}
+use Rattle.ug_policy.specs.Marks.{is_permanent}
+use Rattle.ug_policy.specs.declared.entry.Mark.{Mark}
 use Rattle.ug_policy.specs.declared.entry.RuleEntry.{RuleEntry}
 
 -- the rules as they were given, without their histories
 abbrev pub as_given : List RuleEntry → List RuleEntry
-as_given entries = map (λ e. new_entry e.id e.rule e.temporary) entries
+as_given entries = map (λ e. new_entry e.id e.rule e.mark) entries
 
--- a rule is saved if it isn't temporary
-abbrev pub saved_rule : Bool → Rule → List Rule
-saved_rule temporary rule = if temporary then [] else rule ∷ []
+-- a rule is saved if it is permanent
+abbrev pub saved_rule : Mark → Rule → List Rule
+saved_rule mark rule = if is_permanent mark then rule ∷ [] else []
 
 abbrev pub saved_of : RuleEntry → List Rule
-saved_of e = saved_rule e.temporary e.rule
+saved_of e = saved_rule e.mark e.rule
 
--- the permanent rules: those that aren't temporary
+-- the permanent rules
 abbrev pub permanent_rules : List RuleEntry → List Rule
 permanent_rules entries = flat_map saved_of entries
 

@@ -1,5 +1,5 @@
 -- Whether rules are there, and whether one more has a place among them.
-use Rattle.std.specs.Prelude.{ℕ, nat_lt, Bool, not, ◌&&◌, if◌then◌else◌, List, length, Option, Some, None}
+use Rattle.std.specs.Prelude.{ℕ, nat_lt, Bool, ◌&&◌, if◌then◌else◌, List, length, Option, Some, None}
 use Rattle.std.specs.List.{find, list_any}
 use Rattle.std.specs.Option.{option_map}
 use Rattle.ug_types.specs.declared.record.DeviceRecord.{DeviceRecord}
@@ -8,6 +8,7 @@ use Rattle.ug_types.specs.declared.refusal.Refusal.TheVariants as refusal
 use Rattle.ug_types.specs.declared.rule.After.{After}
 use Rattle.ug_types.specs.declared.rule.After.TheVariants as after
 use Rattle.ug_policy.specs.Edits.{has_id}
+use Rattle.ug_policy.specs.Marks.{is_permanent}
 use Rattle.ug_policy.specs.declared.entry.RuleEntry.{RuleEntry}
 use Rattle.ug_print.specs.Made.{is_made_of}
 
@@ -15,9 +16,9 @@ use Rattle.ug_print.specs.Made.{is_made_of}
 abbrev pub has_rule : ℕ → List RuleEntry → Bool
 has_rule id rules = list_any (λ (e : RuleEntry). has_id id e) rules
 
--- some rule of that id isn't temporary
+-- some rule of that id is permanent
 abbrev pub has_permanent : ℕ → List RuleEntry → Bool
-has_permanent id rules = list_any (λ (e : RuleEntry). has_id id e && not e.temporary) rules
+has_permanent id rules = list_any (λ (e : RuleEntry). has_id id e && is_permanent e.mark) rules
 
 -- why there is no rule of that id, no place of that kind, and no room in the list
 abbrev pub if_there : ℕ → List RuleEntry → Option Refusal
@@ -42,9 +43,9 @@ if_taken after rules = first_of (if_place after rules) (if_few rules)
 
 -- ---- the rule that is made of a device
 
--- a rule that isn't temporary, and is the device's generated rule but for its target
+-- a rule that is permanent, and is the device's generated rule but for its target
 abbrev pub is_made : DeviceRecord → Bool → RuleEntry → Bool
-is_made device with_port e = not e.temporary && is_made_of device with_port e.rule
+is_made device with_port e = is_permanent e.mark && is_made_of device with_port e.rule
 
 -- the id of the first of them
 abbrev pub made_rule : DeviceRecord → Bool → List RuleEntry → Option ℕ

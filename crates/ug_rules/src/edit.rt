@@ -1,4 +1,5 @@
 // Changes of a list of rules.
+use ug_policy::Mark;
 use ug_types::{After, Rule};
 
 /// A change of the list: usbguard(1), append-rule and remove-rule, and the device orders with `permanent`.
@@ -8,7 +9,7 @@ pub enum Edit {
     Insert {
         after: After,
         rule: Rule,
-        temporary: bool,
+        mark: Mark,
     },
     /// The rule of that id goes.
     Remove {

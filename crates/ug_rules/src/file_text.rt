@@ -7,23 +7,23 @@ ghost use Rattle.ug_rules.specs.RuleFile.{permanent_rules, permanent_text, saved
 
 use crate::edit::Edit;
 use std::alloc::Global;
-use ug_policy::{RuleEntry, RuleList};
+use ug_policy::{Mark, RuleEntry, RuleList};
 use ug_print::{RulesText, RulesTextFault};
 use ug_types::{After, Rule, Text};
 
-// Adds the line of a rule, if it isn't temporary.
+// Adds the line of a rule, if it is permanent.
 fn put_rule(
     alloc: Global,
     text: &mut RulesText,
     rule: &Rule,
-    temporary: bool,
+    mark: Mark,
 ) -> Result<(), RulesTextFault>
-    ensures text { OnOk result (text.new ≡ text.old ++ rules_text_of (saved_rule temporary rule.now)) }
-    ensures bytes { OnOk result (All RuleOfBytes (saved_rule temporary rule.now)) }
+    ensures text { OnOk result (text.new ≡ text.old ++ rules_text_of (saved_rule mark rule.now)) }
+    ensures bytes { OnOk result (All RuleOfBytes (saved_rule mark rule.now)) }
     ensures too_long { result ≡ Err RulesTextFault.TooLong
-        → rules_limit < length (text.old ++ rules_text_of (saved_rule temporary rule.now)) }
+        → rules_limit < length (text.old ++ rules_text_of (saved_rule mark rule.now)) }
 {
-    if temporary {
+    if !mark.is_permanent() {
         return Ok(());
     }
     text.push(alloc, rule)
@@ -44,9 +44,9 @@ fn put_in_front(
             Edit::Insert {
                 after: After::Front,
                 rule,
-                temporary,
+                mark,
             },
-        ) => put_rule(alloc, text, rule, *temporary),
+        ) => put_rule(alloc, text, rule, *mark),
         _ => Ok(()),
     }
 }
@@ -66,9 +66,9 @@ fn put_at_end(
             Edit::Insert {
                 after: After::End,
                 rule,
-                temporary,
+                mark,
             },
-        ) => put_rule(alloc, text, rule, *temporary),
+        ) => put_rule(alloc, text, rule, *mark),
         _ => Ok(()),
     }
 }
@@ -89,16 +89,16 @@ fn put_edited(
         Edit::Insert {
             after: After::Rule(id),
             rule,
-            temporary,
+            mark,
         } if entry.id == *id => {
-            put_rule(alloc, text, &entry.rule, entry.temporary)?;
-            put_rule(alloc, text, rule, *temporary)
+            put_rule(alloc, text, &entry.rule, entry.mark)?;
+            put_rule(alloc, text, rule, *mark)
         }
         Edit::Remove { id } if entry.id == *id => Ok(()),
         Edit::Retarget { id, rule } if entry.id == *id => {
-            put_rule(alloc, text, rule, entry.temporary)
+            put_rule(alloc, text, rule, entry.mark)
         }
-        _ => put_rule(alloc, text, &entry.rule, entry.temporary),
+        _ => put_rule(alloc, text, &entry.rule, entry.mark),
     }
 }
 
@@ -115,7 +115,7 @@ fn put_entry(
 {
     match edit {
         Some(edit) => put_edited(alloc, text, entry, edit),
-        None => put_rule(alloc, text, &entry.rule, entry.temporary),
+        None => put_rule(alloc, text, &entry.rule, entry.mark),
     }
 }
 
@@ -146,7 +146,7 @@ pub fn file_text(
     Ok(text.into_text())
 }
 
-/// The text of a rule file with the rules of a list that aren't temporary.
+/// The text of a rule file with the permanent rules of a list.
 #[tactic(auto, using(crate::proofs::Edited::unedited_rules))]
 pub fn list_text(alloc: Global, list: &RuleList) -> Result<Text, RulesTextFault>
     ensures text { IfOk result (λ text. text ≡ permanent_text list.now.entries) }

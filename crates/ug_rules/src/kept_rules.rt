@@ -19,11 +19,11 @@ use rand_core::Rng;
 use std::alloc::Global;
 use std::marker::Model;
 use ug_cond::{Allowed, Context};
-use ug_policy::{RuleEntry, RuleList};
+use ug_policy::{Mark, RuleEntry, RuleList};
 use ug_print::{RulesTextFault, is_made_of};
 use ug_types::{After, Cause, DeviceRecord, List, NoMemory, Refusal, Rule, Target, Text};
 
-/// Rules, each of which reads again from its canonical text. A rule file has room for those that aren't temporary.
+/// Rules, each of which reads again from its canonical text. A rule file has room for the permanent ones.
 #[derive(Drop)]
 pub struct KeptRules {
     list: RuleList,
@@ -44,7 +44,7 @@ impl Model for KeptRules {
 fn find_made(rules: &[RuleEntry], device: &DeviceRecord, with_port: bool) -> Option<u64>
     ensures { result ≡ made_rule device.now with_port rules.now }
 {
-    match rules.iter().find(|entry| !entry.temporary
+    match rules.iter().find(|entry| entry.mark.is_permanent()
         && is_made_of(&entry.rule, device, with_port))
     {
         Some(entry) => Some(entry.id),
@@ -84,12 +84,14 @@ impl KeptRules {
         rules.iter().any(|entry| entry.id == id)
     }
 
-    // Whether a rule that isn't temporary has the id.
+    // Whether a permanent rule has the id.
     fn has_permanent(&self, id: u64) -> bool
         ensures { result ≡ has_permanent id self.now.entries }
     {
         let rules = self.list.as_slice();
-        rules.iter().any(|entry| entry.id == id && !entry.temporary)
+        rules
+            .iter()
+            .any(|entry| entry.id == id && entry.mark.is_permanent())
     }
 
     fn has_place(&self, after: After) -> Option<Refusal>
@@ -135,7 +137,7 @@ impl KeptRules {
         }
     }
 
-    /// The id of the first rule that isn't temporary and is the device's generated rule but for its target. It takes no memory.
+    /// The id of the first permanent rule that is the device's generated rule but for its target. It takes no memory.
     #[tactic(auto, using(crate::proofs::MadeRules::alone_if))]
     pub fn made_rule(&self, device: &DeviceRecord, with_port: bool) -> Option<u64>
         ensures made { result ≡ made_rule device.now with_port self.now.entries }
@@ -156,27 +158,27 @@ impl KeptRules {
         self.list.reserve()
     }
 
-    /// Whether the edit changes rules that aren't temporary.
+    /// Whether the edit changes permanent rules.
     fn changes_file(&self, edit: &Edit) -> bool
         ensures { result ≡ changes_file edit.now self.now.entries }
     {
         match edit {
-            Edit::Insert { temporary, .. } => !*temporary,
+            Edit::Insert { mark, .. } => mark.is_permanent(),
             Edit::Remove { id } => self.has_permanent(*id),
             Edit::Retarget { .. } => true,
         }
     }
 
-    fn insert(&mut self, after: After, rule: Rule, temporary: bool)
-        requires can { CanEdit (Edit.Insert after rule temporary) self.old.entries }
+    fn insert(&mut self, after: After, rule: Rule, mark: Mark)
+        requires can { CanEdit (Edit.Insert after rule mark) self.old.entries }
         requires reads { ReadsBack rule }
-        requires saves { IsSaveable (inserted after (new_entry self.old.next rule temporary) self.old.entries) }
+        requires saves { IsSaveable (inserted after (new_entry self.old.next rule mark) self.old.entries) }
         requires spare { 0 < self.old.spare }
         requires id { self.old.next < 2 ^ 64 - 1 }
-        ensures entries { self.new.entries ≡ inserted after (new_entry self.old.next rule temporary) self.old.entries }
+        ensures entries { self.new.entries ≡ inserted after (new_entry self.old.next rule mark) self.old.entries }
         ensures next { self.new.next ≡ self.old.next + 1 }
     {
-        let _id = self.list.insert(after, rule, temporary);
+        let _id = self.list.insert(after, rule, mark);
     }
 
     fn remove(&mut self, id: u64)
@@ -208,17 +210,13 @@ impl KeptRules {
         ensures next { self.new.next ≡ next_after edit self.old.next }
     {
         match edit {
-            Edit::Insert {
-                after,
-                rule,
-                temporary,
-            } => self.insert(after, rule, temporary),
+            Edit::Insert { after, rule, mark } => self.insert(after, rule, mark),
             Edit::Remove { id } => self.remove(id),
             Edit::Retarget { id, rule } => self.retarget(id, &rule),
         }
     }
 
-    /// The text of a rule file with the rules that aren't temporary, which reads as them again.
+    /// The text of a rule file with the permanent rules, which reads as them again.
     pub fn text(&self, alloc: Global) -> Result<Text, NoMemory>
         ensures text { IfOk result (λ text. text ≡ permanent_text self.now.entries) }
         ensures reads { IfOk result (λ text. file_read text ≡ Ok (permanent_rules self.now.entries)) }
@@ -247,14 +245,14 @@ impl KeptRules {
         file_text(alloc, &self.list, Some(edit))
     }
 
-    /// The rules that aren't temporary read again from the text that is saved of them, for which a rule file has room.
+    /// The permanent rules read again from the text that is saved of them, for which a rule file has room.
     pub fn stay_saveable(&self)
         ensures { IsSaveable self.now.entries }
     {
         let _rules = self.list.as_slice();
     }
 
-    /// The same, where the edit changes rules that aren't temporary.
+    /// The same, where the edit changes permanent rules.
     pub fn text_if_saved(&self, alloc: Global, edit: &Edit) -> Result<Option<Text>, RulesTextFault>
         requires { EditReads edit.now self.now.entries }
         ensures text { IfOk result (λ text. text ≡ (if changes_file edit.now self.now.entries

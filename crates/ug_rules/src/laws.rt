@@ -5,7 +5,7 @@ ghost use Rattle.ug_policy.specs.declared.entry.RuleEntry.{RuleEntry};
 ghost use Rattle.ug_rules.specs.RulePlaces.{made_rule};
 ghost use Rattle.ug_rules.specs.MadeRules.{IsFirstMade, HasNoneMade};
 
-/// The rule of a device is the first that isn't temporary and is the device's generated rule but for its target; there is none
+/// The rule of a device is the first that is permanent and is the device's generated rule but for its target; there is none
 /// just where no rule is so.
 pub fn made_rule_law()
     ensures some { (device : DeviceRecord) (with_port : Bool) (rules : List RuleEntry) (id : ℕ)

@@ -6,16 +6,19 @@ ghost use Rattle.ug_rules.specs.RuleRows.{mark_text, rule_row, rule_rows};
 
 use crate::rows::print_row;
 use std::alloc::Global;
-use ug_policy::{RuleEntry, RuleList};
+use ug_policy::{Mark, RuleEntry, RuleList};
 use ug_print::print_rule;
 use ug_types::{List, NoMemory, Text};
 
-fn put_mark(row: &mut Vec<u8>, temporary: bool) -> Result<(), NoMemory>
-    ensures { OnOk result (row.new.items ≡ row.old.items ++ mark_text temporary) }
+fn put_mark(row: &mut Vec<u8>, mark: Mark) -> Result<(), NoMemory>
+    ensures { OnOk result (row.new.items ≡ row.old.items ++ mark_text mark) }
 {
-    if temporary {
-        row.extend_from_slice(b" # temporary")?;
-    }
+    let text: &[u8] = match mark {
+        Mark::Folder => b"",
+        Mark::File => b"",
+        Mark::Temporary => b" # temporary",
+    };
+    row.extend_from_slice(text)?;
     Ok(())
 }
 
@@ -26,7 +29,7 @@ fn print_rule_row(alloc: Global, entry: &RuleEntry) -> Result<Text, NoMemory>
 {
     let rule = print_rule(alloc, &entry.rule)?;
     let mut row = print_row(alloc, entry.id, rule.bytes())?;
-    put_mark(&mut row, entry.temporary)?;
+    put_mark(&mut row, entry.mark)?;
     Ok(Text::from_vec(row))
 }
 

@@ -15,7 +15,7 @@ invariant_of-self c =
     let es = c.self.inside.entries.items in
     let next = c.self.inside.next_id in
     let place = c.in-Some.place in
-    let entry = new_entry next c.args.rule c.args.temporary in
+    let entry = new_entry next c.args.rule c.args.mark in
     let long : length c.as_slice.result.now ≡ length es = ap (λ (v : List RuleEntry). length v) c.as_slice.ensures.value in
     let within : place ≤ length es = omega (arith, c.in-Some.ensures.within) in
     let few : length es < 65536 = omega (arith, c.self.invariant.numbered.few) in
@@ -32,4 +32,4 @@ returns-clause-history c = λ js s.
     let as_seen : es ≡ c.args.self.now.entries = ap (λ (v : Rules). v.entries) c.self.view_is in
     let next_seen : next ≡ c.args.self.now.next = ap (λ (v : Rules). v.next) c.self.view_is in
     let before : StandsFor es next js = subst (λ (v : List RuleEntry). StandsFor v next js) (sym as_seen) (subst (λ (n : ℕ). StandsFor c.args.self.now.entries n js) (sym next_seen) s) in
-    subst (λ (v : List RuleEntry). StandsFor v (next + 1) js) (sym c.put_rule.ensures.entries) (stands_insert es next c.in-Some.place c.args.rule c.args.temporary js before)
+    subst (λ (v : List RuleEntry). StandsFor v (next + 1) js) (sym c.put_rule.ensures.entries) (stands_insert es next c.in-Some.place c.args.rule c.args.mark js before)

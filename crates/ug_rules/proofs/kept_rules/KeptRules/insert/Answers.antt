@@ -17,6 +17,6 @@ invariant_of-self c =
     let there : c.insert-id.result ≡ Err fault.NoRule → ⊥ = λ e. c.insert-id.ensures.no_rule.0 e place in
     let few : c.insert-id.result ≡ Err fault.Full → ⊥ = λ e. let full = c.insert-id.ensures.full.0 e in omega (arith, full.1, less) in
     let is = was_inserted c.insert-id.result there few c.insert-id.ensures.entries in (
-      subst (All ReadsBack) (sym (ap rules_in is)) (edited_reads (Insert c.args.after c.args.rule c.args.temporary) was.next was.entries c.requires.reads c.self.invariant.0),
-      subst IsSaveable (sym is) (subst (λ (v : Rules). IsSaveable (inserted c.args.after (new_entry v.next c.args.rule c.args.temporary) v.entries)) same c.requires.saves),
+      subst (All ReadsBack) (sym (ap rules_in is)) (edited_reads (Insert c.args.after c.args.rule c.args.mark) was.next was.entries c.requires.reads c.self.invariant.0),
+      subst IsSaveable (sym is) (subst (λ (v : Rules). IsSaveable (inserted c.args.after (new_entry v.next c.args.rule c.args.mark) v.entries)) same c.requires.saves),
     )
