@@ -2,9 +2,9 @@
 use Rattle.std.proofs.Common.{◌≡◌, ℕ, List, [], ◌∷◌, ◌++◌, fold, sym, ◌∙◌, append_assoc}
 use Rattle.std.proofs.lemmas.List.{append-nil, map-append}
 use Rattle.ug_types.specs.declared.access.Section.{Section}
-use Rattle.ug_equations.proofs.EntriesRead as lines
+use Rattle.ug_lines.proofs.EntriesRead as lines
 use Rattle.ug_acl.specs.declared.draft.Given.{Given}
-use Rattle.ug_acl.specs.Grammar.{GivesGrant, IsBadGrantLine, IsAccessLine, Skipped, Grants, Wrong}
+use Rattle.ug_acl.specs.Grammar.{GivesGrant, IsBadGrantLine, IsAccessTextLine, Skipped, Grants, Wrong}
 use Rattle.ug_acl.specs.Lines.{sections_of, given_to, line_given}
 use Rattle.ug_acl.proofs.LineCases.{skipped_read, grant_read, bad_read, line_case}
 
@@ -15,7 +15,7 @@ with_grant given g = given ++ g ∷ []
 cases : (number : ℕ) (seen : List Section) (line : List ℕ) → lines.LineCase GivesGrant (λ g. g.section) IsBadGrantLine number seen line
 cases number seen line = by (line_case seen line)
   where
-    by : IsAccessLine seen line → lines.LineCase GivesGrant (λ g. g.section) IsBadGrantLine number seen line
+    by : IsAccessTextLine seen line → lines.LineCase GivesGrant (λ g. g.section) IsBadGrantLine number seen line
     by (Skipped h) = lines.Skipped h
     by (Grants section privileges g n) = lines.HasEntry (given_to section privileges) g n
     by (Wrong kind place h) = lines.Bad kind place h

@@ -8,9 +8,9 @@ use Rattle.ug_types.specs.declared.access.Section.{Section}
 use Rattle.ug_lines.specs.Blanks.{without_front}
 use Rattle.ug_lines.specs.Equations.{IsTextOf, IsSkipped, IsEquation}
 use Rattle.ug_lines.proofs.Signs.{value_place}
-use Rattle.ug_equations.specs.Cuts.{EquationCut, Skip, NoSign, Sides, IsEquationCut}
-use Rattle.ug_equations.specs.Entries.{IsSkippedLine}
-use Rattle.ug_equations.proofs.Cutting.{cut_so, cut_some, sides_so}
+use Rattle.ug_lines.specs.Cuts.{EquationCut, Skip, NoSign, Sides, IsEquationCut}
+use Rattle.ug_lines.specs.Entries.{IsSkippedLine}
+use Rattle.ug_lines.proofs.Cutting.{cut_so, cut_some, sides_so}
 use Rattle.ug_lines.proofs.Trimming as trimming
 use Rattle.ug_acl.specs.declared.draft.Given.{Given}
 use Rattle.ug_acl.specs.declared.fault.FaultKind.{FaultKind}
@@ -19,8 +19,8 @@ use Rattle.ug_acl.specs.declared.privileges.Privileges.{Privileges}
 use Rattle.ug_types.specs.TextFaults.{fault_of_kind}
 use Rattle.ug_lines.specs.LineReading.{then_on}
 use Rattle.ug_acl.specs.Faults.{GrantFault}
-use Rattle.ug_acl.specs.Grammar.{IsGrant, AreParts, ArePrivileges, width_of, IsBadList, IsBadGrantLine, IsAccessLine, Skipped, Grants, Wrong}
-use Rattle.ug_acl.specs.Lines.{parts_of, parts_read, trimmed, sections_of, has_section, unless_given, section_read, given_to, cut_given, line_given}
+use Rattle.ug_acl.specs.Grammar.{IsGrant, AreCommaParts, ArePrivileges, width_of, IsBadList, IsBadGrantLine, IsAccessTextLine, Skipped, Grants, Wrong}
+use Rattle.ug_acl.specs.Lines.{comma_parts, parts_read, trimmed, sections_of, has_section, unless_given, section_read, given_to, cut_given, line_given}
 use Rattle.ug_acl.specs.Lines as lines
 use Rattle.ug_acl.specs.Words.{given_by_words}
 use Rattle.ug_acl.proofs.Parts.{parts_found, are_parts}
@@ -42,7 +42,7 @@ line_sides : (given : List Given) (line text word value : List ℕ) → IsTextOf
 line_sides given line text word value t s e = ap (cut_given given) (sides_so line text word value t s e)
 
 abbrev after_section : List Given → List ℕ → ℕ → Result Section GrantFault → Outcome
-after_section given value place read = then_on read (λ section. then_on (parts_read section place (parts_of value)) (λ privileges. Ok (given ++ given_to section privileges ∷ [])))
+after_section given value place read = then_on read (λ section. then_on (parts_read section place (comma_parts value)) (λ privileges. Ok (given ++ given_to section privileges ∷ [])))
 
 abbrev after_parts : List Given → Section → Result Privileges GrantFault → Outcome
 after_parts given section read = then_on read (λ privileges. Ok (given ++ given_to section privileges ∷ []))
@@ -100,7 +100,7 @@ bad_read given line BadPrivilege place h =
     ∙ ap (λ (p : ℕ). Err (fault_of_kind BadPrivilege p)) where_
 bad_read given line BadName place h = absurd h.3
 
-bad_list : (section : Section) (value : List ℕ) → FirstBadPart section (parts_of value) → (at : ℕ) × IsBadList section value at
+bad_list : (section : Section) (value : List ℕ) → FirstBadPart section (comma_parts value) → (at : ℕ) × IsBadList section value at
 bad_list section value b =
     let f : trimming.Front b.bad = trimming.front b.bad in (
       width_of b.good + length f.before,
@@ -112,7 +112,7 @@ bad_list section value b =
         word = trimmed b.bad;
         blanks = f.before;
         rest = without_front b.bad;
-        are_parts = subst (λ (ps : List (List ℕ)). AreParts value ps) b.is (are_parts value);
+        are_parts = subst (λ (ps : List (List ℕ)). AreCommaParts value ps) b.is (are_parts value);
         are_privileges = b.are_privileges;
         text_of = trimming.text_of b.bad;
         no_privilege = b.no_privilege;
@@ -123,14 +123,14 @@ bad_list section value b =
       },
     )
 
-of_value : (seen : List Section) (line text value : List ℕ) (section : Section) → IsTextOf line text → ¬ IsSkipped text → IsEquation text (section_word section) value → ¬ Has seen section → IsAccessLine seen line
-of_value seen line text value section t s e n = by (part_case section (parts_of value))
+of_value : (seen : List Section) (line text value : List ℕ) (section : Section) → IsTextOf line text → ¬ IsSkipped text → IsEquation text (section_word section) value → ¬ Has seen section → IsAccessTextLine seen line
+of_value seen line text value section t s e n = by (part_case section (comma_parts value))
   where
-    by : ((words : List (List ℕ)) × ArePrivileges section (parts_of value) words) ⊎ FirstBadPart section (parts_of value) → IsAccessLine seen line
+    by : ((words : List (List ℕ)) × ArePrivileges section (comma_parts value) words) ⊎ FirstBadPart section (comma_parts value) → IsAccessTextLine seen line
     by (inl g) = Grants section (given_by_words section g.0) (record {
       text = text;
       value = value;
-      parts = parts_of value;
+      parts = comma_parts value;
       words = g.0;
       text_of = t;
       shown = s;
@@ -144,21 +144,21 @@ of_value seen line text value section t s e n = by (part_case section (parts_of 
         let l = bad_list section value b in
         Wrong BadPrivilege (length text - length value + l.0) (text, t, s, (section, value, l.0, e, n, l.1, omega (arith, whole)))
 
-of_section : (seen : List Section) (line text value : List ℕ) (section : Section) → (Has seen section ⊎ (¬ Has seen section)) → IsTextOf line text → ¬ IsSkipped text → IsEquation text (section_word section) value → IsAccessLine seen line
+of_section : (seen : List Section) (line text value : List ℕ) (section : Section) → (Has seen section ⊎ (¬ Has seen section)) → IsTextOf line text → ¬ IsSkipped text → IsEquation text (section_word section) value → IsAccessTextLine seen line
 of_section seen line text value section (inl h) t s e = Wrong Repeated 0 (text, t, s, (refl, section, value, e, h))
 of_section seen line text value section (inr n) t s e = of_value seen line text value section t s e n
 
-of_word : (seen : List Section) (line text word value : List ℕ) → IsTextOf line text → ¬ IsSkipped text → IsEquation text word value → IsAccessLine seen line
+of_word : (seen : List Section) (line text word value : List ℕ) → IsTextOf line text → ¬ IsSkipped text → IsEquation text word value → IsAccessTextLine seen line
 of_word seen line text word value t s e = by (section_of word) refl
   where
-    by : (o : Option Section) → section_of word ≡ o → IsAccessLine seen line
+    by : (o : Option Section) → section_of word ≡ o → IsAccessTextLine seen line
     by (Some section) f = of_section seen line text value section (is_seen seen section) t s (subst (λ (w : List ℕ). IsEquation text w value) (section_written word section f) e)
     by None f = Wrong UnknownSection 0 (text, t, s, (refl, word, value, e, λ section k. none-some section (sym f ∙ ap section_of k ∙ word_read section)))
 
-pub line_case : (seen : List Section) (line : List ℕ) → IsAccessLine seen line
+pub line_case : (seen : List Section) (line : List ℕ) → IsAccessTextLine seen line
 line_case seen line = let c = cut_some line in by c.0 c.1
   where
-    by : (cut : EquationCut) → IsEquationCut line cut → IsAccessLine seen line
+    by : (cut : EquationCut) → IsEquationCut line cut → IsAccessTextLine seen line
     by Skip h = Skipped h
     by NoSign h = Wrong NoEquals 0 (h.0, h.1, h.2, (refl, h.3))
     by (Sides word value place) h = of_word seen line h.0 word value h.1 h.2 h.3

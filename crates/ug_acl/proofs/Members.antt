@@ -13,7 +13,7 @@ use Rattle.ug_types.specs.declared.access.Privilege.{Privilege}
 use Rattle.ug_types.specs.declared.access.Privilege.TheVariants.{Modify, Listen}
 use Rattle.ug_types.specs.declared.access.Privilege.TheVariants as privilege
 use Rattle.ug_acl.specs.Acls.{Addition, is_allowed}
-use Rattle.ug_acl.specs.Pairs.{Pair, all_pairs, same_section, same_privilege, same_pair, holds}
+use Rattle.ug_acl.specs.Pairs.{Pair, all_pairs, same_section, same_privilege, same_pair, holds_privilege}
 use Rattle.ug_acl.proofs.SeenSections.{section_same, section_itself}
 
 pub privilege_same : (a b : Privilege) → same_privilege a b ≡ true → a ≡ b
@@ -59,19 +59,19 @@ has_any f (y ∷ xs) x (inr h) e = by (f y) (has_any f xs x h e)
     by true k = refl
     by false k = k
 
-held_has : (pairs : List Pair) (section : Section) (p : Privilege) → IsTrue (holds pairs section p) → Has pairs (section, p)
+held_has : (pairs : List Pair) (section : Section) (p : Privilege) → IsTrue (holds_privilege pairs section p) → Has pairs (section, p)
 held_has pairs section p h =
     let m = any_has (λ (pair : Pair). same_pair pair (section, p)) pairs h in
     subst (λ (x : Pair). Has pairs x) (pair_same m.0 (section, p) m.2) m.1
 
-has_held : (pairs : List Pair) (section : Section) (p : Privilege) → Has pairs (section, p) → IsTrue (holds pairs section p)
+has_held : (pairs : List Pair) (section : Section) (p : Privilege) → Has pairs (section, p) → IsTrue (holds_privilege pairs section p)
 has_held pairs section p h = has_any (λ (pair : Pair). same_pair pair (section, p)) pairs (section, p) h (pair_itself (section, p))
 
-pub granted : (pairs : List Pair) (section : Section) (p : Privilege) → (IsTrue (holds pairs section p) → Has pairs (section, p)) × (Has pairs (section, p) → IsTrue (holds pairs section p))
+pub granted : (pairs : List Pair) (section : Section) (p : Privilege) → (IsTrue (holds_privilege pairs section p) → Has pairs (section, p)) × (Has pairs (section, p) → IsTrue (holds_privilege pairs section p))
 granted pairs section p = (held_has pairs section p, has_held pairs section p)
 
 -- a pair that is kept is there
-pub kept_held : (kept : Pair → Bool) (section : Section) (p : Privilege) → holds (filter kept all_pairs) section p ≡ (kept (section, p) && holds all_pairs section p)
+pub kept_held : (kept : Pair → Bool) (section : Section) (p : Privilege) → holds_privilege (filter kept all_pairs) section p ≡ (kept (section, p) && holds_privilege all_pairs section p)
 kept_held kept section p =
     any-filter_same (λ (pair : Pair). same_pair pair (section, p)) kept (kept (section, p)) (λ pair e. ap kept (pair_same pair (section, p) e)) all_pairs
 
@@ -102,14 +102,14 @@ named_itself a = rw (group_itself a.group) (text_itself a.name)
 
 allowed_has : (all : List Addition) (who : Named) (section : Section) (p : Privilege) → IsTrue (is_allowed all who section p) → (a : Addition) × Has all a × (a.who ≡ who) × Has a.grants (section, p)
 allowed_has all who section p h =
-    let m = any_has (λ (a : Addition). same_principal a.who who && holds a.grants section p) all h in
-    let k = both_true (same_principal m.0.who who) (holds m.0.grants section p) m.2 in
+    let m = any_has (λ (a : Addition). same_principal a.who who && holds_privilege a.grants section p) all h in
+    let k = both_true (same_principal m.0.who who) (holds_privilege m.0.grants section p) m.2 in
     (m.0, m.1, named_same m.0.who who k.0, held_has m.0.grants section p k.1)
 
 has_allowed : (all : List Addition) (who : Named) (section : Section) (p : Privilege) → (a : Addition) × Has all a × (a.who ≡ who) × Has a.grants (section, p) → IsTrue (is_allowed all who section p)
 has_allowed all who section p h =
     let same : same_principal h.0.who who ≡ true = ap (same_principal h.0.who) (sym h.2) ∙ named_itself h.0.who in
-    has_any (λ (a : Addition). same_principal a.who who && holds a.grants section p) all h.0 h.1 (rw same (has_held h.0.grants section p h.3))
+    has_any (λ (a : Addition). same_principal a.who who && holds_privilege a.grants section p) all h.0 h.1 (rw same (has_held h.0.grants section p h.3))
 
 pub allowed : (all : List Addition) (who : Named) (section : Section) (p : Privilege)
     → (IsTrue (is_allowed all who section p) → (a : Addition) × Has all a × (a.who ≡ who) × Has a.grants (section, p)) × ((a : Addition) × Has all a × (a.who ≡ who) × Has a.grants (section, p) → IsTrue (is_allowed all who section p))

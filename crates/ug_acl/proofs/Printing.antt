@@ -23,10 +23,10 @@ use Rattle.ug_acl.specs.declared.privileges.Privileges.{Privileges}
 use Rattle.ug_types.specs.TextFaults.{fault_of_kind}
 use Rattle.ug_lines.specs.LineReading.{lines_read, on_line, then_on}
 use Rattle.ug_acl.specs.Faults.{GrantFault, number_of_kind}
-use Rattle.ug_acl.specs.Lines.{parts_of, parts_read, given_to, has_section, unless_given, line_given}
-use Rattle.ug_acl.specs.Pairs.{Pair, all_pairs, same_section, holds}
-use Rattle.ug_acl.specs.Printed.{words_held, held_in, grant_line, printed}
-use Rattle.ug_acl.specs.Texts.{is_given, pairs_given, granting_line, as_pairs, access_read}
+use Rattle.ug_acl.specs.Lines.{comma_parts, parts_read, given_to, has_section, unless_given, line_given}
+use Rattle.ug_acl.specs.Pairs.{Pair, all_pairs, same_section, holds_privilege}
+use Rattle.ug_acl.specs.Printed.{words_held, held_in, grant_line, grants_text}
+use Rattle.ug_acl.specs.Texts.{grants_privilege, pairs_given, granting_line, as_pairs, access_read}
 use Rattle.ug_acl.specs.Words.{has_privilege}
 use Rattle.ug_acl.proofs.Members.{kept_held}
 
@@ -53,7 +53,7 @@ Step given section words after =
     ⊎ ((words ≢ []) × IsLine (section_word section ++ 61 ∷ words) × (line_given given (section_word section ++ 61 ∷ words) ≡ Ok after))
 
 abbrev on_section : List Given → List ℕ → ℕ → Result Section GrantFault → Result (List Given) GrantFault
-on_section given value place read = then_on read (λ section. then_on (parts_read section place (parts_of value)) (λ privileges. Ok (given ++ given_to section privileges ∷ [])))
+on_section given value place read = then_on read (λ section. then_on (parts_read section place (comma_parts value)) (λ privileges. Ok (given ++ given_to section privileges ∷ [])))
 
 fresh : (given : List Given) (section : Section) → has_section given section ≡ false → unless_given given (Some section) ≡ Ok section
 fresh given section h = ap (λ (v : Bool). cond v (Err (fault_of_kind Repeated 0)) (Ok section)) h
@@ -134,16 +134,16 @@ nothing_held privilege.List v = and-false v
 nothing_held Listen v = and-false v
 
 given_more : (given : List Given) (other : Section) (m l n : Bool) (section : Section) (p : Privilege)
-    → is_given (with_section given other m l n) section p ≡ (is_given given section p || (same_section other section && has_privilege (all_of m l n) p))
+    → grants_privilege (with_section given other m l n) section p ≡ (grants_privilege given section p || (same_section other section && has_privilege (all_of m l n) p))
 given_more given other m l n section p = by m l n
   where
-    more : (held : Privileges) → is_given (given ++ given_to other held ∷ []) section p ≡ (is_given given section p || (same_section other section && has_privilege held p))
+    more : (held : Privileges) → grants_privilege (given ++ given_to other held ∷ []) section p ≡ (grants_privilege given section p || (same_section other section && has_privilege held p))
     more held =
         list_any-append (λ (g : Given). same_section g.section section && has_privilege g.privileges p) given (given_to other held ∷ [])
-        ∙ ap (λ (v : Bool). is_given given section p || v) (or-false (same_section other section && has_privilege held p))
+        ∙ ap (λ (v : Bool). grants_privilege given section p || v) (or-false (same_section other section && has_privilege held p))
 
-    by : (m l n : Bool) → is_given (with_section given other m l n) section p ≡ (is_given given section p || (same_section other section && has_privilege (all_of m l n) p))
-    by false false false = sym (ap (λ (v : Bool). is_given given section p || v) (nothing_held p (same_section other section)) ∙ or-false (is_given given section p))
+    by : (m l n : Bool) → grants_privilege (with_section given other m l n) section p ≡ (grants_privilege given section p || (same_section other section && has_privilege (all_of m l n) p))
+    by false false false = sym (ap (λ (v : Bool). grants_privilege given section p || v) (nothing_held p (same_section other section)) ∙ or-false (grants_privilege given section p))
     by false false true = more (all_of false false true)
     by false true l = more (all_of false true l)
     by true l n = more (all_of true l n)
@@ -152,7 +152,7 @@ abbrev all_given : (dm dl dn pm pl xn rm rl rn : Bool) → List Given
 all_given dm dl dn pm pl xn rm rl rn =
     with_section (with_section (with_section (with_section [] Devices dm dl dn) Policy pm pl false) Exceptions false false xn) Parameters rm rl rn
 
-given_in : (dm dl dn pm pl xn rm rl rn : Bool) (section : Section) (p : Privilege) → is_given (all_given dm dl dn pm pl xn rm rl rn) section p
+given_in : (dm dl dn pm pl xn rm rl rn : Bool) (section : Section) (p : Privilege) → grants_privilege (all_given dm dl dn pm pl xn rm rl rn) section p
     ≡ ((((false || (same_section Devices section && has_privilege (all_of dm dl dn) p)) || (same_section Policy section && has_privilege (all_of pm pl false) p))
     || (same_section Exceptions section && has_privilege (all_of false false xn) p)) || (same_section Parameters section && has_privilege (all_of rm rl rn) p))
 given_in dm dl dn pm pl xn rm rl rn section p =
@@ -190,7 +190,7 @@ pairs_again : (kept : Pair → Bool) (dm dl dn pm pl xn rm rl rn : Bool)
     → pairs_given (all_given dm dl dn pm pl xn rm rl rn) ≡ filter kept all_pairs
 pairs_again kept dm dl dn pm pl xn rm rl rn a b c d e f g h i =
     let given : (section : Section) (p : Privilege) → _ = given_in dm dl dn pm pl xn rm rl rn in
-    filter_agree (λ pair. is_given (all_given dm dl dn pm pl xn rm rl rn) pair.0 pair.1) kept all_pairs (
+    filter_agree (λ pair. grants_privilege (all_given dm dl dn pm pl xn rm rl rn) pair.0 pair.1) kept all_pairs (
       given Devices Modify ∙ three_or dm ∙ a,
       (
         given Devices privilege.List ∙ three_or dl ∙ b,
@@ -245,26 +245,26 @@ text_read dm dl dn pm pl xn rm rl rn =
     let r = all_read dm dl dn pm pl xn rm rl rn in
     ap as_pairs (r.1 ∙ ap (lines_read granting_line r.0 (all_given dm dl dn pm pl xn rm rl rn)) (nothing [] refl))
 
-pub reads_back : (kept : Pair → Bool) → access_read (printed (filter kept all_pairs)) ≡ Ok (filter kept all_pairs)
-unfolding printed
+pub reads_back : (kept : Pair → Bool) → access_read (grants_text (filter kept all_pairs)) ≡ Ok (filter kept all_pairs)
+unfolding grants_text
 reads_back kept =
     let pairs : List Pair = filter kept all_pairs in
-    let held : (section : Section) (p : Privilege) → holds pairs section p ≡ (kept (section, p) && holds all_pairs section p) = kept_held kept in
-    let no_listen : holds pairs Policy Listen ≡ false = held Policy Listen ∙ and-false (kept (Policy, Listen)) in
-    let no_modify : holds pairs Exceptions Modify ≡ false = held Exceptions Modify ∙ and-false (kept (Exceptions, Modify)) in
-    let no_list : holds pairs Exceptions privilege.List ≡ false = held Exceptions privilege.List ∙ and-false (kept (Exceptions, privilege.List)) in
-    let dm : Bool = holds pairs Devices Modify in
-    let dl : Bool = holds pairs Devices privilege.List in
-    let dn : Bool = holds pairs Devices Listen in
-    let pm : Bool = holds pairs Policy Modify in
-    let pl : Bool = holds pairs Policy privilege.List in
-    let xn : Bool = holds pairs Exceptions Listen in
-    let rm : Bool = holds pairs Parameters Modify in
-    let rl : Bool = holds pairs Parameters privilege.List in
-    let rn : Bool = holds pairs Parameters Listen in
-    let is : printed pairs ≡ text_of dm dl dn pm pl xn rm rl rn =
+    let held : (section : Section) (p : Privilege) → holds_privilege pairs section p ≡ (kept (section, p) && holds_privilege all_pairs section p) = kept_held kept in
+    let no_listen : holds_privilege pairs Policy Listen ≡ false = held Policy Listen ∙ and-false (kept (Policy, Listen)) in
+    let no_modify : holds_privilege pairs Exceptions Modify ≡ false = held Exceptions Modify ∙ and-false (kept (Exceptions, Modify)) in
+    let no_list : holds_privilege pairs Exceptions privilege.List ≡ false = held Exceptions privilege.List ∙ and-false (kept (Exceptions, privilege.List)) in
+    let dm : Bool = holds_privilege pairs Devices Modify in
+    let dl : Bool = holds_privilege pairs Devices privilege.List in
+    let dn : Bool = holds_privilege pairs Devices Listen in
+    let pm : Bool = holds_privilege pairs Policy Modify in
+    let pl : Bool = holds_privilege pairs Policy privilege.List in
+    let xn : Bool = holds_privilege pairs Exceptions Listen in
+    let rm : Bool = holds_privilege pairs Parameters Modify in
+    let rl : Bool = holds_privilege pairs Parameters privilege.List in
+    let rn : Bool = holds_privilege pairs Parameters Listen in
+    let is : grants_text pairs ≡ text_of dm dl dn pm pl xn rm rl rn =
     ap (λ (v : Bool). grant_line Devices (words_held dm dl dn) ++ (grant_line Policy (words_held pm pl v) ++ (grant_line Exceptions (held_in pairs Exceptions) ++ grant_line Parameters (words_held rm rl rn)))) no_listen
-    ∙ ap (λ (v : Bool). grant_line Devices (words_held dm dl dn) ++ (grant_line Policy (words_held pm pl false) ++ (grant_line Exceptions (words_held v (holds pairs Exceptions privilege.List) xn) ++ grant_line Parameters (words_held rm rl rn)))) no_modify
+    ∙ ap (λ (v : Bool). grant_line Devices (words_held dm dl dn) ++ (grant_line Policy (words_held pm pl false) ++ (grant_line Exceptions (words_held v (holds_privilege pairs Exceptions privilege.List) xn) ++ grant_line Parameters (words_held rm rl rn)))) no_modify
     ∙ ap (λ (v : Bool). grant_line Devices (words_held dm dl dn) ++ (grant_line Policy (words_held pm pl false) ++ (grant_line Exceptions (words_held false v xn) ++ grant_line Parameters (words_held rm rl rn)))) no_list in
     ap access_read is ∙ text_read dm dl dn pm pl xn rm rl rn
     ∙ ap Ok (pairs_again kept dm dl dn pm pl xn rm rl rn

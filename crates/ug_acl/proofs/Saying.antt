@@ -2,7 +2,7 @@
 use Rattle.std.proofs.Common.{◌≡◌, ℕ, ◌⊎◌, inl, inr, List, [], Ok, Err, refl, sym, ap, ◌∙◌}
 use Rattle.ug_lines.proofs.Meanings as meanings
 use Rattle.ug_types.specs.declared.text_fault.TextFault.{TextFault}
-use Rattle.ug_equations.proofs.EntriesRead as lines
+use Rattle.ug_lines.proofs.EntriesRead as lines
 use Rattle.ug_acl.specs.declared.draft.Given.{Given}
 use Rattle.ug_acl.specs.Faults.{number_of_kind}
 use Rattle.ug_acl.specs.Grammar.{GivesAccess, GivesGrant, IsBadGrantLine, IsFirstBadGrant}

@@ -6,7 +6,7 @@ use Rattle.ug_types.specs.declared.access.Section.{Section}
 use Rattle.ug_types.specs.declared.access.Privilege.{Privilege}
 use Rattle.ug_acl.specs.declared.acl.Added.{Added}
 use Rattle.ug_acl.specs.Kept.{pairs_kept}
-use Rattle.ug_acl.specs.Pairs.{Pair, holds}
+use Rattle.ug_acl.specs.Pairs.{Pair, holds_privilege}
 
 -- what was added for a user or a group
 pub record Addition : Type 0 where
@@ -22,4 +22,4 @@ addition_of a = addition a.who (pairs_kept a.kept)
 -- whether a privilege is in the union of what was added for the user or group
 abbrev pub is_allowed : List Addition → Named → Section → Privilege → Bool
 is_allowed all who section privilege =
-    list_any (λ a. same_principal a.who who && holds a.grants section privilege) all
+    list_any (λ a. same_principal a.who who && holds_privilege a.grants section privilege) all

@@ -3,7 +3,7 @@ use Rattle.std.specs.Prelude.{◌≡◌, ◌≢◌, ℕ, ◌+◌, List, [], ◌�
 use Rattle.std.specs.List.{join_with_byte}
 use Rattle.ug_lines.specs.Equations.{AreBlanks, BeginsBare, IsTextOf, IsSkipped, IsEquation}
 use Rattle.ug_lines.specs.Lines.{lines_of}
-use Rattle.ug_equations.specs.Entries.{AreEntries, IsFirstBad, IsSkippedLine}
+use Rattle.ug_lines.specs.Entries.{AreEntries, IsFirstBad, IsSkippedLine}
 use Rattle.ug_types.specs.Access.{section_word}
 use Rattle.ug_types.specs.Elements.{Has, AllDistinct}
 use Rattle.ug_types.specs.declared.access.Section.{Section}
@@ -23,7 +23,7 @@ NoCommas [] = Unit {0}
 NoCommas (part ∷ parts) = (¬ Has part 44) × NoCommas parts
 
 -- parts with commas between
-pub record AreParts (text : List ℕ) (parts : List (List ℕ)) : Type 0 where
+pub record AreCommaParts (text : List ℕ) (parts : List (List ℕ)) : Type 0 where
   pub is : text ≡ join_with_byte 44 parts
   pub some : parts ≢ []
   pub apart : NoCommas parts
@@ -44,7 +44,7 @@ pub record IsGrant (line : List ℕ) (section : Section) (privileges : Privilege
   pub text_of : IsTextOf line text
   pub shown : ¬ IsSkipped text
   pub equation : IsEquation text (section_word section) value
-  pub are_parts : AreParts value parts
+  pub are_parts : AreCommaParts value parts
   pub are_privileges : ArePrivileges section parts words
   pub gives : privileges ≡ given_by_words section words
 
@@ -63,7 +63,7 @@ pub record IsBadList (section : Section) (value : List ℕ) (place : ℕ) : Type
   pub word : List ℕ
   pub blanks : List ℕ
   pub rest : List ℕ
-  pub are_parts : AreParts value (good ++ bad ∷ behind)
+  pub are_parts : AreCommaParts value (good ++ bad ∷ behind)
   pub are_privileges : ArePrivileges section good words
   pub text_of : IsTextOf bad word
   pub no_privilege : ¬ IsPrivilegeOf section word
@@ -92,12 +92,12 @@ IsBadGrantLine seen line kind place =
     (text : List ℕ) × IsTextOf line text × (¬ IsSkipped text) × IsBadGrant seen text kind place
 
 -- what a line is behind lines that have some sections: skipped, a grant in another section, or bad
-pub data IsAccessLine (seen : List Section) (line : List ℕ) : Type 0 where
-  Skipped : IsSkippedLine line → IsAccessLine seen line
+pub data IsAccessTextLine (seen : List Section) (line : List ℕ) : Type 0 where
+  Skipped : IsSkippedLine line → IsAccessTextLine seen line
   Grants : (section : Section) (privileges : Privileges) → IsGrant line section privileges
-      → ¬ Has seen section → IsAccessLine seen line
+      → ¬ Has seen section → IsAccessTextLine seen line
   Wrong : (kind : FaultKind) (place : ℕ) → IsBadGrantLine seen line kind place
-      → IsAccessLine seen line
+      → IsAccessTextLine seen line
 
 -- what a line gives
 abbrev pub GivesGrant : ℕ → List ℕ → Given → Type 0

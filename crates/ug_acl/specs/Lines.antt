@@ -3,7 +3,7 @@ use Rattle.std.specs.Prelude.{◌≡◌, ℕ, ◌+◌, ◌-◌, Bool, nat_eq, if
 use Rattle.std.specs.List.{list_any, slice_split}
 use Rattle.ug_types.specs.Access.{section_of}
 use Rattle.ug_types.specs.declared.access.Section.{Section}
-use Rattle.ug_equations.specs.Cuts.{EquationCut, Skip, NoSign, Sides, cut_of}
+use Rattle.ug_lines.specs.Cuts.{EquationCut, Skip, NoSign, Sides, cut_of}
 use Rattle.ug_lines.specs.Blanks.{without_front, without_end}
 use Rattle.ug_acl.specs.declared.draft.Given.{Given}
 use Rattle.ug_acl.specs.declared.fault.FaultKind.TheVariants.{NoEquals, UnknownSection, BadPrivilege, Repeated}
@@ -20,8 +20,8 @@ abbrev pub trimmed : List ℕ → List ℕ
 trimmed text = without_end (without_front text)
 
 -- what stands between the commas
-abbrev pub parts_of : List ℕ → List (List ℕ)
-parts_of text = slice_split (λ b. nat_eq b 44) text
+abbrev pub comma_parts : List ℕ → List (List ℕ)
+comma_parts text = slice_split (λ b. nat_eq b 44) text
 
 -- where a part begins, behind its blanks
 abbrev pub begins_at : ℕ → List ℕ → ℕ
@@ -65,7 +65,7 @@ abbrev pub grant_read : List Given → List ℕ → List ℕ → ℕ → Result 
 grant_read given word text place =
     then_on (section_read given word)
     (λ section.
-    then_on (parts_read section place (parts_of text))
+    then_on (parts_read section place (comma_parts text))
     (λ privileges. Ok (given ++ given_to section privileges ∷ [])))
 
 -- what a line's cut gives

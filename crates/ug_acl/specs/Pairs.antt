@@ -36,5 +36,6 @@ abbrev pub same_pair : Pair → Pair → Bool
 same_pair a b = same_section a.0 b.0 && same_privilege a.1 b.1
 
 -- whether a privilege is among them
-abbrev pub holds : List Pair → Section → Privilege → Bool
-holds pairs section privilege = list_any (λ pair. same_pair pair (section, privilege)) pairs
+abbrev pub holds_privilege : List Pair → Section → Privilege → Bool
+holds_privilege pairs section privilege =
+    list_any (λ pair. same_pair pair (section, privilege)) pairs

@@ -5,7 +5,7 @@ use Rattle.ug_types.specs.declared.access.Section.{Section}
 use Rattle.ug_types.specs.declared.access.Section.TheVariants.{Devices, Policy, Exceptions, Parameters}
 use Rattle.ug_types.specs.declared.access.Privilege.TheVariants.{Modify, Listen}
 use Rattle.ug_types.specs.declared.access.Privilege.TheVariants as privilege
-use Rattle.ug_acl.specs.Pairs.{Pair, holds}
+use Rattle.ug_acl.specs.Pairs.{Pair, holds_privilege}
 
 -- the words of the privileges that are held, in their order: whether `modify`, `list` and `listen`
 -- are
@@ -21,8 +21,8 @@ words_held true true true = codes "modify,list,listen"
 
 abbrev pub held_in : List Pair → Section → List ℕ
 held_in pairs section =
-    words_held (holds pairs section Modify) (holds pairs section privilege.List)
-    (holds pairs section Listen)
+    words_held (holds_privilege pairs section Modify) (holds_privilege pairs section privilege.List)
+    (holds_privilege pairs section Listen)
 
 -- no line where nothing is held
 abbrev pub grant_line : Section → List ℕ → List ℕ
@@ -30,8 +30,8 @@ grant_line section [] = []
 grant_line section (b ∷ words) = section_word section ++ (61 ∷ (b ∷ words) ++ 10 ∷ [])
 
 -- a line for each section in which something is held
-unfoldable pub printed : List Pair → List ℕ
-printed pairs =
+unfoldable pub grants_text : List Pair → List ℕ
+grants_text pairs =
     grant_line Devices (held_in pairs Devices) ++ (grant_line Policy (held_in pairs Policy)
     ++ (grant_line Exceptions (held_in pairs Exceptions)
     ++ grant_line Parameters (held_in pairs Parameters)))

@@ -12,13 +12,13 @@ use Rattle.ug_acl.specs.Pairs.{Pair, all_pairs, same_section}
 use Rattle.ug_acl.specs.Words.{has_privilege}
 
 -- whether some line gives a privilege
-abbrev pub is_given : List Given → Section → Privilege → Bool
-is_given given section privilege =
+abbrev pub grants_privilege : List Given → Section → Privilege → Bool
+grants_privilege given section privilege =
     list_any (λ g. same_section g.section section && has_privilege g.privileges privilege) given
 
 -- what lines give, in the order of all that there are
 abbrev pub pairs_given : List Given → List Pair
-pairs_given given = filter (λ pair. is_given given pair.0 pair.1) all_pairs
+pairs_given given = filter (λ pair. grants_privilege given pair.0 pair.1) all_pairs
 
 -- what was given before with what the line of that number gives
 abbrev pub granting_line : ℕ → List Given → List ℕ → Result (List Given) TextFault

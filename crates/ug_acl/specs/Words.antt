@@ -8,12 +8,12 @@ use Rattle.ug_types.specs.declared.access.Privilege.{Privilege}
 use Rattle.ug_types.specs.declared.access.Privilege.TheVariants.{Modify, Listen}
 use Rattle.ug_types.specs.declared.access.Privilege.TheVariants as privilege
 use Rattle.ug_acl.specs.declared.privileges.Privileges.{Privileges}
-use Rattle.ug_acl.specs.Pairs.{all_pairs, holds}
+use Rattle.ug_acl.specs.Pairs.{all_pairs, holds_privilege}
 
 -- a word gives the privilege that it names, and `ALL` gives each that the section has
 abbrev pub gives : Section → Privilege → List ℕ → Bool
 gives section privilege word =
-    holds all_pairs section privilege
+    holds_privilege all_pairs section privilege
     && (pointwise nat_eq word (codes "ALL") || pointwise nat_eq word (privilege_word privilege))
 
 abbrev pub given_by_word : Section → List ℕ → Privileges

@@ -2,10 +2,10 @@
 ghost use Rattle.std.specs.Prelude.{◌≡◌, ◌&&◌, ◌++◌, ◌∷◌, [], OnOk, OnErr, IfOk};
 ghost use Rattle.ug_acl.specs.Acls.{addition, is_allowed};
 ghost use Rattle.ug_acl.specs.Kept.{pairs_kept};
-ghost use Rattle.ug_acl.specs.Pairs.{all_pairs, holds};
+ghost use Rattle.ug_acl.specs.Pairs.{all_pairs, holds_privilege};
 ghost use Rattle.ug_types.specs.Principals.{same_principal};
 ghost use Rattle.std.specs.List.{list_any};
-ghost use Rattle.ug_acl.specs.Printed.{printed};
+ghost use Rattle.ug_acl.specs.Printed.{grants_text};
 ghost use Rattle.ug_acl.specs.Texts.{access_read};
 
 use crate::grants::{Grants, Kept};
@@ -38,7 +38,8 @@ impl Model for Acl {
 
 fn is_added(all: &[Added], who: &Principal, section: Section, privilege: Privilege) -> bool
     ensures { result ≡ list_any
-        (λ a. same_principal a.who who.now && holds (pairs_kept a.kept) section privilege) all.now }
+        (λ a. same_principal a.who who.now
+        && holds_privilege (pairs_kept a.kept) section privilege) all.now }
 {
     all.iter()
         .any(|a| a.who == *who && a.kept.has(section, privilege))
@@ -87,7 +88,7 @@ impl Acl {
 
     /// The text of an access file with these grants: a line for each section that has some, with a newline.
     pub fn print(alloc: Global, grants: &Grants) -> Result<Text, NoMemory>
-        ensures is { IfOk result (λ text. text ≡ printed grants.now) }
+        ensures is { IfOk result (λ text. text ≡ grants_text grants.now) }
         ensures reads_back { IfOk result (λ text. access_read text ≡ Ok grants.now) }
     {
         let kept = grants.kept();

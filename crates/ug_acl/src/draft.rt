@@ -2,13 +2,12 @@
 ghost use Rattle.std.specs.Prelude.{◌≡◌, ◌+◌, ◌≤◌, ◌<◌, ◌^◌, IfOk, length, map};
 ghost use Rattle.ug_types.specs.TextFaults.{IsLineRead};
 ghost use Rattle.ug_acl.specs.Lines as lines;
-ghost use Rattle.ug_acl.specs.Lines.{parts_of, parts_read, section_read, grant_read, line_given, LeavesGrants};
+ghost use Rattle.ug_acl.specs.Lines.{comma_parts, parts_read, section_read, grant_read, line_given, LeavesGrants};
 
 use crate::fault::FaultKind;
 use crate::privileges::Privileges;
 use std::alloc::{AllocError, Global};
-use ug_equations::{LineCut, cut_line};
-use ug_lines::{without_end, without_front};
+use ug_lines::{LineCut, cut_line, without_end, without_front};
 use ug_types::{LineFault, Section};
 
 /// What a line gives.
@@ -40,7 +39,7 @@ fn new_section(given: &[Given], word: &[u8]) -> Result<Section, LineFault<FaultK
 }
 
 fn split_at_commas(alloc: Global, text: &[u8]) -> Result<Vec<&[u8]>, AllocError>
-    ensures { IfOk result (λ parts. map (λ part. part.now) parts.items ≡ parts_of text.now) }
+    ensures { IfOk result (λ parts. map (λ part. part.now) parts.items ≡ comma_parts text.now) }
 {
     text.split(|b| *b == b',').collect(alloc)
 }
@@ -67,7 +66,7 @@ fn read_list(
     place: u64,
 ) -> Result<Privileges, LineFault<FaultKind>>
     requires { place + length text.now + 1 < 2 ^ 64 }
-    ensures { IsLineRead result (parts_read section place (parts_of text.now)) }
+    ensures { IsLineRead result (parts_read section place (comma_parts text.now)) }
 {
     let parts = match split_at_commas(alloc, text) {
         Ok(parts) => parts,

@@ -1,8 +1,8 @@
 // What was granted.
 ghost use Rattle.std.specs.Prelude.{◌≡◌};
 ghost use Rattle.ug_acl.specs.Kept.{kept_in, pairs_kept};
-ghost use Rattle.ug_acl.specs.Pairs.{all_pairs, holds};
-ghost use Rattle.ug_acl.specs.Texts.{is_given, pairs_given};
+ghost use Rattle.ug_acl.specs.Pairs.{all_pairs, holds_privilege};
+ghost use Rattle.ug_acl.specs.Texts.{grants_privilege, pairs_given};
 
 use crate::draft::Given;
 use crate::privileges::{Privileges, is_privilege};
@@ -32,7 +32,7 @@ impl Kept {
 
     /// Whether the privilege is among them, and one of the section.
     pub fn has(&self, section: Section, privilege: Privilege) -> bool
-        ensures { result ≡ holds (pairs_kept self.now) section privilege }
+        ensures { result ≡ holds_privilege (pairs_kept self.now) section privilege }
     {
         self.in_section(section).has(privilege) && is_privilege(section, privilege)
     }
@@ -56,7 +56,7 @@ impl Model for Grants {
 
 // Whether some line gives the privilege.
 fn gives(given: &[Given], section: Section, privilege: Privilege) -> bool
-    ensures { result ≡ is_given given.now section privilege }
+    ensures { result ≡ grants_privilege given.now section privilege }
 {
     given
         .iter()
@@ -64,9 +64,9 @@ fn gives(given: &[Given], section: Section, privilege: Privilege) -> bool
 }
 
 fn given_in(given: &[Given], section: Section) -> Privileges
-    ensures modify { result.modify ≡ is_given given.now section Privilege.Modify }
-    ensures list { result.list ≡ is_given given.now section Privilege.List }
-    ensures listen { result.listen ≡ is_given given.now section Privilege.Listen }
+    ensures modify { result.modify ≡ grants_privilege given.now section Privilege.Modify }
+    ensures list { result.list ≡ grants_privilege given.now section Privilege.List }
+    ensures listen { result.listen ≡ grants_privilege given.now section Privilege.Listen }
 {
     Privileges {
         modify: gives(given, section, Privilege::Modify),
@@ -118,7 +118,7 @@ impl Grants {
 
     /// Whether the privilege is among them.
     pub fn has(&self, section: Section, privilege: Privilege) -> bool
-        ensures { result ≡ holds self.now section privilege }
+        ensures { result ≡ holds_privilege self.now section privilege }
     {
         self.kept.has(section, privilege)
     }

@@ -6,11 +6,11 @@ ghost use Rattle.ug_types.specs.Principals.{Named};
 ghost use Rattle.ug_types.specs.declared.text_fault.TextFault.{TextFault};
 ghost use Rattle.ug_acl.specs.Acls.{Addition, is_allowed};
 ghost use Rattle.ug_types.specs.TextFaults.{fault_of_kind};
-ghost use Rattle.ug_equations.specs.Entries.{IsSkippedLine};
-ghost use Rattle.ug_acl.specs.Grammar.{IsAccessLine, IsGrant, IsBadGrantLine, GivesAccess, IsFirstBadGrant};
+ghost use Rattle.ug_lines.specs.Entries.{IsSkippedLine};
+ghost use Rattle.ug_acl.specs.Grammar.{IsAccessTextLine, IsGrant, IsBadGrantLine, GivesAccess, IsFirstBadGrant};
 ghost use Rattle.ug_acl.specs.Lines.{given_to, line_given, sections_of};
-ghost use Rattle.ug_acl.specs.Pairs.{Pair, all_pairs, holds};
-ghost use Rattle.ug_acl.specs.Printed.{printed};
+ghost use Rattle.ug_acl.specs.Pairs.{Pair, all_pairs, holds_privilege};
+ghost use Rattle.ug_acl.specs.Printed.{grants_text};
 ghost use Rattle.ug_acl.specs.Texts.{access_read};
 
 use crate::draft::Given;
@@ -20,7 +20,7 @@ use ug_types::{Privilege, Section};
 
 /// A line is skipped, grants something in another section, or is bad, and is read so.
 pub fn access_lines_law()
-    ensures each { (seen : List Section) (line : List ℕ) → IsAccessLine seen line }
+    ensures each { (seen : List Section) (line : List ℕ) → IsAccessTextLine seen line }
     ensures skipped { (given : List Given) (line : List ℕ) → IsSkippedLine line
         → line_given given line ≡ Ok given }
     ensures grants { (given : List Given) (line : List ℕ) (section : Section)
@@ -56,13 +56,13 @@ pub fn one_access_meaning()
 /// A printed text reads back as the grants. Grants are a part of all pairs, in their order.
 pub fn printing_reads_back()
     ensures { (kept : Pair → Bool)
-        → access_read (printed (filter kept all_pairs)) ≡ Ok (filter kept all_pairs) }
+        → access_read (grants_text (filter kept all_pairs)) ≡ Ok (filter kept all_pairs) }
 {}
 
 /// The tests of membership say what is an element.
 pub fn members_law()
     ensures granted { (pairs : List Pair) (section : Section) (privilege : Privilege)
-        → IsTrue (holds pairs section privilege) ↔ Has pairs (section, privilege) }
+        → IsTrue (holds_privilege pairs section privilege) ↔ Has pairs (section, privilege) }
     ensures allowed { (all : List Addition) (who : Named) (section : Section)
         (privilege : Privilege)
         → IsTrue (is_allowed all who section privilege) ↔

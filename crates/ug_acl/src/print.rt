@@ -4,7 +4,7 @@ ghost use Rattle.ug_types.specs.Access.{section_word};
 ghost use Rattle.ug_acl.specs.Kept.{pairs_kept};
 ghost use Rattle.ug_acl.specs.Printed as texts;
 ghost use Rattle.ug_acl.specs.Texts.{access_read};
-ghost use Rattle.ug_acl.specs.Printed.{grant_line, held_in, printed};
+ghost use Rattle.ug_acl.specs.Printed.{grant_line, held_in, grants_text};
 
 use crate::grants::Kept;
 use std::alloc::Global;
@@ -61,9 +61,9 @@ fn print_section(out: &mut Vec<u8>, kept: &Kept, section: Section) -> Result<(),
 }
 
 /// The text of an access file with these grants.
-#[tactic(auto, unfolding(crate::specs::Printed::printed))]
+#[tactic(auto, unfolding(crate::specs::Printed::grants_text))]
 pub fn print_all(alloc: Global, kept: &Kept) -> Result<Vec<u8>, NoMemory>
-    ensures is { IfOk result (λ out. out.items ≡ printed (pairs_kept kept.now)) }
+    ensures is { IfOk result (λ out. out.items ≡ grants_text (pairs_kept kept.now)) }
 {
     let mut out = Vec::new(alloc);
     print_section(&mut out, kept, Section::Devices)?;
@@ -75,7 +75,7 @@ pub fn print_all(alloc: Global, kept: &Kept) -> Result<Vec<u8>, NoMemory>
 
 /// The same; the text reads back as these grants.
 pub fn print_readable(alloc: Global, kept: &Kept) -> Result<Vec<u8>, NoMemory>
-    ensures is { IfOk result (λ out. out.items ≡ printed (pairs_kept kept.now)) }
+    ensures is { IfOk result (λ out. out.items ≡ grants_text (pairs_kept kept.now)) }
     ensures reads_back { IfOk result (λ out. access_read out.items ≡ Ok (pairs_kept kept.now)) }
 {
     let out = print_all(alloc, kept)?;

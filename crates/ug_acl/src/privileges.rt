@@ -1,6 +1,6 @@
 // The privileges of one section.
 ghost use Rattle.std.specs.Prelude.{◌≡◌};
-ghost use Rattle.ug_acl.specs.Pairs.{all_pairs, holds};
+ghost use Rattle.ug_acl.specs.Pairs.{all_pairs, holds_privilege};
 ghost use Rattle.ug_acl.specs.Words as words;
 ghost use Rattle.ug_acl.specs.Words.{given_by_word, no_privileges, has_privilege};
 
@@ -16,7 +16,7 @@ pub struct Privileges {
 
 /// Whether the section has the privilege at all.
 pub fn is_privilege(section: Section, privilege: Privilege) -> bool
-    ensures { result ≡ holds all_pairs section privilege }
+    ensures { result ≡ holds_privilege all_pairs section privilege }
 {
     match (section, privilege) {
         (Section::Policy, Privilege::Listen) => false,

@@ -10,8 +10,8 @@ use Rattle.ug_arguments.specs.declared.command.Command.TheVariants.{AddUser, Ask
 abbrev pub root_socket : List ℕ
 root_socket = codes "/run/usbguard/root.socket"
 
-abbrev pub asks : Request → Option Command
-asks request = Some (Ask root_socket request)
+abbrev pub asking_command : Request → Option Command
+asking_command request = Some (Ask root_socket request)
 
 abbrev pub joe : Named
 joe = record { group = false; name = codes "joe" }
@@ -19,8 +19,8 @@ joe = record { group = false; name = codes "joe" }
 abbrev pub listing : Listed
 listing = record { modify = false; list = true; listen = false }
 
-abbrev pub listening : Listed
-listening = record { modify = false; list = false; listen = true }
+abbrev pub listen_alone : Listed
+listen_alone = record { modify = false; list = false; listen = true }
 
 -- what is listed of devices, of the policy, of exceptions and of parameters
 abbrev pub adds : Named → Listed → Listed → Listed → Listed → Option Command

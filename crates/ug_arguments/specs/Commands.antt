@@ -8,7 +8,7 @@ use Rattle.ug_types.specs.declared.access.Section.TheVariants.{Devices, Policy, 
 use Rattle.ug_types.specs.declared.rule.After.{After}
 use Rattle.ug_types.specs.declared.rule.After.TheVariants as after
 use Rattle.ug_types.specs.declared.verdict.Target.{Target}
-use Rattle.ug_decimals.specs.Numbers.{number_in}
+use Rattle.ug_numerals.specs.Numbers.{number_in}
 use Rattle.ug_proto.specs.Texts.{request_text}
 use Rattle.ug_proto.specs.declared.request.Request.{Request}
 use Rattle.ug_proto.specs.declared.request.Request.TheVariants as request
@@ -17,7 +17,7 @@ use Rattle.ug_users.specs.declared.asked.Asked.{Asked}
 use Rattle.ug_users.specs.declared.lists.Listed.{Listed}
 use Rattle.ug_arguments.specs.CommandWords.{word_in}
 use Rattle.ug_arguments.specs.SimpleCommands.{app_of_word, daemon_app, rows_in}
-use Rattle.ug_arguments.specs.Values.{is_event_count, is_line, is_most, is_rule, is_set, is_start, is_word, number_at, passing, text_at}
+use Rattle.ug_arguments.specs.Values.{is_event_count, is_line, is_most, is_rule, is_set, is_start, is_plain_word, number_found, passing, text_found}
 use Rattle.ug_arguments.specs.declared.command.Command.{Command}
 use Rattle.ug_arguments.specs.declared.command.Command.TheVariants.{Replay, Summarize, MakeScript, ReadDescriptor, CheckRules, LintRules, GeneratePolicy, AddUser, Ask, Watch}
 use Rattle.ug_arguments.specs.declared.command.WordsFault.{WordsFault}
@@ -37,8 +37,8 @@ made_of events start =
 abbrev pub make_script_in : List Row → Option Command
 make_script_in rows =
     option_and_then
-    (λ events. option_and_then (λ start. made_of events start) (number_at (codes "start") rows))
-    (number_at (codes "events") rows)
+    (λ events. option_and_then (λ start. made_of events start) (number_found (codes "start") rows))
+    (number_found (codes "events") rows)
 
 -- ---- add-user
 
@@ -47,8 +47,8 @@ abbrev pub list_of : Section → Option (List ℕ) → Option Listed
 list_of section None = Some nothing_listed
 list_of section (Some text) = list_read section text
 
-abbrev pub asked_in : List Row → Option Asked
-asked_in rows =
+abbrev pub request_given : List Row → Option Asked
+request_given rows =
     option_and_then
     (λ devices. option_and_then
     (λ policy. option_and_then (λ exceptions. option_map (λ parameters.
@@ -60,23 +60,24 @@ asked_in rows =
 
 abbrev pub add_user_in : List Row → Option Command
 add_user_in rows =
-    option_and_then (λ name. option_map (λ asked. AddUser name asked) (asked_in rows))
+    option_and_then (λ name. option_map (λ asked. AddUser name asked) (request_given rows))
     (option_and_then principal_of (first_of (codes "name") rows))
 
 -- ---- requests
 
 abbrev pub get_parameter_in : List Row → Option Request
-get_parameter_in rows = option_map request.GetParameter (text_at is_word (codes "name") rows)
+get_parameter_in rows =
+    option_map request.GetParameter (text_found is_plain_word (codes "name") rows)
 
 abbrev pub set_parameter_in : List Row → Option Request
 set_parameter_in rows =
     option_and_then (λ name. option_map (λ value. request.SetParameter name value)
-    (text_at is_word (codes "value") rows)) (text_at is_word (codes "name") rows)
+    (text_found is_plain_word (codes "value") rows)) (text_found is_plain_word (codes "name") rows)
 
 abbrev pub device_in : Target → List Row → Option Request
 device_in target rows =
     option_map (λ number. request.Device number target (is_set (codes "permanent") rows))
-    (number_at (codes "number") rows)
+    (number_found (codes "number") rows)
 
 -- behind the rule of that id, or in front of all
 abbrev pub after_id : ℕ → After
@@ -90,22 +91,22 @@ abbrev pub append_rule_in : List Row → Option Request
 append_rule_in rows =
     option_and_then (λ after. option_map (λ rule.
     request.AppendRule after (not (is_set (codes "temporary") rows)) rule)
-    (text_at is_rule (codes "rule") rows)) (after_of (first_of (codes "after") rows))
+    (text_found is_rule (codes "rule") rows)) (after_of (first_of (codes "after") rows))
 
 abbrev pub remove_rule_in : List Row → Option Request
-remove_rule_in rows = option_map request.RemoveRule (number_at (codes "id") rows)
+remove_rule_in rows = option_map request.RemoveRule (number_found (codes "id") rows)
 
 -- ---- what goes to the daemon
 
 -- the path that an option gives, or else the usual one
-abbrev pub path_in : List ℕ → List ℕ → List Row → Option (List ℕ)
-path_in id usual rows = passing is_line (unwrap_or (first_of id rows) usual)
+abbrev pub path_given : List ℕ → List ℕ → List Row → Option (List ℕ)
+path_given id usual rows = passing is_line (unwrap_or (first_of id rows) usual)
 
 unfoldable pub default_socket : List ℕ
 default_socket = codes "/run/usbguard/root.socket"
 
 abbrev pub socket_in : List Row → Option (List ℕ)
-socket_in rows = path_in (codes "socket") default_socket rows
+socket_in rows = path_given (codes "socket") default_socket rows
 
 -- the greatest length of a request as it is sent, without its newline
 abbrev pub request_limit : ℕ
@@ -172,7 +173,7 @@ unfoldable pub default_settings : List ℕ
 default_settings = codes "/etc/usbguard/usbguard-daemon.conf"
 
 abbrev pub settings_in : List Row → Option (List ℕ)
-settings_in rows = path_in (codes "conf") default_settings rows
+settings_in rows = path_given (codes "conf") default_settings rows
 
 -- the path of the settings by the words behind `daemon`, if they are a daemon's
 unfoldable pub settings_path : List (List ℕ) → Option (List ℕ)

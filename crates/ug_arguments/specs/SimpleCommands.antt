@@ -7,8 +7,8 @@ use Rattle.ug_arguments.specs.declared.command_word.CommandWord.{CommandWord}
 use Rattle.ug_arguments.specs.declared.command_word.CommandWord.TheVariants as command
 
 -- a word that has to be there
-abbrev pub required : List ℕ → Rule
-required id = record (new_rule id) { required = true }
+abbrev pub required_word : List ℕ → Rule
+required_word id = record (new_rule id) { required = true }
 
 -- `--NAME VALUE`, which may be left out
 abbrev pub long_option : List ℕ → Rule
@@ -33,8 +33,8 @@ replay_app = with_rule (new_app (codes "replay")) (long_flag (codes "summary"))
 -- make-script EVENTS START
 abbrev pub make_script_app : App
 make_script_app =
-    with_rule (with_rule (new_app (codes "make-script")) (required (codes "events")))
-    (required (codes "start"))
+    with_rule (with_rule (new_app (codes "make-script")) (required_word (codes "events")))
+    (required_word (codes "start"))
 
 -- lint-rules [--prune]
 abbrev pub lint_rules_app : App
@@ -44,7 +44,7 @@ lint_rules_app = with_rule (new_app (codes "lint-rules")) (long_flag (codes "pru
 abbrev pub add_user_app : App
 add_user_app =
     with_rule (with_rule (with_rule (with_rule (with_rule (new_app (codes "add-user"))
-    (required (codes "name"))) (long_option (codes "devices"))) (long_option (codes "policy")))
+    (required_word (codes "name"))) (long_option (codes "devices"))) (long_option (codes "policy")))
     (long_option (codes "exceptions"))) (long_option (codes "parameters"))
 
 -- .. [--socket PATH]
@@ -54,28 +54,29 @@ asking_app name = with_rule (new_app name) (long_option (codes "socket"))
 -- allow-device NUMBER [-p] [--socket PATH], and the like
 abbrev pub device_app : List ℕ → App
 device_app name =
-    with_rule (with_rule (asking_app name) (required (codes "number")))
+    with_rule (with_rule (asking_app name) (required_word (codes "number")))
     (flag (codes "permanent") 112)
 
 -- append-rule RULE [-a ID] [-t] [--socket PATH]
 abbrev pub append_rule_app : App
 append_rule_app =
-    with_rule (with_rule (with_rule (asking_app (codes "append-rule")) (required (codes "rule")))
+    with_rule
+    (with_rule (with_rule (asking_app (codes "append-rule")) (required_word (codes "rule")))
     (short_option (codes "after") 97)) (flag (codes "temporary") 116)
 
 -- get-parameter NAME [--socket PATH]
 abbrev pub get_parameter_app : App
-get_parameter_app = with_rule (asking_app (codes "get-parameter")) (required (codes "name"))
+get_parameter_app = with_rule (asking_app (codes "get-parameter")) (required_word (codes "name"))
 
 -- set-parameter NAME VALUE [--socket PATH]
 abbrev pub set_parameter_app : App
 set_parameter_app =
-    with_rule (with_rule (asking_app (codes "set-parameter")) (required (codes "name")))
-    (required (codes "value"))
+    with_rule (with_rule (asking_app (codes "set-parameter")) (required_word (codes "name")))
+    (required_word (codes "value"))
 
 -- remove-rule ID [--socket PATH]
 abbrev pub remove_rule_app : App
-remove_rule_app = with_rule (asking_app (codes "remove-rule")) (required (codes "id"))
+remove_rule_app = with_rule (asking_app (codes "remove-rule")) (required_word (codes "id"))
 
 -- watch [-n MOST] [--socket PATH]
 abbrev pub watch_app : App

@@ -4,7 +4,7 @@ ghost use Rattle.ug_types.specs.declared.rule.After.TheVariants as after;
 ghost use Rattle.ug_types.specs.declared.verdict.Target.TheVariants as target;
 ghost use Rattle.ug_proto.specs.declared.request.Request.TheVariants as request;
 ghost use Rattle.ug_users.specs.Lists.{nothing_listed};
-ghost use Rattle.ug_arguments.specs.CommandLines.{adds, asks, joe, listening, listing, root_socket};
+ghost use Rattle.ug_arguments.specs.CommandLines.{adds, asking_command, joe, listen_alone, listing, root_socket};
 ghost use Rattle.ug_arguments.specs.Commands.{command_in, settings_path};
 ghost use Rattle.ug_arguments.specs.declared.command.Command.TheVariants.{Ask, CheckRules, GeneratePolicy, LintRules, MakeScript, ReadDescriptor, Replay, Summarize, Watch};
 
@@ -32,44 +32,48 @@ pub fn command_lines_law()
 pub fn add_user_lines_law()
     ensures add_user { command_in (codes "add-user" ∷ codes "joe" ∷ [])
         ≡ adds joe nothing_listed nothing_listed nothing_listed nothing_listed }
-    ensures devices { command_in (codes "add-user" ∷ codes "joe" ∷ codes "--devices" ∷ codes "list" ∷ [])
+    ensures devices { command_in (codes "add-user" ∷ codes "joe" ∷ codes "--devices" ∷ codes "list"
+        ∷ [])
         ≡ adds joe listing nothing_listed nothing_listed nothing_listed }
-    ensures policy { command_in (codes "add-user" ∷ codes "joe" ∷ codes "--policy" ∷ codes "list" ∷ [])
+    ensures policy { command_in (codes "add-user" ∷ codes "joe" ∷ codes "--policy" ∷ codes "list"
+        ∷ [])
         ≡ adds joe nothing_listed listing nothing_listed nothing_listed }
-    ensures exceptions { command_in (codes "add-user" ∷ codes "joe" ∷ codes "--exceptions" ∷ codes "listen" ∷ [])
-        ≡ adds joe nothing_listed nothing_listed listening nothing_listed }
-    ensures parameters { command_in (codes "add-user" ∷ codes "joe" ∷ codes "--parameters" ∷ codes "list" ∷ [])
+    ensures exceptions { command_in (codes "add-user" ∷ codes "joe" ∷ codes "--exceptions"
+        ∷ codes "listen" ∷ [])
+        ≡ adds joe nothing_listed nothing_listed listen_alone nothing_listed }
+    ensures parameters { command_in (codes "add-user" ∷ codes "joe" ∷ codes "--parameters"
+        ∷ codes "list" ∷ [])
         ≡ adds joe nothing_listed nothing_listed nothing_listed listing }
 {}
 
 /// Each command that asks the daemon.
 pub fn asking_lines_law()
     ensures get_parameter { command_in (codes "get-parameter" ∷ codes "a" ∷ [])
-        ≡ asks (request.GetParameter (codes "a")) }
+        ≡ asking_command (request.GetParameter (codes "a")) }
     ensures set_parameter { command_in (codes "set-parameter" ∷ codes "a" ∷ codes "b" ∷ [])
-        ≡ asks (request.SetParameter (codes "a") (codes "b")) }
+        ≡ asking_command (request.SetParameter (codes "a") (codes "b")) }
     ensures list_devices { command_in (codes "list-devices" ∷ [])
-        ≡ asks request.ListDevices }
+        ≡ asking_command request.ListDevices }
     ensures allow_device { command_in (codes "allow-device" ∷ codes "7" ∷ [])
-        ≡ asks (request.Device 7 target.Allow false) }
+        ≡ asking_command (request.Device 7 target.Allow false) }
     ensures block_device { command_in (codes "block-device" ∷ codes "7" ∷ [])
-        ≡ asks (request.Device 7 target.Block false) }
+        ≡ asking_command (request.Device 7 target.Block false) }
     ensures reject_device { command_in (codes "reject-device" ∷ codes "7" ∷ [])
-        ≡ asks (request.Device 7 target.Reject false) }
+        ≡ asking_command (request.Device 7 target.Reject false) }
     ensures permanent { command_in (codes "allow-device" ∷ codes "7" ∷ codes "-p" ∷ [])
-        ≡ asks (request.Device 7 target.Allow true) }
+        ≡ asking_command (request.Device 7 target.Allow true) }
     ensures list_rules { command_in (codes "list-rules" ∷ [])
-        ≡ asks request.ListRules }
+        ≡ asking_command request.ListRules }
     ensures append_rule { command_in (codes "append-rule" ∷ codes "a b" ∷ [])
-        ≡ asks (request.AppendRule after.End true (codes "a b")) }
+        ≡ asking_command (request.AppendRule after.End true (codes "a b")) }
     ensures temporary { command_in (codes "append-rule" ∷ codes "a b" ∷ codes "-t" ∷ [])
-        ≡ asks (request.AppendRule after.End false (codes "a b")) }
+        ≡ asking_command (request.AppendRule after.End false (codes "a b")) }
     ensures behind { command_in (codes "append-rule" ∷ codes "a b" ∷ codes "-a" ∷ codes "7" ∷ [])
-        ≡ asks (request.AppendRule (after.Rule 7) true (codes "a b")) }
+        ≡ asking_command (request.AppendRule (after.Rule 7) true (codes "a b")) }
     ensures front { command_in (codes "append-rule" ∷ codes "a b" ∷ codes "-a" ∷ codes "0" ∷ [])
-        ≡ asks (request.AppendRule after.Front true (codes "a b")) }
+        ≡ asking_command (request.AppendRule after.Front true (codes "a b")) }
     ensures remove_rule { command_in (codes "remove-rule" ∷ codes "7" ∷ [])
-        ≡ asks (request.RemoveRule 7) }
+        ≡ asking_command (request.RemoveRule 7) }
     ensures socket { command_in (codes "list-rules" ∷ codes "--socket" ∷ codes "/run/a" ∷ [])
         ≡ Some (Ask (codes "/run/a") request.ListRules) }
     ensures watch { command_in (codes "watch" ∷ [])

@@ -2,7 +2,7 @@
 ghost use Rattle.std.specs.Prelude.{◌≡◌, IfOk, IfErr, Some};
 ghost use Rattle.clap.specs.Words.{found_of, rows_of};
 ghost use Rattle.ug_arguments.specs.Commands as commands;
-ghost use Rattle.ug_arguments.specs.Commands.{NotRead, add_user_in, ask_in, asked_in, made_of, make_script_in, replay_in, watch_in};
+ghost use Rattle.ug_arguments.specs.Commands.{NotRead, add_user_in, ask_in, request_given, made_of, make_script_in, replay_in, watch_in};
 
 use crate::command::{Command, WordsFault};
 use crate::command_word::CommandWord;
@@ -48,8 +48,8 @@ fn make_script(matches: &ArgMatches) -> Result<Command, WordsFault>
 }
 
 fn asked(matches: &ArgMatches) -> Result<Asked, WordsFault>
-    ensures ok { IfOk result (λ a. asked_in (rows_of (found_of matches.now)) ≡ Some a) }
-    ensures err { IfErr result (NotRead (asked_in (rows_of (found_of matches.now)))) }
+    ensures ok { IfOk result (λ a. request_given (rows_of (found_of matches.now)) ≡ Some a) }
+    ensures err { IfErr result (NotRead (request_given (rows_of (found_of matches.now)))) }
 {
     let devices = listed(matches, Section::Devices, "devices")?;
     let policy = listed(matches, Section::Policy, "policy")?;
@@ -82,7 +82,8 @@ fn watch(alloc: Global, matches: &ArgMatches) -> Result<Command, WordsFault>
 }
 
 fn ask(alloc: Global, matches: &ArgMatches, request: Request) -> Result<Command, WordsFault>
-    ensures ok { IfOk result (λ c. ask_in (Some request) (rows_of (found_of matches.now)) ≡ Some c) }
+    ensures ok { IfOk result (λ c. ask_in (Some request) (rows_of (found_of matches.now))
+        ≡ Some c) }
     ensures err { IfErr result (NotRead (ask_in (Some request) (rows_of (found_of matches.now)))) }
 {
     let request = sendable(alloc, request)?;
@@ -97,7 +98,8 @@ pub fn meaning(
     word: CommandWord,
     matches: &ArgMatches,
 ) -> Result<Command, WordsFault>
-    ensures ok { IfOk result (λ c. commands.meaning word (rows_of (found_of matches.now)) ≡ Some c) }
+    ensures ok { IfOk result (λ c. commands.meaning word (rows_of (found_of matches.now))
+        ≡ Some c) }
     ensures err { IfErr result (NotRead (commands.meaning word (rows_of (found_of matches.now)))) }
 {
     match word {

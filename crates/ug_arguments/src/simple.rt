@@ -10,7 +10,7 @@ use std::alloc::Global;
 use ug_types::{NoMemory, Target};
 
 fn required<'a>(alloc: Global, id: &'a str) -> Arg<'a>
-    ensures rule { rule_of result ≡ simple.required id.entry.now }
+    ensures rule { rule_of result ≡ simple.required_word id.entry.now }
     ensures own { result.global ≡ false }
 {
     Arg::new(alloc, id).required(true)

@@ -1,17 +1,17 @@
 // The values of arguments.
 ghost use Rattle.std.specs.Prelude.{◌≡◌, IfOk, IfErr, Some, codes, option_and_then};
 ghost use Rattle.clap.specs.Words.{first_of, found_of, rows_of};
-ghost use Rattle.ug_arguments.specs.Commands.{NotRead, after_id, after_of, given_most, list_of, most_of, path_in, settings_in, socket_in};
+ghost use Rattle.ug_arguments.specs.Commands.{NotRead, after_id, after_of, given_most, list_of, most_of, path_given, settings_in, socket_in};
 ghost use Rattle.ug_arguments.specs.Values as values;
-ghost use Rattle.ug_arguments.specs.Values.{number_at, passing, text_at};
+ghost use Rattle.ug_arguments.specs.Values.{number_found, passing, text_found};
 ghost use Rattle.ug_types.specs.Principals.{principal_of};
-ghost use Rattle.ug_decimals.specs.Numbers.{number_in};
+ghost use Rattle.ug_numerals.specs.Numbers.{number_in};
 
 use crate::command::WordsFault;
 use crate::matches::value;
 use clap::ArgMatches;
 use std::alloc::Global;
-use ug_decimals::parse_decimal;
+use ug_numerals::parse_decimal;
 use ug_types::{After, Principal, Section, Text};
 use ug_users::{Listed, read_list};
 
@@ -28,7 +28,7 @@ fn is_rule(text: &str) -> bool
 }
 
 fn is_word_byte(byte: u8) -> bool
-    ensures { result ≡ values.is_word_byte byte }
+    ensures { result ≡ values.is_plain_byte byte }
 {
     byte != b'\n' && byte != b' '
 }
@@ -40,7 +40,7 @@ fn are_word_bytes(text: &str) -> bool
 }
 
 fn is_word(text: &str) -> bool
-    ensures { result ≡ values.is_word text.now }
+    ensures { result ≡ values.is_plain_word text.now }
 {
     text.len() >= 1 && are_word_bytes(text)
 }
@@ -48,9 +48,10 @@ fn is_word(text: &str) -> bool
 /// A word of at least one byte without spaces.
 pub fn word(alloc: Global, matches: &ArgMatches, id: &str) -> Result<Text, WordsFault>
     ensures ok { IfOk result
-        (λ text. text_at values.is_word id.now (rows_of (found_of matches.now)) ≡ Some text) }
+        (λ text. text_found values.is_plain_word id.now (rows_of (found_of matches.now))
+        ≡ Some text) }
     ensures err { IfErr result
-        (NotRead (text_at values.is_word id.now (rows_of (found_of matches.now)))) }
+        (NotRead (text_found values.is_plain_word id.now (rows_of (found_of matches.now)))) }
 {
     let text = match value(matches, id) {
         Some(text) => text,
@@ -65,9 +66,9 @@ pub fn word(alloc: Global, matches: &ArgMatches, id: &str) -> Result<Text, Words
 /// The text of a rule, which isn't read here.
 pub fn rule(alloc: Global, matches: &ArgMatches, id: &str) -> Result<Text, WordsFault>
     ensures ok { IfOk result
-        (λ text. text_at values.is_rule id.now (rows_of (found_of matches.now)) ≡ Some text) }
+        (λ text. text_found values.is_rule id.now (rows_of (found_of matches.now)) ≡ Some text) }
     ensures err { IfErr result
-        (NotRead (text_at values.is_rule id.now (rows_of (found_of matches.now)))) }
+        (NotRead (text_found values.is_rule id.now (rows_of (found_of matches.now)))) }
 {
     let text = match value(matches, id) {
         Some(text) => text,
@@ -90,8 +91,8 @@ fn decimal(text: &str) -> Result<u64, WordsFault>
 }
 
 pub fn number(matches: &ArgMatches, id: &str) -> Result<u64, WordsFault>
-    ensures ok { IfOk result (λ n. number_at id.now (rows_of (found_of matches.now)) ≡ Some n) }
-    ensures err { IfErr result (NotRead (number_at id.now (rows_of (found_of matches.now)))) }
+    ensures ok { IfOk result (λ n. number_found id.now (rows_of (found_of matches.now)) ≡ Some n) }
+    ensures err { IfErr result (NotRead (number_found id.now (rows_of (found_of matches.now)))) }
 {
     match value(matches, id) {
         Some(text) => decimal(text),
@@ -165,8 +166,9 @@ pub fn after(matches: &ArgMatches) -> Result<After, WordsFault>
 /// The path that an option gives, or else the usual one.
 fn path(alloc: Global, matches: &ArgMatches, id: &str, usual: &str) -> Result<Text, WordsFault>
     ensures ok { IfOk result
-        (λ path. path_in id.now usual.now (rows_of (found_of matches.now)) ≡ Some path) }
-    ensures err { IfErr result (NotRead (path_in id.now usual.now (rows_of (found_of matches.now)))) }
+        (λ path. path_given id.now usual.now (rows_of (found_of matches.now)) ≡ Some path) }
+    ensures err { IfErr result
+        (NotRead (path_given id.now usual.now (rows_of (found_of matches.now)))) }
 {
     let text = match value(matches, id) {
         Some(text) => text,

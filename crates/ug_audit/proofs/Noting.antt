@@ -4,9 +4,9 @@ use Rattle.std.specs.Prelude.{Option, if◌then◌else◌}
 use Rattle.std.proofs.lemmas.List.{append-nil}
 use Rattle.ug_audit.specs.declared.entry.Entry.{Entry}
 use Rattle.ug_audit.specs.declared.journal.Journal.{Journal}
-use Rattle.ug_audit.specs.Journal.{Told, members, SameEntries}
+use Rattle.ug_audit.specs.Journal.{AuditorTold, members, SameEntries}
 use Rattle.ug_audit.specs.Lines.{entry_line}
-use Rattle.ug_audit.specs.Noting.{tells_drop, without_drops, IsNext, due_behind, NotesEach}
+use Rattle.ug_audit.specs.Noting.{tells_drop, without_drops, IsNextNoted, due_behind, NotesEach}
 use Rattle.ug_audit.specs.Panels.{Member, TakesAs, NotesAll, is_newly, one_live, live, live_of, newly_dropped, members_of}
 
 pub notes_on : (due : List ℕ) (es more : List Entry) (before between after : List Member) (mid later : List ℕ) → NotesEach due es before mid between → NotesEach mid more between later after → NotesEach due (es ++ more) before later after
@@ -17,10 +17,10 @@ notes_on due [] more before between after mid later h k =
 notes_on due (e ∷ es) more before between after mid later h k =
     (h.0, h.1, h.2, notes_on (due_behind due (newly_dropped 0 before h.0)) es more h.0 between after mid later h.3 k)
 
-pub note_one : (due : List ℕ) (e : Entry) (before after : List Member) → IsNext due e → NotesAll (entry_line e) before after → NotesEach due (e ∷ []) before (due_behind due (newly_dropped 0 before after)) after
+pub note_one : (due : List ℕ) (e : Entry) (before after : List Member) → IsNextNoted due e → NotesAll (entry_line e) before after → NotesEach due (e ∷ []) before (due_behind due (newly_dropped 0 before after)) after
 note_one due e before after next noted = (after, next, noted, (refl, refl))
 
-pub goes_on : {X : Type 0} {F : X → Type 0} (told : Told X F) (a b c : Journal X F) → SameEntries told a b → SameEntries told b c → SameEntries told a c
+pub goes_on : {X : Type 0} {F : X → Type 0} (told : AuditorTold X F) (a b c : Journal X F) → SameEntries told a b → SameEntries told b c → SameEntries told a c
 goes_on told a b c h k = record {
   panel = k.panel ∙ h.panel;
   entries = k.entries ∙ h.entries;
@@ -29,7 +29,7 @@ goes_on told a b c h k = record {
   noted = notes_on [] h.added k.added (members told a.panel.now) (members told b.panel.now) (members told c.panel.now) [] [] h.noted k.noted;
 }
 
-pub stays : {X : Type 0} {F : X → Type 0} (told : Told X F) (a : Journal X F) → SameEntries told a a
+pub stays : {X : Type 0} {F : X → Type 0} (told : AuditorTold X F) (a : Journal X F) → SameEntries told a a
 stays told a = record { panel = refl; entries = refl; added = []; all = sym (append-nil a.entries.now.entries); noted = (refl, refl) }
 
 pub drops_append : (es more : List Entry) → without_drops (es ++ more) ≡ without_drops es ++ without_drops more

@@ -8,7 +8,7 @@ use Rattle.ug_audit.specs.declared.entry.Entry.{Entry}
 use Rattle.ug_audit.specs.Lines.{entry_line}
 use Rattle.ug_audit.specs.Noting.{without_drops, due_behind, NotesEach, NotesEntries}
 use Rattle.ug_audit.specs.Panels.{Member, TakesAs, NotesAll, live, newly_dropped}
-use Rattle.ug_audit.specs.Texts.{text_of, TookAs, TookAll}
+use Rattle.ug_audit.specs.Texts.{entries_text, TookAs, TookAll}
 use Rattle.ug_audit.proofs.Noting.{live_falls}
 
 appends_none : (a : Option (List ℕ)) → Appends a a []
@@ -71,12 +71,12 @@ took_all_both xs ys (l ∷ ls) (m ∷ ms) [] h k = absurd k
 took_all_both xs ys (l ∷ ls) (m ∷ ms) (n ∷ ns) h k =
     (took_both l.dropped m.dropped n.dropped xs ys l m n h.0 k.0, took_all_both xs ys ls ms ns h.1 k.1)
 
-took_each : (due : List ℕ) (es : List Entry) (before : List Member) (later : List ℕ) (after : List Member) → NotesEach due es before later after → TookAll (text_of es) before after
+took_each : (due : List ℕ) (es : List Entry) (before : List Member) (later : List ℕ) (after : List Member) → NotesEach due es before later after → TookAll (entries_text es) before after
 took_each due [] before later after h = subst (λ (ms : List Member). TookAll [] before ms) (sym h.1) (took_none before)
 took_each due (e ∷ es) before later after h =
-    took_all_both (entry_line e ++ 10 ∷ []) (text_of es) before h.0 after (took_all_line (entry_line e) before h.0 h.2) (took_each (due_behind due (newly_dropped 0 before h.0)) es h.0 later after h.3)
+    took_all_both (entry_line e ++ 10 ∷ []) (entries_text es) before h.0 after (took_all_line (entry_line e) before h.0 h.2) (took_each (due_behind due (newly_dropped 0 before h.0)) es h.0 later after h.3)
 
-pub took_entries : (es : List Entry) (before after : List Member) → NotesEntries es before after → TookAll (text_of es) before after
+pub took_entries : (es : List Entry) (before after : List Member) → NotesEntries es before after → TookAll (entries_text es) before after
 took_entries es before after h = took_each [] es before [] after h
 
 -- ---- where no member is left

@@ -5,9 +5,9 @@ use Rattle.ug_audit.specs.declared.auditor.Noted.{Noted}
 use Rattle.ug_audit.specs.declared.auditor.Noted.TheVariants as noted
 
 -- the line and a newline were taken, or a front of these where the call failed
-abbrev pub TakesLine : Option (List ℕ) → Option (List ℕ) → List ℕ → Noted → Type 0
-TakesLine before after line noted.Done = Appends before after (line ++ 10 ∷ [])
-TakesLine before after line noted.Failed =
+abbrev pub TakesEntryLine : Option (List ℕ) → Option (List ℕ) → List ℕ → Noted → Type 0
+TakesEntryLine before after line noted.Done = Appends before after (line ++ 10 ∷ [])
+TakesEntryLine before after line noted.Failed =
     (front : List ℕ) × (rest : List ℕ) × (line ++ 10 ∷ [] ≡ front ++ rest)
     × Appends before after front
 

@@ -11,11 +11,11 @@ use Rattle.ug_audit.specs.declared.journal.Journal.{Journal}
 use Rattle.ug_audit.specs.declared.panel.Panel.{Panel}
 
 -- what is told of the auditor in a box: a clause gives it as `Auditor-box`
-abbrev pub Told : (X : Type 0) → (X → Type 0) → Type 1
-Told X F = (b : DynBox X Global F) → Ghosts (F b.vtable)
+abbrev pub AuditorTold : (X : Type 0) → (X → Type 0) → Type 1
+AuditorTold X F = (b : DynBox X Global F) → Ghosts (F b.vtable)
 
 -- the members of a panel
-abbrev pub members : {X : Type 0} {F : X → Type 0} → Told X F → Panel X F → List Member
+abbrev pub members : {X : Type 0} {F : X → Type 0} → AuditorTold X F → Panel X F → List Member
 members told panel =
     members_of (λ b. (told b).text b.value)
     (λ b. (told b).faults b.value) panel.auditors.items panel.dropped
@@ -33,7 +33,7 @@ noted_in journal = record {
 }
 
 -- it notes into the same panel and the same entries; some entries more were noted since
-pub record SameEntries {X : Type 0} {F : X → Type 0} (told : Told X F)
+pub record SameEntries {X : Type 0} {F : X → Type 0} (told : AuditorTold X F)
     (before after : Journal X F) : Type 0 where
   pub panel : after.panel.ghost_name ≡ before.panel.ghost_name
   pub entries : after.entries.ghost_name ≡ before.entries.ghost_name
@@ -43,7 +43,8 @@ pub record SameEntries {X : Type 0} {F : X → Type 0} (told : Told X F)
 
 -- the same, and the entries have the same room; and of the places that were left it used at most so
 -- many
-abbrev pub Notes : {X : Type 0} {F : X → Type 0} → Told X F → ℕ → Journal X F → Journal X F → Type 0
+abbrev pub Notes : {X : Type 0} {F : X → Type 0} → AuditorTold X F → ℕ → Journal X F → Journal X F
+    → Type 0
 Notes told most before after =
     SameEntries told before after
     × ((noted_in after).room ≡ (noted_in before).room)

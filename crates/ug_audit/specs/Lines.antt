@@ -1,15 +1,15 @@
 -- The journal's lines, without their newlines.
 use Rattle.std.specs.Prelude.{ℕ, List, [], ◌∷◌, ◌++◌, Ok, Err, codes, decimal}
-use Rattle.ug_types.specs.Parameters.{parameter_name, parameter_set, value_word}
+use Rattle.ug_parameter.specs.Parameters.{parameter_name, parameter_set, value_word}
 use Rattle.ug_types.specs.Principals.{principal_text}
-use Rattle.ug_types.specs.Refusals.{refusal_words}
+use Rattle.ug_refusal.specs.Refusals.{refusal_words}
 use Rattle.ug_types.specs.declared.saved.Saved.{Saved}
 use Rattle.ug_types.specs.declared.saved.Saved.TheVariants as saved
 use Rattle.ug_types.specs.Targets.{target_word}
 use Rattle.ug_types.specs.declared.verdict.Cause.{Cause}
 use Rattle.ug_types.specs.declared.verdict.Cause.TheVariants as cause
-use Rattle.ug_types.specs.declared.control.Write.{Write}
-use Rattle.ug_types.specs.declared.control.Write.TheVariants as write
+use Rattle.ug_kernel.specs.declared.control.Write.{Write}
+use Rattle.ug_kernel.specs.declared.control.Write.TheVariants as write
 use Rattle.ug_kernel.specs.declared.calls.Wrote.{Wrote}
 use Rattle.ug_kernel.specs.declared.calls.Wrote.TheVariants as wrote
 use Rattle.ug_audit.specs.declared.entry.Fault.{Fault}

@@ -16,9 +16,9 @@ without_drops (e ∷ es) = (if tells_drop e then without_drops es else e ∷ wit
 
 -- the entry that may come next, where the `dropped` entries of these members are still to come, in
 -- order
-abbrev pub IsNext : List ℕ → Entry → Type 0
-IsNext [] e = tells_drop e ≡ false
-IsNext (i ∷ due) e = e ≡ entry.Dropped i
+abbrev pub IsNextNoted : List ℕ → Entry → Type 0
+IsNextNoted [] e = tells_drop e ≡ false
+IsNextNoted (i ∷ due) e = e ≡ entry.Dropped i
 
 -- whose `dropped` entries are still to come behind that entry, at whose line these members failed
 abbrev pub due_behind : List ℕ → List ℕ → List ℕ
@@ -30,7 +30,7 @@ due_behind (i ∷ due) failed = due ++ failed
 abbrev pub NotesEach : List ℕ → List Entry → List Member → List ℕ → List Member → Type 0
 NotesEach due [] before later after = (later ≡ due) × (after ≡ before)
 NotesEach due (e ∷ es) before later after =
-    (between : List Member) × IsNext due e × NotesAll (entry_line e) before between
+    (between : List Member) × IsNextNoted due e × NotesAll (entry_line e) before between
     × NotesEach (due_behind due (newly_dropped 0 before between)) es between later after
 
 -- the same, where no `dropped` entry is still to come, at the start and at the end

@@ -2,7 +2,7 @@
 use Rattle.std.specs.Prelude.{◌≡◌, ℕ, ◌+◌, ◌*◌, Bool, true, false, List, [], ◌∷◌, Option, if◌then◌else◌}
 use Rattle.ug_types.specs.Ends.{IsCounted, Rose}
 use Rattle.ug_audit.specs.declared.auditor.Noted.TheVariants as noted
-use Rattle.ug_audit.specs.Auditors.{TakesLine}
+use Rattle.ug_audit.specs.Auditors.{TakesEntryLine}
 
 -- the text that a member took, its count of faults, and whether it is given no more lines
 pub record Member : Type 0 where
@@ -15,9 +15,11 @@ pub record Member : Type 0 where
 abbrev pub TakesAs : Bool → Bool → List ℕ → Member → Member → Type 0
 TakesAs true true line m n = n ≡ m
 TakesAs true false line m n = ⊥
-TakesAs false false line m n = TakesLine m.text n.text line noted.Done × IsCounted m.faults n.faults
+TakesAs false false line m n =
+    TakesEntryLine m.text n.text line noted.Done × IsCounted m.faults n.faults
 TakesAs false true line m n =
-    TakesLine m.text n.text line noted.Failed × IsCounted m.faults n.faults × Rose m.faults n.faults
+    TakesEntryLine m.text n.text line noted.Failed × IsCounted m.faults n.faults
+    × Rose m.faults n.faults
 
 abbrev pub NotesAll : List ℕ → List Member → List Member → Type 0
 NotesAll line [] [] = Unit {0}

@@ -7,9 +7,9 @@ use Rattle.ug_audit.specs.Lines.{entry_line}
 use Rattle.ug_audit.specs.Panels.{Member}
 
 -- the entries' lines, a newline behind each
-abbrev pub text_of : List Entry → List ℕ
-text_of [] = []
-text_of (e ∷ es) = (entry_line e ++ 10 ∷ []) ++ text_of es
+abbrev pub entries_text : List Entry → List ℕ
+entries_text [] = []
+entries_text (e ∷ es) = (entry_line e ++ 10 ∷ []) ++ entries_text es
 
 -- by whether it was dropped before, and is so after: a member that isn't dropped took the text; one
 -- that is dropped now took a front of it, and a call of it failed; to one that was dropped nothing

@@ -2,7 +2,7 @@
 ghost use Rattle.std.specs.Prelude.{◌≡◌, ℕ, List, Option};
 ghost use Rattle.std.specs.Option.{option_copied};
 ghost use Rattle.ug_types.specs.Ends.{IsCounted, Rose};
-ghost use Rattle.ug_audit.specs.Auditors.{TakesLine, IsTextTaken};
+ghost use Rattle.ug_audit.specs.Auditors.{TakesEntryLine, IsTextTaken};
 
 /// What became of a line that was given to an auditor.
 #[derive(Clone, Copy, Debug, PartialEq, Eq)]
@@ -21,7 +21,7 @@ pub trait Auditor: Drop {
 
     /// Takes the line and a newline.
     fn note(&mut self, line: &[u8]) -> Noted
-        ensures text { TakesLine (text self.old) (text self.new) line.now result }
+        ensures text { TakesEntryLine (text self.old) (text self.new) line.now result }
         ensures counted { IsCounted (faults self.old) (faults self.new) }
         ensures cause { result ≡ Noted.Failed → Rose (faults self.old) (faults self.new) };
 

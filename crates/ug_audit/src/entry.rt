@@ -1,6 +1,8 @@
 // What the daemon notes of an event.
-use ug_kernel::{FailedCall, Write, Wrote};
-use ug_types::{Cause, Held, Moment, NodeName, Parameter, Principal, Refusal, Saved, Target};
+use ug_kernel::{FailedCall, Held, Write, Wrote};
+use ug_parameter::Parameter;
+use ug_refusal::Refusal;
+use ug_types::{Cause, Moment, NodeName, Principal, Saved, Target};
 
 /// Why a name is unsettled.
 #[derive(Clone, Copy, Debug, PartialEq, Eq)]

@@ -5,7 +5,7 @@ ghost use Rattle.ug_audit.specs.declared.entry.Entry.{Entry};
 ghost use Rattle.ug_audit.specs.Lines.{entry_line};
 ghost use Rattle.ug_audit.specs.Noting.{NotesEntries, without_drops};
 ghost use Rattle.ug_audit.specs.Panels.{Member, live};
-ghost use Rattle.ug_audit.specs.Texts.{TookAll, text_of};
+ghost use Rattle.ug_audit.specs.Texts.{TookAll, entries_text};
 ghost use Rattle.ug_audit.specs.Printed.{IsEntry, as_printed};
 
 /// No entry has the line of another: where two have one line, they are the same in all that is printed. An entry is one line.
@@ -19,7 +19,7 @@ pub fn entries_law()
 /// member is left, none of the entries tells that one is dropped. And entries that are noted behind others are noted with them.
 pub fn noted_law()
     ensures texts { (es : List Entry) (before after : List Member) → NotesEntries es before after
-        → TookAll (text_of es) before after }
+        → TookAll (entries_text es) before after }
     ensures alone { (es : List Entry) (before after : List Member) → live before ≡ 0
         → NotesEntries es before after
         → without_drops es ≡ es }

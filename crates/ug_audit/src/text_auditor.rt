@@ -2,7 +2,7 @@
 ghost use Rattle.std.specs.Prelude.{◌≡◌, [], Some};
 ghost use Rattle.std.specs.Option.{option_copied};
 ghost use Rattle.ug_types.specs.Ends.{IsCounted, Rose};
-ghost use Rattle.ug_audit.specs.Auditors.{TakesLine};
+ghost use Rattle.ug_audit.specs.Auditors.{TakesEntryLine};
 
 use crate::auditor::{Auditor, Noted};
 use std::alloc::Global;
@@ -33,7 +33,7 @@ impl TextAuditor {
 
     #[tactic(auto, using(crate::proofs::Fronts::nothing_taken, crate::proofs::Fronts::line_taken))]
     fn append(&mut self, line: &[u8]) -> Noted
-        ensures text { TakesLine (Some self.old.bytes.items)
+        ensures text { TakesEntryLine (Some self.old.bytes.items)
             (Some self.new.bytes.items) line.now result }
         ensures faults { self.new.faults ≡ self.old.faults }
     {

@@ -4,7 +4,7 @@ use crate::cases::Case;
 use crate::reading::read_cases;
 use crate::report::Report;
 use std::alloc::Global;
-use ug_console::{INPUT_LIMIT, InputFault, read_input};
+use ug_command_io::{INPUT_LIMIT, InputFault, read_input};
 use ug_types::{NoMemory, Put, Sink, Source};
 
 /// What gives the answer to a case.

@@ -1,8 +1,9 @@
 // The commands over objects in memory.
 use std::alloc::Global;
+use ug_links::MemLink;
 use ug_sysfs::SimKernel;
 use ug_tool::{run_replay, run_tool};
-use ug_types::{MemLink, MemSink, MemSource, NoMemory};
+use ug_types::{MemSink, MemSource, NoMemory};
 
 /// The words of a command, what it reads, and where it writes.
 #[derive(Drop)]

@@ -1,10 +1,10 @@
 // A machine whose lines are its text.
 ghost use Rattle.std.specs.Prelude.{◌≡◌, ◌≤◌, ℕ, List, Some, None, true, nat_eq, if◌then◌else◌, length, codes};
-ghost use Rattle.ug_console.specs.Fold.{BadLine, InputTooLong, Writes, Refused};
+ghost use Rattle.ug_command_io.specs.Fold.{BadLine, InputTooLong, Writes, Refused};
 ghost use Rattle.ug_cases.specs.declared.echo.Echo.{Echo as Echoing};
 
 use std::alloc::Global;
-use ug_console::{Machine, Ran};
+use ug_command_io::{Machine, Ran};
 use ug_types::{Put, Sink};
 
 /// Lines of three bytes are bad, and those of four start something too long. The world is the length of the last line.
@@ -18,7 +18,9 @@ impl Machine<u64> for Echo {
 
     ghost state = { λ m. m };
 
-    ghost step_of = { λ p line. if nat_eq (length line) 3 then Refused BadLine p else if nat_eq (length line) 4 then Refused InputTooLong p else Writes line (record { begun = true }, length line) };
+    ghost step_of = { λ p line. if nat_eq (length line) 3
+        then Refused BadLine p else if nat_eq (length line) 4 then Refused InputTooLong p else
+        Writes line (record { begun = true }, length line) };
 
     ghost closing = { λ p. if p.0.begun then Some (codes "done\n") else None };
 

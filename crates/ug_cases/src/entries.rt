@@ -2,11 +2,10 @@
 use std::alloc::Global;
 use ug_audit::{ConfigPart, Entry, Fault, RuleChange, line_of};
 use ug_casefile::{Answer, number_of};
-use ug_kernel::{FailedCall, Write, Wrote};
-use ug_types::{
-    Cause, Held, Moment, NoMemory, NodeName, ParameterName, Principal, Privilege, Refusal, Saved,
-    Section, Target,
-};
+use ug_kernel::{FailedCall, Held, Write, Wrote};
+use ug_parameter::ParameterName;
+use ug_refusal::Refusal;
+use ug_types::{Cause, Moment, NoMemory, NodeName, Principal, Privilege, Saved, Section, Target};
 
 fn number(word: &str) -> Option<u64> {
     number_of(word.as_bytes())

@@ -1,7 +1,7 @@
 // Inputs that are read whole.
 use std::alloc::Global;
 use ug_casefile::{Answer, Case, number_of, say};
-use ug_console::{InputFault, read_input};
+use ug_command_io::{InputFault, read_input};
 use ug_types::{MemSource, NoMemory, Text};
 
 fn limit(case: &Case) -> Option<usize> {

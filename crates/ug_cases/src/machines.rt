@@ -3,7 +3,7 @@ use crate::echo::Echo;
 use crate::inputs::source;
 use std::alloc::Global;
 use ug_casefile::{Answer, Case};
-use ug_console::run;
+use ug_command_io::run;
 use ug_types::{MemSink, NoMemory};
 
 #[derive(Drop)]

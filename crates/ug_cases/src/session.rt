@@ -6,7 +6,7 @@ use std::alloc::Global;
 use ug_casefile::{Answer, number_of, split_word};
 use ug_cond::{Allowed, Context, History, holds, local_second};
 use ug_match::matches;
-use ug_policy::{InsertFault, RuleEntry, RuleList};
+use ug_policy::{InsertFault, Mark, RuleEntry, RuleList};
 use ug_rule::{parse_query, parse_rule};
 use ug_types::{
     After, Cause, Conds, DeviceRecord, Id, List, Moment, NodeName, Query, Rule, Target, Text,
@@ -162,7 +162,7 @@ impl Session {
         } else if self.list.next_id() == u64::MAX {
             told.add(b"no number");
         } else {
-            add_inserted(told, self.list.insert(after, rule, false));
+            add_inserted(told, self.list.insert(after, rule, Mark::File));
         }
     }
 

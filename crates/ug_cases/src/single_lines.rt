@@ -1,7 +1,7 @@
 // The lines of a script, handed to a runner one by one.
 use std::alloc::Global;
 use ug_casefile::{Answer, Case};
-use ug_console::Ran;
+use ug_command_io::Ran;
 use ug_script::Runner;
 use ug_sysfs::SimKernel;
 use ug_types::MemSink;

@@ -2,13 +2,13 @@
 use Rattle.std.proofs.Common.{◌≡◌, ℕ, ◌≤◌, List, [], ◌∷◌, ◌++◌, map, length, Option, Some, None, refl, sym, ap, subst, ◌∙◌, append_assoc}
 use Rattle.std.proofs.lemmas.List.{append-nil}
 use Rattle.ug_types.specs.Told.{GrowsBy}
-use Rattle.ug_types.specs.LinkCalls.{TellsCall}
-use Rattle.ug_types.specs.declared.link_call.Receipt.{Receipt}
-use Rattle.ug_types.specs.declared.link_call.Receipt.TheVariants as receipt
-use Rattle.ug_types.specs.declared.link_call.LinkCall.{LinkCall}
-use Rattle.ug_types.specs.declared.link_call.LinkCall.TheVariants as call
+use Rattle.ug_links.specs.LinkCalls.{TellsCall}
+use Rattle.ug_links.specs.declared.link_call.Receipt.{Receipt}
+use Rattle.ug_links.specs.declared.link_call.Receipt.TheVariants as receipt
+use Rattle.ug_links.specs.declared.link_call.LinkCall.{LinkCall}
+use Rattle.ug_links.specs.declared.link_call.LinkCall.TheVariants as call
 use Rattle.ug_client.specs.Answers.{IsAwaiting}
-use Rattle.ug_client.specs.Calls.{AreBytes, AreWanted, CallsForReply, GoesOn, Receives, TellsCalls, bytes_in, calls_to_ask}
+use Rattle.ug_client.specs.Calls.{GaveBytes, AreWanted, CallsForReply, GoesOnReceiving, Receives, TellsCalls, bytes_in, calls_to_ask}
 
 pub tells_nothing : (told : Option (List LinkCall)) → TellsCalls told [] told
 tells_nothing None = tt
@@ -54,22 +54,22 @@ module _ (Wants : List ℕ → Type 0) (most : ℕ) where
   one_wanted so_far receipt.End w f = (w, refl)
   one_wanted so_far receipt.Failed w f = (w, refl)
 
-  more_wanted : (so_far : List ℕ) (rs : List Receipt) (one : Receipt) → AreBytes rs → AreWanted Wants most so_far rs → Wants (so_far ++ bytes_in rs) → FitsIn most one → AreWanted Wants most so_far (rs ++ one ∷ [])
+  more_wanted : (so_far : List ℕ) (rs : List Receipt) (one : Receipt) → GaveBytes rs → AreWanted Wants most so_far rs → Wants (so_far ++ bytes_in rs) → FitsIn most one → AreWanted Wants most so_far (rs ++ one ∷ [])
   more_wanted so_far [] one b h w f = one_wanted so_far one (subst Wants (append-nil so_far) w) f
   more_wanted so_far (receipt.Bytes piece ∷ rs) one b h w f = (h.0, h.1, more_wanted (so_far ++ piece) rs one b h.2 (subst Wants (sym (append_assoc so_far piece (bytes_in rs))) w) f)
   more_wanted so_far (receipt.End ∷ rs) one b h w f = absurd b
   more_wanted so_far (receipt.Failed ∷ rs) one b h w f = absurd b
 
-  one_more_bytes : (rs : List Receipt) (piece : List ℕ) → AreBytes rs → AreBytes (rs ++ receipt.Bytes piece ∷ [])
+  one_more_bytes : (rs : List Receipt) (piece : List ℕ) → GaveBytes rs → GaveBytes (rs ++ receipt.Bytes piece ∷ [])
   one_more_bytes [] piece b = tt
   one_more_bytes (receipt.Bytes p ∷ rs) piece b = one_more_bytes rs piece b
   one_more_bytes (receipt.End ∷ rs) piece b = absurd b
   one_more_bytes (receipt.Failed ∷ rs) piece b = absurd b
 
-  pub none_yet : (so_far : List ℕ) (told : Option (List LinkCall)) → GoesOn Wants most so_far told told []
+  pub none_yet : (so_far : List ℕ) (told : Option (List LinkCall)) → GoesOnReceiving Wants most so_far told told []
   none_yet so_far told = record { receives = record { receipts = []; gave = refl; wanted = tt; tells = tells_nothing told }; bytes = tt }
 
-  pub one_receive : (so_far : List ℕ) (a b c : Option (List LinkCall)) (taken : List ℕ) (one : Receipt) → GoesOn Wants most so_far a b taken → Wants (so_far ++ taken) → FitsIn most one → TellsCall b (call.Receive one) c → Receives Wants most so_far a c (taken ++ bytes_in (one ∷ []))
+  pub one_receive : (so_far : List ℕ) (a b c : Option (List LinkCall)) (taken : List ℕ) (one : Receipt) → GoesOnReceiving Wants most so_far a b taken → Wants (so_far ++ taken) → FitsIn most one → TellsCall b (call.Receive one) c → Receives Wants most so_far a c (taken ++ bytes_in (one ∷ []))
   one_receive so_far a b c taken one g w f k =
       let r = g.receives in
       record {
@@ -79,7 +79,7 @@ module _ (Wants : List ℕ → Type 0) (most : ℕ) where
         tells = subst (λ (cs : List LinkCall). TellsCalls a cs c) (sym (map_both call.Receive r.receipts (one ∷ []))) (tells_one a b c (map call.Receive r.receipts) (call.Receive one) r.tells k);
       }
 
-  pub one_piece : (so_far : List ℕ) (a b c : Option (List LinkCall)) (taken piece : List ℕ) → GoesOn Wants most so_far a b taken → Wants (so_far ++ taken) → length piece ≤ most → TellsCall b (call.Receive (receipt.Bytes piece)) c → GoesOn Wants most so_far a c (taken ++ piece)
+  pub one_piece : (so_far : List ℕ) (a b c : Option (List LinkCall)) (taken piece : List ℕ) → GoesOnReceiving Wants most so_far a b taken → Wants (so_far ++ taken) → length piece ≤ most → TellsCall b (call.Receive (receipt.Bytes piece)) c → GoesOnReceiving Wants most so_far a c (taken ++ piece)
   unfolding one_receive
   one_piece so_far a b c taken piece g w f k =
       let r = one_receive so_far a b c taken (receipt.Bytes piece) g w f k in
@@ -89,7 +89,7 @@ module _ (Wants : List ℕ → Type 0) (most : ℕ) where
       }
 
   -- a receive that gave nothing
-  pub no_piece : (so_far : List ℕ) (a b c : Option (List LinkCall)) (taken : List ℕ) (one : Receipt) → bytes_in (one ∷ []) ≡ [] → GoesOn Wants most so_far a b taken → Wants (so_far ++ taken) → FitsIn most one → TellsCall b (call.Receive one) c → Receives Wants most so_far a c taken
+  pub no_piece : (so_far : List ℕ) (a b c : Option (List LinkCall)) (taken : List ℕ) (one : Receipt) → bytes_in (one ∷ []) ≡ [] → GoesOnReceiving Wants most so_far a b taken → Wants (so_far ++ taken) → FitsIn most one → TellsCall b (call.Receive one) c → Receives Wants most so_far a c taken
   no_piece so_far a b c taken one e g w f k =
       subst (λ (t : List ℕ). Receives Wants most so_far a c t) (ap (λ (t : List ℕ). taken ++ t) e ∙ append-nil taken) (one_receive so_far a b c taken one g w f k)
 

@@ -4,12 +4,12 @@ use Rattle.std.proofs.lemmas.List.{append-nil}
 use Rattle.std.proofs.KnownBytes.{Appends-kept, Appends-nil, Consumes-nil, Keeps-refl}
 use Rattle.std.specs.Io.KnownBytes.{Appends, Consumes, Keeps}
 use Rattle.ug_proto.specs.declared.reply.Reply.{Reply}
-use Rattle.ug_types.specs.declared.link_call.LinkCall.{LinkCall}
+use Rattle.ug_links.specs.declared.link_call.LinkCall.{LinkCall}
 use Rattle.ug_client.specs.Answers.{IsAwaiting}
 use Rattle.ug_client.specs.Calls.{CallsInVain, TellsCalls, calls_to_ask}
 use Rattle.ug_client.proofs.Calls.{asks_behind}
 use Rattle.ug_client.specs.Awaiting.{Awaits, TakesNoMore}
-use Rattle.ug_client.specs.Asking.{AppendsPart, Writes, SentBy, ToldBy, Asks}
+use Rattle.ug_client.specs.Asking.{AppendsPart, Writes, SentBy, ToldBy, AsksDaemon}
 use Rattle.ug_client.specs.declared.receive.Awaited.{Awaited}
 use Rattle.ug_client.specs.declared.receive.Awaited.TheVariants as awaited
 use Rattle.ug_client.specs.declared.asked.Asked.{Asked}
@@ -34,7 +34,7 @@ module _ (path line : List ℕ) (calls0 calls1 calls : Option (List LinkCall)) (
   line_sent : Appends sent0 sent line
   line_sent = Appends-kept sent0 sent1 sent line request kept
 
-  pub asks_replied : (held0 held : Option (List ℕ)) (bytes : List ℕ) (reply : Reply) (place : ℕ) (result : Asked) → Awaits calls1 calls left1 left bytes (awaited.Replied reply place) → Writes held0 held reply result → Asks path line calls0 calls sent0 sent left0 left held0 held result
+  pub asks_replied : (held0 held : Option (List ℕ)) (bytes : List ℕ) (reply : Reply) (place : ℕ) (result : Asked) → Awaits calls1 calls left1 left bytes (awaited.Replied reply place) → Writes held0 held reply result → AsksDaemon path line calls0 calls sent0 sent left0 left held0 held result
   asks_replied held0 held bytes reply place result a w = record { taken = a.taken; made = inr (asks_behind path line calls0 calls1 calls a.taken dialled a.receives); source = kept_consumes left0 left1 left a.taken before a.source; enough = a.enough; requested = requested result w; told = told result w }
     where
       requested : (result : Asked) → Writes held0 held reply result → SentBy sent0 sent line result
@@ -53,13 +53,13 @@ module _ (path line : List ℕ) (calls0 calls1 calls : Option (List LinkCall)) (
       told asked.WriteFault w = record { reply = reply; behind = drop place a.taken; replied = a.told.2; written = w }
       told asked.Memory w = w
 
-  pub asks_failed : (held0 held : Option (List ℕ)) (bytes : List ℕ) (result : Awaited) → Awaits calls1 calls left1 left bytes result → Keeps held0 held → Asks path line calls0 calls sent0 sent left0 left held0 held asked.LinkFailed
+  pub asks_failed : (held0 held : Option (List ℕ)) (bytes : List ℕ) (result : Awaited) → Awaits calls1 calls left1 left bytes result → Keeps held0 held → AsksDaemon path line calls0 calls sent0 sent left0 left held0 held asked.LinkFailed
   asks_failed held0 held bytes result a w = record { taken = a.taken; made = inr (asks_behind path line calls0 calls1 calls a.taken dialled a.receives); source = kept_consumes left0 left1 left a.taken before a.source; enough = a.enough; requested = whole_part sent0 sent line line_sent; told = w }
 
-  pub asks_memory : (held0 held : Option (List ℕ)) (bytes : List ℕ) (result : Awaited) → Awaits calls1 calls left1 left bytes result → Keeps held0 held → Asks path line calls0 calls sent0 sent left0 left held0 held asked.Memory
+  pub asks_memory : (held0 held : Option (List ℕ)) (bytes : List ℕ) (result : Awaited) → Awaits calls1 calls left1 left bytes result → Keeps held0 held → AsksDaemon path line calls0 calls sent0 sent left0 left held0 held asked.Memory
   asks_memory held0 held bytes result a w = record { taken = a.taken; made = inr (asks_behind path line calls0 calls1 calls a.taken dialled a.receives); source = kept_consumes left0 left1 left a.taken before a.source; enough = a.enough; requested = whole_part sent0 sent line line_sent; told = w }
 
-  pub asks_none : (held0 held : Option (List ℕ)) (bytes : List ℕ) → Awaits calls1 calls left1 left bytes awaited.NoReply → Keeps held0 held → Asks path line calls0 calls sent0 sent left0 left held0 held asked.NoReply
+  pub asks_none : (held0 held : Option (List ℕ)) (bytes : List ℕ) → Awaits calls1 calls left1 left bytes awaited.NoReply → Keeps held0 held → AsksDaemon path line calls0 calls sent0 sent left0 left held0 held asked.NoReply
   asks_none held0 held bytes a w = record { taken = a.taken; made = inr (asks_behind path line calls0 calls1 calls a.taken dialled a.receives); source = kept_consumes left0 left1 left a.taken before a.source; enough = a.enough; requested = line_sent; told = (a.told, w) }
 
 -- before anything was taken
@@ -69,10 +69,10 @@ nothing_taken = record { short = omega arith; earlier = []; last = []; whole = r
 nothing_consumed : (a b : Option (List ℕ)) → Keeps a b → Consumes a b []
 nothing_consumed a b h = kept_consumes a b b [] h (Consumes-nil b)
 
-pub unsent_failed : (path line : List ℕ) (calls0 calls : Option (List LinkCall)) (sent0 sent left0 left held : Option (List ℕ)) → CallsInVain path line calls0 calls asked.LinkFailed → AppendsPart sent0 sent line → Keeps left0 left → Asks path line calls0 calls sent0 sent left0 left held held asked.LinkFailed
+pub unsent_failed : (path line : List ℕ) (calls0 calls : Option (List LinkCall)) (sent0 sent left0 left held : Option (List ℕ)) → CallsInVain path line calls0 calls asked.LinkFailed → AppendsPart sent0 sent line → Keeps left0 left → AsksDaemon path line calls0 calls sent0 sent left0 left held held asked.LinkFailed
 unsent_failed path line calls0 calls sent0 sent left0 left held m s l = record { taken = []; made = inl (refl, m); source = nothing_consumed left0 left l; enough = nothing_taken; requested = s; told = Keeps-refl held }
 
-pub unsent_memory : (path line : List ℕ) (calls0 calls : Option (List LinkCall)) (sent0 sent left0 left held : Option (List ℕ)) → CallsInVain path line calls0 calls asked.Memory → Keeps sent0 sent → Keeps left0 left → Asks path line calls0 calls sent0 sent left0 left held held asked.Memory
+pub unsent_memory : (path line : List ℕ) (calls0 calls : Option (List LinkCall)) (sent0 sent left0 left held : Option (List ℕ)) → CallsInVain path line calls0 calls asked.Memory → Keeps sent0 sent → Keeps left0 left → AsksDaemon path line calls0 calls sent0 sent left0 left held held asked.Memory
 unsent_memory path line calls0 calls sent0 sent left0 left held m s l = record {
   taken = [];
   made = inl (refl, m);

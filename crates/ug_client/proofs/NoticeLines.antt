@@ -10,29 +10,30 @@ use Rattle.std.proofs.lemmas.List.{take_all}
 use Rattle.std.proofs.lemmas.Option.{none-some, same_Some}
 use Rattle.ug_types.specs.Elements.{Has}
 use Rattle.ug_types.specs.NodeNames.{IsNodeName}
-use Rattle.ug_types.specs.Parameters.{parameter_name, parameter_of, parameter_set, value_of, value_word}
+use Rattle.ug_parameter.specs.Parameters.{parameter_name, parameter_of, parameter_set, parameter_with, value_word}
 use Rattle.ug_types.specs.Principals.{Named, is_name, is_name_byte, principal_named, principal_of, principal_text}
 use Rattle.ug_types.specs.Reading.{after, ends_name}
 use Rattle.ug_types.specs.Targets.{target_of, target_word}
-use Rattle.ug_types.specs.declared.control.Write.{Write}
-use Rattle.ug_types.specs.declared.control.Write.TheVariants as write
+use Rattle.ug_kernel.specs.declared.control.Write.{Write}
+use Rattle.ug_kernel.specs.declared.control.Write.TheVariants as write
 use Rattle.ug_types.specs.declared.name.NameFault.{NameFault}
-use Rattle.ug_types.specs.declared.parameter.Parameter.{Parameter}
-use Rattle.ug_types.specs.declared.parameter.Parameter.TheVariants as parameter
-use Rattle.ug_types.specs.declared.parameter.ParameterName.{ParameterName}
+use Rattle.ug_parameter.specs.declared.parameter.Parameter.{Parameter}
+use Rattle.ug_parameter.specs.declared.parameter.Parameter.TheVariants as parameter
+use Rattle.ug_parameter.specs.declared.parameter.ParameterName.{ParameterName}
 use Rattle.ug_types.specs.declared.reading.Reading.{Reading}
 use Rattle.ug_types.specs.declared.reading.Reading.TheVariants.{Start}
 use Rattle.ug_types.specs.declared.verdict.Cause.{Cause}
 use Rattle.ug_types.specs.declared.verdict.Cause.TheVariants as cause
-use Rattle.ug_types.specs.declared.verdict.Held.{Held}
+use Rattle.ug_kernel.specs.declared.control.Held.{Held}
 use Rattle.ug_types.specs.declared.verdict.Target.{Target}
 use Rattle.ug_types.specs.declared.verdict.Target.TheVariants as target
-use Rattle.ug_types.proofs.AccessWords.{parameter_law, target_law, value_law}
+use Rattle.ug_parameter.proofs.ParameterWords.{parameter_law, value_law}
+use Rattle.ug_types.proofs.AccessWords.{target_law}
 use Rattle.ug_types.proofs.NameWords.{node_graphic}
 use Rattle.ug_types.proofs.SpacedWords.{is_graphic, number_graphic}
 use Rattle.ug_types.proofs.Spelled.{ended, ended_early, read, read_more, stopped}
-use Rattle.ug_decimals.specs.Numbers.{number_in}
-use Rattle.ug_decimals.proofs.Numerals.{is_number as number_read, number_found}
+use Rattle.ug_numerals.specs.Numbers.{number_in}
+use Rattle.ug_numerals.proofs.Numerals.{is_number as number_read, number_found}
 use Rattle.ug_kernel.specs.declared.calls.Wrote.{Wrote}
 use Rattle.ug_kernel.specs.declared.calls.Wrote.TheVariants as wrote
 use Rattle.ug_audit.specs.Lines.{and_words, cause_words, entry_line, fault_words, write_word, wrote_word}
@@ -42,7 +43,7 @@ use Rattle.ug_audit.specs.declared.entry.Entry.TheVariants as entry
 use Rattle.ug_audit.specs.declared.entry.Fault.{Fault}
 use Rattle.ug_audit.specs.declared.entry.Fault.TheVariants as fault
 use Rattle.ug_client.specs.Answers.{IsNoticed, IsNoticedLine}
-use Rattle.ug_client.specs.NoticeLines.{are_numbers, both_parts, cut_word, ends_read, has_value, is_below_256, is_byte, is_cause, is_cause_alone, is_cause_of, is_entry_of, is_entry_text, is_fault, is_fault_of, is_gone, is_judged, is_malformed, is_name_or_star, is_name_word, is_named_verdict, is_named_write, is_number, is_outcome, is_parameter, is_parameter_of, is_target, is_unsettled, is_user, is_verdict, is_write, is_written, is_wrote, onto_cut}
+use Rattle.ug_client.specs.NoticeLines.{are_numbers, both_parts, cut_word, ends_read, has_value, is_below_256, is_byte, is_cause, is_cause_alone, is_cause_of, is_entry_of, is_entry_text, is_fault, is_fault_of, is_gone, is_judged, is_malformed, is_name_or_star, is_name_word, is_named_verdict, is_named_write, is_decimal, is_outcome, is_parameter, is_parameter_of, is_target, is_unsettled, is_user, is_verdict, is_write, is_written, is_wrote, onto_cut}
 
 -- ---- words
 
@@ -153,10 +154,10 @@ name_test word (Err why) law same = by (is_name_word word) refl
 
 -- ---- the words of an entry
 
-number_yes : (n : ℕ) → n < 2 ^ 64 → is_number (decimal n) ≡ true
+number_yes : (n : ℕ) → n < 2 ^ 64 → is_decimal (decimal n) ≡ true
 number_yes n h = ap is_some (number_read (decimal n) n h refl)
 
-number_so : (word : List ℕ) → is_number word ≡ true → (n : ℕ) × (n < 2 ^ 64) × (word ≡ decimal n)
+number_so : (word : List ℕ) → is_decimal word ≡ true → (n : ℕ) × (n < 2 ^ 64) × (word ≡ decimal n)
 number_so word h = by (number_in word) refl h
   where
     by : (o : Option ℕ) → number_in word ≡ o → is_some o ≡ true → (n : ℕ) × (n < 2 ^ 64) × (word ≡ decimal n)
@@ -303,7 +304,7 @@ cause_yes cause.Implicit h = refl
 cause_yes cause.Present h = refl
 cause_yes cause.Keep h = refl
 cause_yes cause.Inserted h = refl
-cause_yes (cause.Malformed kind place) h = both_yes is_byte is_number (decimal kind) (decimal place) (number_graphic kind (byte_number kind h.0)) (byte_yes kind h.0) (number_yes place h.1)
+cause_yes (cause.Malformed kind place) h = both_yes is_byte is_decimal (decimal kind) (decimal place) (number_graphic kind (byte_number kind h.0)) (byte_yes kind h.0) (number_yes place h.1)
 cause_yes (cause.Order who) h = ap is_some (so_principal who h)
 
 abbrev CauseRead : List ℕ → Type 0
@@ -327,7 +328,7 @@ with_word text first rest word w e = w ∙ ap (λ (f : List ℕ). f ++ 32 ∷ re
 
 malformed_so : (text rest : List ℕ) → text ≡ codes "malformed" ++ 32 ∷ rest → is_malformed rest ≡ true → CauseRead text
 malformed_so text rest w h =
-    let p = both_so is_byte is_number rest h in
+    let p = both_so is_byte is_decimal rest h in
     let k = byte_so p.first p.is_first in
     let n = number_so p.rest p.is_rest in
     let whole : rest ≡ decimal k.0 ++ 32 ∷ decimal n.0 = p.whole ∙ (λ i. k.2 i ++ 32 ∷ n.2 i) in
@@ -344,7 +345,7 @@ cause_so text h = by (cut_word text) refl h
     next first rest w true e k = let u = user_so rest k in (cause.Order u.0, u.1, with_word text first rest (codes "order") w e ∙ ap (λ (t : List ℕ). codes "order" ++ 32 ∷ t) u.2)
     next first rest w false e k = last first rest w (same first (codes "malformed")) refl k
 
-    rule : (first rest : List ℕ) → text ≡ first ++ 32 ∷ rest → (v : Bool) → same first (codes "rule") ≡ v → (if v then is_number rest else if same first (codes "order") then is_user rest else if same first (codes "malformed") then is_malformed rest else false) ≡ true → CauseRead text
+    rule : (first rest : List ℕ) → text ≡ first ++ 32 ∷ rest → (v : Bool) → same first (codes "rule") ≡ v → (if v then is_decimal rest else if same first (codes "order") then is_user rest else if same first (codes "malformed") then is_malformed rest else false) ≡ true → CauseRead text
     rule first rest w true e k = let n = number_so rest k in (cause.Rule n.0, n.1, with_word text first rest (codes "rule") w e ∙ ap (λ (t : List ℕ). codes "rule" ++ 32 ∷ t) n.2)
     rule first rest w false e k = next first rest w (same first (codes "order")) refl k
 
@@ -353,7 +354,7 @@ cause_so text h = by (cut_word text) refl h
     by (Some cut) e k = rule cut.0 cut.1 (cut_whole text cut e) (same cut.0 (codes "rule")) refl k
 
 fault_yes : (why : Fault) → IsUnsettling why → is_fault (fault_text why) ≡ true
-fault_yes (fault.Call failed) h = both_yes is_number is_number (decimal failed.call) (decimal failed.count) (number_graphic failed.call h.0) (number_yes failed.call h.0) (number_yes failed.count h.1)
+fault_yes (fault.Call failed) h = both_yes is_decimal is_decimal (decimal failed.call) (decimal failed.count) (number_graphic failed.call h.0) (number_yes failed.call h.0) (number_yes failed.count h.1)
 fault_yes fault.Memory h = refl
 
 abbrev FaultRead : List ℕ → Type 0
@@ -366,7 +367,7 @@ fault_so text h = by (cut_word text) refl h
     by None e k = (fault.Memory, tt, is_text text (codes "memory") k)
     by (Some cut) e k =
         let s = and_parts (same cut.0 (codes "fault")) (are_numbers cut.1) k in
-        let p = both_so is_number is_number cut.1 s.1 in
+        let p = both_so is_decimal is_decimal cut.1 s.1 in
         let n = number_so p.first p.is_first in
         let m = number_so p.rest p.is_rest in
         let whole : cut.1 ≡ decimal n.0 ++ 32 ∷ decimal m.0 = p.whole ∙ (λ i. n.2 i ++ 32 ∷ m.2 i) in
@@ -445,17 +446,17 @@ line_read : (e : Entry) → IsNoticed e → IsEntry e → is_entry_text (entry_l
 unfolding is_entry_text
 line_read (entry.Judged number name held verdict why) l h =
     ap (λ (t : List ℕ). is_entry_of (cut_word t)) (line_judged number name held verdict why)
-    ∙ both_yes is_number is_named_verdict (decimal number) (name ++ 32 ∷ (target_word verdict ++ 32 ∷ cause_text why)) (number_graphic number h.0) (number_yes number h.0)
+    ∙ both_yes is_decimal is_named_verdict (decimal number) (name ++ 32 ∷ (target_word verdict ++ 32 ∷ cause_text why)) (number_graphic number h.0) (number_yes number h.0)
     (both_yes is_name_word is_verdict name (target_word verdict ++ 32 ∷ cause_text why) (node_graphic name h.1) (so_name_word name h.1 l)
     (both_yes is_target is_cause (target_word verdict) (cause_text why) (target_yes verdict).0 (target_yes verdict).1 (cause_yes why h.2)))
 line_read (entry.Wrote number name what outcome) l h =
     ap (λ (t : List ℕ). is_entry_of (cut_word t)) (line_wrote number name what outcome)
-    ∙ both_yes is_number is_named_write (decimal number) (name ++ 32 ∷ (write_word what ++ 32 ∷ wrote_word outcome)) (number_graphic number h.0) (number_yes number h.0)
+    ∙ both_yes is_decimal is_named_write (decimal number) (name ++ 32 ∷ (write_word what ++ 32 ∷ wrote_word outcome)) (number_graphic number h.0) (number_yes number h.0)
     (both_yes is_name_word is_written name (write_word what ++ 32 ∷ wrote_word outcome) (node_graphic name h.1) (so_name_word name h.1 l)
     (both_yes is_write is_outcome (write_word what) (wrote_word outcome) (write_yes what).0 (write_yes what).1 (outcome_yes outcome)))
 line_read (entry.Gone number name) l h =
     ap (λ (t : List ℕ). is_entry_of (cut_word t)) (line_gone number name)
-    ∙ both_yes is_number is_name_word (decimal number) name (number_graphic number h.0) (number_yes number h.0) (so_name_word name h.1 l)
+    ∙ both_yes is_decimal is_name_word (decimal number) name (number_graphic number h.0) (number_yes number h.0) (so_name_word name h.1 l)
 line_read (entry.Unsettled name why) l h =
     ap (λ (t : List ℕ). is_entry_of (cut_word t)) (line_unsettled name why)
     ∙ both_yes is_name_or_star is_fault name (fault_text why) (node_graphic name h.0) (or_right (same name (codes "*")) (is_name_word name) (so_name_word name h.0 l)) (fault_yes why h.1)
@@ -478,7 +479,7 @@ line_read (entry.StartRefused what line kind place) l h = absurd l
 
 judged_so : (rest : List ℕ) → is_judged rest ≡ true → IsNoticedLine (codes "judged" ++ 32 ∷ rest)
 judged_so rest h =
-    let p = both_so is_number is_named_verdict rest h in
+    let p = both_so is_decimal is_named_verdict rest h in
     let n = number_so p.first p.is_first in
     let q = both_so is_name_word is_verdict p.rest p.is_rest in
     let named = name_word_so q.first q.is_first in
@@ -497,7 +498,7 @@ judged_so rest h =
 
 wrote_so : (rest : List ℕ) → is_wrote rest ≡ true → IsNoticedLine (codes "wrote" ++ 32 ∷ rest)
 wrote_so rest h =
-    let p = both_so is_number is_named_write rest h in
+    let p = both_so is_decimal is_named_write rest h in
     let n = number_so p.first p.is_first in
     let q = both_so is_name_word is_written p.rest p.is_rest in
     let named = name_word_so q.first q.is_first in
@@ -516,7 +517,7 @@ wrote_so rest h =
 
 gone_so : (rest : List ℕ) → is_gone rest ≡ true → IsNoticedLine (codes "gone" ++ 32 ∷ rest)
 gone_so rest h =
-    let p = both_so is_number is_name_word rest h in
+    let p = both_so is_decimal is_name_word rest h in
     let n = number_so p.first p.is_first in
     let named = name_word_so p.rest p.is_rest in
     record {
@@ -549,7 +550,7 @@ unsettled_so rest h =
 parameter_so : (rest : List ℕ) → is_parameter rest ≡ true → IsNoticedLine (codes "parameter" ++ 32 ∷ rest)
 parameter_so rest h = by (cut_word rest) refl h
   where
-    set_so : (first behind : List ℕ) (it : ParameterName) → rest ≡ first ++ 32 ∷ behind → parameter_of first ≡ Some it → (o : Option Parameter) → value_of it behind ≡ o → is_some o ≡ true → IsNoticedLine (codes "parameter" ++ 32 ∷ rest)
+    set_so : (first behind : List ℕ) (it : ParameterName) → rest ≡ first ++ 32 ∷ behind → parameter_of first ≡ Some it → (o : Option Parameter) → parameter_with it behind ≡ o → is_some o ≡ true → IsNoticedLine (codes "parameter" ++ 32 ∷ rest)
     set_so first behind it w e None f k = let none : ⊥ = cc in absurd none
     set_so first behind it w e (Some set) f k =
         let v = (value_law it set behind).0 f in
@@ -564,7 +565,7 @@ parameter_so rest h = by (cut_word rest) refl h
 
     named_set : (first behind : List ℕ) → rest ≡ first ++ 32 ∷ behind → (o : Option ParameterName) → parameter_of first ≡ o → has_value o behind ≡ true → IsNoticedLine (codes "parameter" ++ 32 ∷ rest)
     named_set first behind w None e k = let none : ⊥ = cc in absurd none
-    named_set first behind w (Some it) e k = set_so first behind it w e (value_of it behind) refl k
+    named_set first behind w (Some it) e k = set_so first behind it w e (parameter_with it behind) refl k
 
     by : (cut : Option (List ℕ × List ℕ)) → cut_word rest ≡ cut → is_parameter_of cut ≡ true → IsNoticedLine (codes "parameter" ++ 32 ∷ rest)
     by None e k = let none : ⊥ = cc in absurd none

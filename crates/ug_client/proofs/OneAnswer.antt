@@ -6,7 +6,7 @@ use Rattle.ug_proto.specs.Replies.{ended_lines, reply_text, IsReply}
 use Rattle.ug_proto.proofs.OneReply.{one_reply}
 use Rattle.ug_client.specs.Answers.{AreNotices, Replied, IsUnanswered}
 use Rattle.ug_client.specs.Awaiting.{GivesNoReply, Ended, Full, Never, answer_limit}
-use Rattle.ug_client.specs.WholeBytes.{Gives, GivesNone}
+use Rattle.ug_client.specs.WholeBytes.{HoldsReply, GivesNone}
 use Rattle.ug_client.proofs.Skipping.{behind_notice, reply_or_notice}
 use Rattle.ug_client.proofs.WatchCalls.{replied_more}
 
@@ -16,7 +16,7 @@ front_taken n [] b l = ap (λ (k : ℕ). take k b) (let z : n ≡ n - 0 = omega 
 front_taken zero (c ∷ a) b l = absurd (omega (arith, l))
 front_taken (suc n) (c ∷ a) b l = ap (λ (t : List ℕ). c ∷ t) (front_taken n a b (omega (arith, l)) ∙ ap (λ (k : ℕ). a ++ take k b) (let z : n - length a ≡ suc n - suc (length a) = omega arith in z))
 
-pub gives : (taken more behind : List ℕ) (reply : Reply) → length taken ≤ answer_limit → Replied taken reply behind → Gives (taken ++ more) reply
+pub gives : (taken more behind : List ℕ) (reply : Reply) → length taken ≤ answer_limit → Replied taken reply behind → HoldsReply (taken ++ more) reply
 gives taken more behind reply l r =
     let rest = take (answer_limit - length taken) more in
     record { behind = behind ++ rest; replied = subst (λ (b : List ℕ). Replied b reply (behind ++ rest)) (sym (front_taken answer_limit taken more l)) (replied_more taken reply behind rest r) }
@@ -60,5 +60,5 @@ one_behind (l ∷ ls) bytes a b x y each can w r =
     let whole : bytes ≡ l ++ 10 ∷ (ended_lines ls ++ (reply_text a ++ x)) = w ∙ append_assoc l (10 ∷ ended_lines ls) (reply_text a ++ x) in
     one_behind ls (ended_lines ls ++ (reply_text a ++ x)) a b x y each.1 can refl (behind_notice l (ended_lines ls ++ (reply_text a ++ x)) b y each.0 (subst (λ (t : List ℕ). Replied t b y) whole r))
 
-pub one_answer : (all : List ℕ) (a b : Reply) → Gives all a → Gives all b → a ≡ b
+pub one_answer : (all : List ℕ) (a b : Reply) → HoldsReply all a → HoldsReply all b → a ≡ b
 one_answer all a b g h = one_behind g.replied.notices (take answer_limit all) a b g.behind h.behind g.replied.each g.replied.can g.replied.whole h.replied

@@ -10,7 +10,7 @@ use Rattle.ug_types.specs.Elements.{Has}
 use Rattle.ug_types.proofs.Elements.{has_left}
 use Rattle.ug_proto.specs.Replies.{ended_lines}
 use Rattle.ug_client.specs.Answers.{IsNotice}
-use Rattle.ug_client.specs.Watching.{IsShort, AreShort, IsNoNotice, Other, Overlong, IsShortThen, Shows, ShowsPart}
+use Rattle.ug_client.specs.Watching.{IsShort, AreShort, IsNoNotice, Other, Overlong, IsShortThen, ShowsNotices, ShowsPart}
 
 pub other_line : (bytes : List ℕ) (n : ℕ) → ¬ IsNotice (take n bytes) → ¬ Has (take n bytes) 10 → bytes ≡ take n bytes ++ 10 ∷ drop (n + 1) bytes → IsNoNotice bytes
 other_line bytes n other h w = Other (take n bytes) (drop (n + 1) bytes) w h other
@@ -27,7 +27,7 @@ long_line bytes n l m h =
     no (omega (arith, length-take 65536 (take n bytes), length-take n bytes, l, m))
 
 -- nothing shown yet
-pub shows_none : (bytes : List ℕ) (room : ℕ) (held : Option (List ℕ)) → Shows bytes room held bytes room held
+pub shows_none : (bytes : List ℕ) (room : ℕ) (held : Option (List ℕ)) → ShowsNotices bytes room held bytes room held
 shows_none bytes room held = record { shown = []; each = tt; split = refl; count = omega arith; written = Appends-nil held }
 
 ended_last : (ls : List (List ℕ)) (line : List ℕ) → ended_lines (ls ++ line ∷ []) ≡ ended_lines ls ++ (line ++ 10 ∷ [])
@@ -45,8 +45,8 @@ line_bytes bytes n line rest l d w =
     let size : n ≡ length (line ++ 10 ∷ []) = omega (arith, l, ap (λ (b : List ℕ). length b) d, length-drop n bytes, ap (λ (b : List ℕ). length b) whole, length-append (line ++ 10 ∷ []) rest) in
     ap (λ (k : ℕ). take k bytes) size ∙ (ap (λ (b : List ℕ). take (length (line ++ 10 ∷ [])) b) whole ∙ take-append_seam (line ++ 10 ∷ []) rest)
 
-pub shows_one : (bytes0 : List ℕ) (room0 : ℕ) (held0 : Option (List ℕ)) (at n room : ℕ) (held1 held2 : Option (List ℕ)) → Shows bytes0 room0 held0 (drop at bytes0) room held1 → 0 < room
-    → n ≤ length (drop at bytes0) → IsShortThen (drop at bytes0) (drop n (drop at bytes0)) → Puts held1 held2 (take n (drop at bytes0)) put.Done → Shows bytes0 room0 held0 (drop (at + n) bytes0) (room - 1) held2
+pub shows_one : (bytes0 : List ℕ) (room0 : ℕ) (held0 : Option (List ℕ)) (at n room : ℕ) (held1 held2 : Option (List ℕ)) → ShowsNotices bytes0 room0 held0 (drop at bytes0) room held1 → 0 < room
+    → n ≤ length (drop at bytes0) → IsShortThen (drop at bytes0) (drop n (drop at bytes0)) → Puts held1 held2 (take n (drop at bytes0)) put.Done → ShowsNotices bytes0 room0 held0 (drop (at + n) bytes0) (room - 1) held2
 shows_one bytes0 room0 held0 at n room held1 held2 s r l t p =
     let rest = drop at bytes0 in
     let line : take n rest ≡ t.line ++ 10 ∷ [] = line_bytes rest n t.line (drop n rest) l refl t.whole in
@@ -58,7 +58,7 @@ shows_one bytes0 room0 held0 at n room held1 held2 s r l t p =
       written = subst (λ (b : List ℕ). Appends held0 held2 b) (ap (λ (b : List ℕ). ended_lines s.shown ++ b) line ∙ sym (ended_last s.shown t.line)) (Appends-trans held0 held1 held2 (ended_lines s.shown) (take n rest) s.written p);
     }
 
-pub shows_part : (bytes0 : List ℕ) (room0 : ℕ) (held0 : Option (List ℕ)) (at n room : ℕ) (held1 held2 : Option (List ℕ)) → Shows bytes0 room0 held0 (drop at bytes0) room held1 → 0 < room
+pub shows_part : (bytes0 : List ℕ) (room0 : ℕ) (held0 : Option (List ℕ)) (at n room : ℕ) (held1 held2 : Option (List ℕ)) → ShowsNotices bytes0 room0 held0 (drop at bytes0) room held1 → 0 < room
     → n ≤ length (drop at bytes0) → IsShortThen (drop at bytes0) (drop n (drop at bytes0)) → Puts held1 held2 (take n (drop at bytes0)) put.Failed → ShowsPart bytes0 room0 held0 held2
 shows_part bytes0 room0 held0 at n room held1 held2 s r l t p =
     let rest = drop at bytes0 in

@@ -13,7 +13,7 @@ use Rattle.ug_proto.specs.Replies.{ended_lines, reply_text, IsReply}
 use Rattle.ug_proto.specs.ReplyReading.{BeginsWithReply, IsReplyBegun, IsNoReply, ReadsReply}
 use Rattle.ug_proto.proofs.OneReply.{one_reply, refused_first}
 use Rattle.ug_proto.proofs.Scans.{cut}
-use Rattle.ug_client.specs.Answers.{IsNotice, IsNoticeBegun, AreNotices, EndsInNoticeBegun, MayBeReplied, Replied, IsAwaiting, IsNoAnswer, Answers}
+use Rattle.ug_client.specs.Answers.{IsNotice, IsNoticeBegun, AreNotices, EndsInNoticeBegun, MayBeReplied, Replied, IsAwaiting, IsNoAnswer, AnswersReply}
 use Rattle.ug_client.proofs.Front.{notice_on_line}
 use Rattle.ug_client.specs.Notices.{IsNoticeThen, BeginsOtherwise, IsBehindNotices}
 
@@ -153,7 +153,7 @@ moved at (Ok None) = Ok None
 moved at (Err fault) = Err fault
 
 -- what is read of a text without notices in front, behind notices
-pub behind_notices : (bytes : List ℕ) (at : ℕ) → at ≤ length bytes → IsBehindNotices bytes (drop at bytes) → (read : Result (Option (Reply × ℕ)) ReplyFault) → Answers (drop at bytes) read → Answers bytes (moved at read)
+pub behind_notices : (bytes : List ℕ) (at : ℕ) → at ≤ length bytes → IsBehindNotices bytes (drop at bytes) → (read : Result (Option (Reply × ℕ)) ReplyFault) → AnswersReply (drop at bytes) read → AnswersReply bytes (moved at read)
 behind_notices bytes at l s (Ok (Some answer)) a = (
   omega (arith, a.0, length-drop at bytes),
   subst (λ (b : List ℕ). Replied bytes answer.0 b) (drop-drop answer.1 at bytes) (subst (λ (b : List ℕ). Replied b answer.0 (drop answer.1 (drop at bytes))) (sym s.whole) (notices_reply s.notices (drop at bytes) answer.0 (drop answer.1 (drop at bytes)) s.each a.1)),
@@ -162,7 +162,7 @@ behind_notices bytes at l s (Ok None) a = subst IsAwaiting (sym s.whole) (notice
 behind_notices bytes at l s (Err BadReply) a = subst IsNoAnswer (sym s.whole) (notices_never s.notices (drop at bytes) s.each a)
 behind_notices bytes at l s (Err Memory) a = tt
 
-pub read_other : (bytes : List ℕ) → BeginsOtherwise bytes → (read : Result (Option (Reply × ℕ)) ReplyFault) → ReadsReply bytes read → Answers bytes read
+pub read_other : (bytes : List ℕ) → BeginsOtherwise bytes → (read : Result (Option (Reply × ℕ)) ReplyFault) → ReadsReply bytes read → AnswersReply bytes read
 read_other bytes o (Ok (Some answer)) r = (r.1, reply_there bytes answer.0 answer.1 r)
 read_other bytes o (Ok None) r = reply_awaits bytes o r
 read_other bytes o (Err BadReply) r = reply_never bytes o r

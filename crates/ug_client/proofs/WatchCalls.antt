@@ -5,15 +5,15 @@ use Rattle.std.specs.Io.KnownBytes.{Appends, Keeps}
 use Rattle.ug_types.specs.Ends.{Rose}
 use Rattle.ug_proto.specs.declared.reply.Reply.{Reply}
 use Rattle.ug_proto.specs.Replies.{ended_lines, reply_text}
-use Rattle.ug_types.specs.declared.link.Dialled.TheVariants.{Ready}
+use Rattle.ug_links.specs.declared.link.Dialled.TheVariants.{Ready}
 use Rattle.ug_types.specs.declared.sink.Put.TheVariants.{Done}
-use Rattle.ug_types.specs.declared.link_call.LinkCall.{LinkCall}
-use Rattle.ug_types.specs.declared.link_call.LinkCall.TheVariants as call
+use Rattle.ug_links.specs.declared.link_call.LinkCall.{LinkCall}
+use Rattle.ug_links.specs.declared.link_call.LinkCall.TheVariants as call
 use Rattle.ug_client.specs.Answers.{IsAwaiting, Replied}
 use Rattle.ug_client.specs.Calls.{AreWanted, Receives, TellsCalls, calls_to_ask}
 use Rattle.ug_client.proofs.Calls.{map_both, tells_both}
 use Rattle.ug_client.specs.Awaiting.{Awaits}
-use Rattle.ug_client.specs.Asking.{Writes, SentBy, Asks}
+use Rattle.ug_client.specs.Asking.{Writes, SentBy, AsksDaemon}
 use Rattle.ug_client.specs.Watching.{WantsNotices, WatchEnds, WatchesOn, Watches}
 use Rattle.ug_client.specs.declared.receive.Awaited.TheVariants as awaited
 use Rattle.ug_client.specs.declared.asked.Asked.{Asked}
@@ -21,7 +21,7 @@ use Rattle.ug_client.specs.declared.asked.Asked.TheVariants as asked
 use Rattle.ug_client.proofs.Ending.{kept_consumes, whole_part}
 
 -- what ends before an Ok reply
-pub ends_before : (path line : List ℕ) (most : ℕ) (calls0 calls : Option (List LinkCall)) (sent0 sent left0 left held0 held : Option (List ℕ)) (result : Asked) → ¬ (result ≡ asked.Done) → Asks path line calls0 calls sent0 sent left0 left held0 held result → Watches path line most calls0 calls sent0 sent left0 left held0 held result
+pub ends_before : (path line : List ℕ) (most : ℕ) (calls0 calls : Option (List LinkCall)) (sent0 sent left0 left held0 held : Option (List ℕ)) (result : Asked) → ¬ (result ≡ asked.Done) → AsksDaemon path line calls0 calls sent0 sent left0 left held0 held result → Watches path line most calls0 calls sent0 sent left0 left held0 held result
 ends_before path line most calls0 calls sent0 sent left0 left held0 held result n a = record { taken = a.taken; source = a.source; requested = a.requested; told = inl (record { made = a.made; undone = n; enough = a.enough; told = a.told }) }
 
 -- more behind a reply

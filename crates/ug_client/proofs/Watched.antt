@@ -7,13 +7,13 @@ use Rattle.std.specs.Result.{is_ok, is_err}
 use Rattle.std.proofs.KnownBytes.{Appends-trans, Consumes-kept, Consumes-trans, Consumes-nil}
 use Rattle.std.specs.Io.KnownBytes.{Appends, Consumes, IsAtEnd, Keeps}
 use Rattle.ug_proto.specs.Replies.{ended_lines}
-use Rattle.ug_types.specs.LinkCalls.{TellsCall}
-use Rattle.ug_types.specs.declared.link_call.Receipt.TheVariants as receipt
-use Rattle.ug_types.specs.declared.link_call.LinkCall.{LinkCall}
-use Rattle.ug_types.specs.declared.link_call.LinkCall.TheVariants as call
+use Rattle.ug_links.specs.LinkCalls.{TellsCall}
+use Rattle.ug_links.specs.declared.link_call.Receipt.TheVariants as receipt
+use Rattle.ug_links.specs.declared.link_call.LinkCall.{LinkCall}
+use Rattle.ug_links.specs.declared.link_call.LinkCall.TheVariants as call
 use Rattle.ug_proto.specs.Lines.{IsBeginning}
-use Rattle.ug_client.specs.Calls.{GoesOn}
-use Rattle.ug_client.specs.Watching.{AreShort, Shows, ShowsPart, EndsShowing, WantsNotices, WatchEnds, WatchesOn, IsWatching}
+use Rattle.ug_client.specs.Calls.{GoesOnReceiving}
+use Rattle.ug_client.specs.Watching.{AreShort, ShowsNotices, ShowsPart, EndsShowing, WantsNotices, WatchEnds, WatchesOn, IsWatching}
 use Rattle.ug_client.proofs.Calls.{no_piece, none_yet, one_piece}
 use Rattle.ug_client.proofs.Shown.{shows_none}
 use Rattle.ug_client.specs.declared.asked.Asked.{Asked}
@@ -35,8 +35,8 @@ split_both : (a b : List (List ℕ)) (stream bytes piece rest : List ℕ) → st
 split_both a b stream bytes piece rest e f =
     ap (λ (t : List ℕ). t ++ piece) e ∙ (append_assoc (ended_lines a) bytes piece ∙ (ap (λ (t : List ℕ). ended_lines a ++ t) f ∙ (sym (append_assoc (ended_lines a) (ended_lines b) rest) ∙ ap (λ (t : List ℕ). t ++ rest) (sym (ended_both a b)))))
 
-module _ (stream : List ℕ) (room0 : ℕ) (held0 : Option (List ℕ)) (bytes : List ℕ) (room1 : ℕ) (held1 : Option (List ℕ)) (s : Shows stream room0 held0 bytes room1 held1) (piece : List ℕ) where
-  pub shows_then : (rest : List ℕ) (room : ℕ) (held : Option (List ℕ)) → Shows (bytes ++ piece) room1 held1 rest room held → Shows (stream ++ piece) room0 held0 rest room held
+module _ (stream : List ℕ) (room0 : ℕ) (held0 : Option (List ℕ)) (bytes : List ℕ) (room1 : ℕ) (held1 : Option (List ℕ)) (s : ShowsNotices stream room0 held0 bytes room1 held1) (piece : List ℕ) where
+  pub shows_then : (rest : List ℕ) (room : ℕ) (held : Option (List ℕ)) → ShowsNotices (bytes ++ piece) room1 held1 rest room held → ShowsNotices (stream ++ piece) room0 held0 rest room held
   shows_then rest room held t = record {
     shown = s.shown ++ t.shown;
     each = short_both s.shown t.shown s.each t.each;
@@ -69,7 +69,7 @@ module _ (stream : List ℕ) (room0 : ℕ) (held0 : Option (List ℕ)) (bytes : 
   ends_then left held asked.Memory t = record { rest = t.rest; room = t.room; shows = shows_then t.rest t.room held t.told }
 
 -- a piece makes lines or a longer beginning
-pub smaller : (bytes piece : List ℕ) (room1 : ℕ) (held1 : Option (List ℕ)) (rest : List ℕ) (room : ℕ) (held : Option (List ℕ)) → Shows (bytes ++ piece) room1 held1 rest room held → 0 < length piece → 0 < room → length rest < 65536 → length bytes < 65536
+pub smaller : (bytes piece : List ℕ) (room1 : ℕ) (held1 : Option (List ℕ)) (rest : List ℕ) (room : ℕ) (held : Option (List ℕ)) → ShowsNotices (bytes ++ piece) room1 held1 rest room held → 0 < length piece → 0 < room → length rest < 65536 → length bytes < 65536
     → room * 65537 - length rest < room1 * 65537 - length bytes
 smaller bytes piece room1 held1 rest room held s p r l m =
     let whole : length bytes + length piece ≡ length (ended_lines s.shown) + length rest = sym (length-append bytes piece) ∙ (ap (λ (b : List ℕ). length b) s.split ∙ length-append (ended_lines s.shown) rest) in
@@ -84,16 +84,16 @@ first_ends start calls0 left0 most held0 held ended t = record {
   told = ends_then start most held0 start most held0 (shows_none start most held0) [] left0 held ended (subst (λ (b : List ℕ). EndsShowing b most held0 held ended) (sym (append-nil start)) t);
 }
 
-pub first_watching : (start : List ℕ) (calls0 : Option (List LinkCall)) (left0 : Option (List ℕ)) (most : ℕ) (held0 : Option (List ℕ)) (bytes : List ℕ) (room : ℕ) (held : Option (List ℕ)) → Shows start most held0 bytes room held → IsWatching start calls0 calls0 left0 left0 most held0 bytes room held
-first_watching start calls0 left0 most held0 bytes room held s = record { taken = []; receives = none_yet (WantsNotices most) 4096 start calls0; source = Consumes-nil left0; shows = subst (λ (b : List ℕ). Shows b most held0 bytes room held) (sym (append-nil start)) s }
+pub first_watching : (start : List ℕ) (calls0 : Option (List LinkCall)) (left0 : Option (List ℕ)) (most : ℕ) (held0 : Option (List ℕ)) (bytes : List ℕ) (room : ℕ) (held : Option (List ℕ)) → ShowsNotices start most held0 bytes room held → IsWatching start calls0 calls0 left0 left0 most held0 bytes room held
+first_watching start calls0 left0 most held0 bytes room held s = record { taken = []; receives = none_yet (WantsNotices most) 4096 start calls0; source = Consumes-nil left0; shows = subst (λ (b : List ℕ). ShowsNotices b most held0 bytes room held) (sym (append-nil start)) s }
 
 -- more is wanted behind what was shown
-pub wants_more : (stream : List ℕ) (most : ℕ) (held0 : Option (List ℕ)) (bytes : List ℕ) (room : ℕ) (held : Option (List ℕ)) → Shows stream most held0 bytes room held → IsBeginning bytes → 0 < room → WantsNotices most stream
+pub wants_more : (stream : List ℕ) (most : ℕ) (held0 : Option (List ℕ)) (bytes : List ℕ) (room : ℕ) (held : Option (List ℕ)) → ShowsNotices stream most held0 bytes room held → IsBeginning bytes → 0 < room → WantsNotices most stream
 wants_more stream most held0 bytes room held s b r = record { shown = s.shown; each = s.each; rest = bytes; split = s.split; begun = b; few = omega (arith, s.count, r) }
 
 -- one piece more
 module _ (start : List ℕ) (calls0 calls1 calls : Option (List LinkCall)) (left0 left1 left : Option (List ℕ)) (most : ℕ) (held0 : Option (List ℕ)) (bytes : List ℕ) (room1 : ℕ) (held1 : Option (List ℕ)) (w : IsWatching start calls0 calls1 left0 left1 most held0 bytes room1 held1) (begun : IsBeginning bytes) (more : 0 < room1) (piece : List ℕ) (within : length piece ≤ 4096) (tells : TellsCall calls1 (call.Receive (receipt.Bytes piece)) calls) (source : Consumes left1 left piece) where
-  received : GoesOn (WantsNotices most) 4096 start calls0 calls (w.taken ++ piece)
+  received : GoesOnReceiving (WantsNotices most) 4096 start calls0 calls (w.taken ++ piece)
   received = one_piece (WantsNotices most) 4096 start calls0 calls1 calls w.taken piece w.receives (wants_more (start ++ w.taken) most held0 bytes room1 held1 w.shows begun more) within tells
 
   both : Consumes left0 left (w.taken ++ piece)
@@ -107,12 +107,12 @@ module _ (start : List ℕ) (calls0 calls1 calls : Option (List LinkCall)) (left
     told = subst (λ (b : List ℕ). WatchEnds b left most held0 held ended) (append_assoc start w.taken piece) (ends_then (start ++ w.taken) most held0 bytes room1 held1 w.shows piece left held ended t);
   }
 
-  pub piece_watching : (rest : List ℕ) (room : ℕ) (held : Option (List ℕ)) → Shows (bytes ++ piece) room1 held1 rest room held → IsWatching start calls0 calls left0 left most held0 rest room held
+  pub piece_watching : (rest : List ℕ) (room : ℕ) (held : Option (List ℕ)) → ShowsNotices (bytes ++ piece) room1 held1 rest room held → IsWatching start calls0 calls left0 left most held0 rest room held
   piece_watching rest room held t = record {
     taken = w.taken ++ piece;
     receives = received;
     source = both;
-    shows = subst (λ (b : List ℕ). Shows b most held0 rest room held) (append_assoc start w.taken piece) (shows_then (start ++ w.taken) most held0 bytes room1 held1 w.shows piece rest room held t);
+    shows = subst (λ (b : List ℕ). ShowsNotices b most held0 rest room held) (append_assoc start w.taken piece) (shows_then (start ++ w.taken) most held0 bytes room1 held1 w.shows piece rest room held t);
   }
 
   pub piece_lost : WatchesOn start calls0 calls left0 left most held0 held1 asked.Memory

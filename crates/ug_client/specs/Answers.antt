@@ -1,7 +1,7 @@
 -- What the bytes of a link answer: notices are skipped, and behind them stands a reply.
 use Rattle.std.specs.Prelude.{◌≡◌, ℕ, ◌≤◌, ◌⊎◌, List, length, drop, [], ◌∷◌, ◌++◌, codes, Option, Some, None, Result, Ok, Err}
 use Rattle.ug_types.specs.Elements.{Has}
-use Rattle.ug_types.specs.Refusals.{refusal_words}
+use Rattle.ug_refusal.specs.Refusals.{refusal_words}
 use Rattle.ug_audit.specs.Lines.{entry_line}
 use Rattle.ug_audit.specs.Printed.{IsEntry}
 use Rattle.ug_audit.specs.declared.entry.Entry.{Entry}
@@ -81,12 +81,12 @@ abbrev pub IsNoAnswer : List ℕ → Type 0
 IsNoAnswer bytes = (more : List ℕ) → IsUnanswered (bytes ++ more)
 
 -- what the bytes come to so far; only want of memory may be told of any
-abbrev pub Answers : List ℕ → Result (Option (Reply × ℕ)) ReplyFault → Type 0
-Answers bytes (Ok (Some answer)) =
+abbrev pub AnswersReply : List ℕ → Result (Option (Reply × ℕ)) ReplyFault → Type 0
+AnswersReply bytes (Ok (Some answer)) =
     (answer.1 ≤ length bytes) × Replied bytes answer.0 (drop answer.1 bytes)
-Answers bytes (Ok None) = IsAwaiting bytes
-Answers bytes (Err BadReply) = IsNoAnswer bytes
-Answers bytes (Err Memory) = Unit {0}
+AnswersReply bytes (Ok None) = IsAwaiting bytes
+AnswersReply bytes (Err BadReply) = IsNoAnswer bytes
+AnswersReply bytes (Err Memory) = Unit {0}
 
 -- what is printed of a reply
 abbrev pub printed : Reply → List ℕ

@@ -6,7 +6,7 @@ use Rattle.ug_proto.specs.Texts.{request_text}
 use Rattle.ug_proto.specs.declared.reply.Reply.{Reply}
 use Rattle.ug_proto.specs.declared.reply.Reply.TheVariants.{Lines, Refused}
 use Rattle.ug_client.specs.Answers.{Replied, printed}
-use Rattle.ug_types.specs.declared.link_call.LinkCall.{LinkCall}
+use Rattle.ug_links.specs.declared.link_call.LinkCall.{LinkCall}
 use Rattle.ug_client.specs.Awaiting.{TakesNoMore, GivesNoReply}
 use Rattle.ug_client.specs.Calls.{CallsInVain, CallsToAsk, TellsCalls, calls_to_ask}
 use Rattle.ug_client.specs.declared.send.Sent.{Sent}
@@ -37,16 +37,16 @@ SendsCalls path line before after sent.Failed = CallsInVain path line before aft
 SendsCalls path line before after sent.Memory = CallsInVain path line before after asked.Memory
 
 -- how a call ends whose reply was read and printed
-abbrev pub end_of : Reply → Asked
-end_of (Lines lines) = asked.Done
-end_of (Refused refusal) = asked.Refused
+abbrev pub end_by_reply : Reply → Asked
+end_by_reply (Lines lines) = asked.Done
+end_by_reply (Refused refusal) = asked.Refused
 
 -- what was written of a reply
 abbrev pub Writes : Option (List ℕ) → Option (List ℕ) → Reply → Asked → Type 0
 Writes before after reply asked.Done =
-    (end_of reply ≡ asked.Done) × Appends before after (printed reply)
+    (end_by_reply reply ≡ asked.Done) × Appends before after (printed reply)
 Writes before after reply asked.Refused =
-    (end_of reply ≡ asked.Refused) × Appends before after (printed reply)
+    (end_by_reply reply ≡ asked.Refused) × Appends before after (printed reply)
 Writes before after reply asked.NoReply = ⊥
 Writes before after reply asked.LinkFailed = ⊥
 Writes before after reply asked.WriteFault = AppendsPart before after (printed reply)
@@ -78,7 +78,7 @@ ToldBy taken left before after asked.WriteFault = Printed taken before after ask
 ToldBy taken left before after asked.Memory = Keeps before after
 
 -- the whole call, of a request's line at the socket of that path
-pub record Asks (path line : List ℕ) (calls0 calls : Option (List LinkCall))
+pub record AsksDaemon (path line : List ℕ) (calls0 calls : Option (List LinkCall))
     (sent0 sent left0 left held0 held : Option (List ℕ)) (result : Asked) : Type 0 where
   pub taken : List ℕ
   pub made : CallsToAsk path line calls0 calls taken result

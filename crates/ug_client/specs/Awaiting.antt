@@ -2,7 +2,7 @@
 use Rattle.std.specs.Prelude.{◌≡◌, ℕ, ◌≤◌, List, [], ◌++◌, length, drop, Option}
 use Rattle.std.specs.Io.KnownBytes.{Consumes, IsAtEnd}
 use Rattle.ug_client.specs.Answers.{Replied, IsUnanswered, IsAwaiting, IsNoAnswer}
-use Rattle.ug_types.specs.declared.link_call.LinkCall.{LinkCall}
+use Rattle.ug_links.specs.declared.link_call.LinkCall.{LinkCall}
 use Rattle.ug_client.specs.Calls.{Receives}
 use Rattle.ug_client.specs.declared.receive.Awaited.{Awaited}
 use Rattle.ug_client.specs.declared.receive.Awaited.TheVariants as awaited

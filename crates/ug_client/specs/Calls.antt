@@ -1,13 +1,13 @@
 -- The calls of a client on its link, where the link tells them.
 use Rattle.std.specs.Prelude.{◌≡◌, ℕ, ◌≤◌, List, [], ◌∷◌, ◌++◌, ◌⊎◌, map, length, Option, Some, None}
 use Rattle.ug_types.specs.Told.{GrowsBy}
-use Rattle.ug_types.specs.declared.link.Dialled.{Dialled}
-use Rattle.ug_types.specs.declared.link.Dialled.TheVariants as dialled
+use Rattle.ug_links.specs.declared.link.Dialled.{Dialled}
+use Rattle.ug_links.specs.declared.link.Dialled.TheVariants as dialled
 use Rattle.ug_types.specs.declared.sink.Put.TheVariants as put
-use Rattle.ug_types.specs.declared.link_call.Receipt.{Receipt}
-use Rattle.ug_types.specs.declared.link_call.Receipt.TheVariants as receipt
-use Rattle.ug_types.specs.declared.link_call.LinkCall.{LinkCall}
-use Rattle.ug_types.specs.declared.link_call.LinkCall.TheVariants as call
+use Rattle.ug_links.specs.declared.link_call.Receipt.{Receipt}
+use Rattle.ug_links.specs.declared.link_call.Receipt.TheVariants as receipt
+use Rattle.ug_links.specs.declared.link_call.LinkCall.{LinkCall}
+use Rattle.ug_links.specs.declared.link_call.LinkCall.TheVariants as call
 use Rattle.ug_client.specs.Answers.{IsAwaiting}
 use Rattle.ug_client.specs.declared.asked.Asked.{Asked}
 use Rattle.ug_client.specs.declared.asked.Asked.TheVariants as asked
@@ -34,11 +34,11 @@ AreWanted Wants most so_far (receipt.End ∷ rest) = Wants so_far × (rest ≡ [
 AreWanted Wants most so_far (receipt.Failed ∷ rest) = Wants so_far × (rest ≡ [])
 
 -- all of them gave bytes
-abbrev pub AreBytes : List Receipt → Type 0
-AreBytes [] = Unit {0}
-AreBytes (receipt.Bytes piece ∷ rest) = AreBytes rest
-AreBytes (receipt.End ∷ rest) = ⊥
-AreBytes (receipt.Failed ∷ rest) = ⊥
+abbrev pub GaveBytes : List Receipt → Type 0
+GaveBytes [] = Unit {0}
+GaveBytes (receipt.Bytes piece ∷ rest) = GaveBytes rest
+GaveBytes (receipt.End ∷ rest) = ⊥
+GaveBytes (receipt.Failed ∷ rest) = ⊥
 
 -- receives behind some bytes, each of at most so many, and what they gave
 pub record Receives (Wants : List ℕ → Type 0) (most : ℕ) (so_far : List ℕ)
@@ -49,10 +49,10 @@ pub record Receives (Wants : List ℕ → Type 0) (most : ℕ) (so_far : List �
   pub tells : TellsCalls before (map call.Receive receipts) after
 
 -- the same where the link goes on
-pub record GoesOn (Wants : List ℕ → Type 0) (most : ℕ) (so_far : List ℕ)
+pub record GoesOnReceiving (Wants : List ℕ → Type 0) (most : ℕ) (so_far : List ℕ)
     (before after : Option (List LinkCall)) (taken : List ℕ) : Type 0 where
   pub receives : Receives Wants most so_far before after taken
-  pub bytes : AreBytes receives.receipts
+  pub bytes : GaveBytes receives.receipts
 
 -- one dial of the path, the request's line, and receives
 abbrev pub calls_to_ask : List ℕ → List ℕ → List Receipt → List LinkCall

@@ -4,12 +4,12 @@ use Rattle.std.specs.Cmp.Lexicographic.{pointwise}
 use Rattle.ug_types.specs.Reading.{ends_name}
 use Rattle.ug_types.specs.declared.reading.Reading.{Reading}
 use Rattle.ug_types.specs.declared.reading.Reading.TheVariants.{Start}
-use Rattle.ug_types.specs.declared.parameter.ParameterName.{ParameterName}
-use Rattle.ug_types.specs.Parameters.{parameter_of, value_of}
+use Rattle.ug_parameter.specs.declared.parameter.ParameterName.{ParameterName}
+use Rattle.ug_parameter.specs.Parameters.{parameter_of, parameter_with}
 use Rattle.ug_types.specs.Principals.{principal_of}
 use Rattle.ug_types.specs.Targets.{target_of}
 use Rattle.ug_types.proofs.Spelled.{read}
-use Rattle.ug_decimals.specs.Numbers.{number_in}
+use Rattle.ug_numerals.specs.Numbers.{number_in}
 
 abbrev pub onto_cut : ℕ → Option (List ℕ × List ℕ) → Option (List ℕ × List ℕ)
 onto_cut b None = None
@@ -25,8 +25,8 @@ abbrev pub both_parts : (List ℕ → Bool) → (List ℕ → Bool) → Option (
 both_parts first rest None = false
 both_parts first rest (Some cut) = first cut.0 && rest cut.1
 
-abbrev pub is_number : List ℕ → Bool
-is_number word = is_some (number_in word)
+abbrev pub is_decimal : List ℕ → Bool
+is_decimal word = is_some (number_in word)
 
 abbrev pub is_below_256 : Option ℕ → Bool
 is_below_256 None = false
@@ -71,12 +71,12 @@ is_cause_alone text =
     || pointwise nat_eq text (codes "inserted")
 
 abbrev pub is_malformed : List ℕ → Bool
-is_malformed text = both_parts is_byte is_number (cut_word text)
+is_malformed text = both_parts is_byte is_decimal (cut_word text)
 
 abbrev pub is_cause_of : List ℕ → Option (List ℕ × List ℕ) → Bool
 is_cause_of text None = is_cause_alone text
 is_cause_of text (Some cut) =
-    if pointwise nat_eq cut.0 (codes "rule") then is_number cut.1 else
+    if pointwise nat_eq cut.0 (codes "rule") then is_decimal cut.1 else
     if pointwise nat_eq cut.0 (codes "order") then is_user cut.1 else
     if pointwise nat_eq cut.0 (codes "malformed") then is_malformed cut.1 else false
 
@@ -84,7 +84,7 @@ abbrev pub is_cause : List ℕ → Bool
 is_cause text = is_cause_of text (cut_word text)
 
 abbrev pub are_numbers : List ℕ → Bool
-are_numbers text = both_parts is_number is_number (cut_word text)
+are_numbers text = both_parts is_decimal is_decimal (cut_word text)
 
 abbrev pub is_fault_of : List ℕ → Option (List ℕ × List ℕ) → Bool
 is_fault_of text None = pointwise nat_eq text (codes "memory")
@@ -100,7 +100,7 @@ abbrev pub is_named_verdict : List ℕ → Bool
 is_named_verdict text = both_parts is_name_word is_verdict (cut_word text)
 
 abbrev pub is_judged : List ℕ → Bool
-is_judged text = both_parts is_number is_named_verdict (cut_word text)
+is_judged text = both_parts is_decimal is_named_verdict (cut_word text)
 
 abbrev pub is_written : List ℕ → Bool
 is_written text = both_parts is_write is_outcome (cut_word text)
@@ -109,17 +109,17 @@ abbrev pub is_named_write : List ℕ → Bool
 is_named_write text = both_parts is_name_word is_written (cut_word text)
 
 abbrev pub is_wrote : List ℕ → Bool
-is_wrote text = both_parts is_number is_named_write (cut_word text)
+is_wrote text = both_parts is_decimal is_named_write (cut_word text)
 
 abbrev pub is_gone : List ℕ → Bool
-is_gone text = both_parts is_number is_name_word (cut_word text)
+is_gone text = both_parts is_decimal is_name_word (cut_word text)
 
 abbrev pub is_unsettled : List ℕ → Bool
 is_unsettled text = both_parts is_name_or_star is_fault (cut_word text)
 
 abbrev pub has_value : Option ParameterName → List ℕ → Bool
 has_value None word = false
-has_value (Some name) word = is_some (value_of name word)
+has_value (Some name) word = is_some (parameter_with name word)
 
 abbrev pub is_parameter_of : Option (List ℕ × List ℕ) → Bool
 is_parameter_of None = false

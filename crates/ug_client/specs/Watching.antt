@@ -7,10 +7,10 @@ use Rattle.ug_proto.specs.Lines.{IsBeginning}
 use Rattle.ug_proto.specs.Replies.{ended_lines}
 use Rattle.ug_client.specs.Answers.{IsAwaiting, IsNotice, Replied, printed}
 use Rattle.ug_client.specs.Awaiting.{TakesNoMore}
-use Rattle.ug_client.specs.Asking.{AppendsPart, SentBy, ToldBy, end_of}
-use Rattle.ug_types.specs.declared.link_call.LinkCall.{LinkCall}
-use Rattle.ug_types.specs.declared.link_call.Receipt.{Receipt}
-use Rattle.ug_client.specs.Calls.{AreWanted, CallsToAsk, GoesOn, Receives, TellsCalls, bytes_in, calls_to_ask}
+use Rattle.ug_client.specs.Asking.{AppendsPart, SentBy, ToldBy, end_by_reply}
+use Rattle.ug_links.specs.declared.link_call.LinkCall.{LinkCall}
+use Rattle.ug_links.specs.declared.link_call.Receipt.{Receipt}
+use Rattle.ug_client.specs.Calls.{AreWanted, CallsToAsk, GoesOnReceiving, Receives, TellsCalls, bytes_in, calls_to_ask}
 use Rattle.ug_client.specs.declared.asked.Asked.{Asked}
 use Rattle.ug_client.specs.declared.asked.Asked.TheVariants as asked
 use Rattle.ug_client.specs.declared.lines.Next.{Next}
@@ -38,13 +38,14 @@ pub record IsShortThen (bytes rest : List ℕ) : Type 0 where
   pub is : IsShort line
   pub whole : bytes ≡ line ++ 10 ∷ rest
 
-abbrev pub IsNext : List ℕ → Next → Type 0
-IsNext bytes (next.Notice n) = (n ≤ length bytes) × IsShortThen bytes (drop n bytes)
-IsNext bytes next.Begun = IsBeginning bytes
-IsNext bytes next.Other = IsNoNotice bytes
+abbrev pub IsNextNotice : List ℕ → Next → Type 0
+IsNextNotice bytes (next.Notice n) = (n ≤ length bytes) × IsShortThen bytes (drop n bytes)
+IsNextNotice bytes next.Begun = IsBeginning bytes
+IsNextNotice bytes next.Other = IsNoNotice bytes
 
 -- the first lines of the bytes are notices and were written, in place of which so much room is left
-pub record Shows (bytes0 : List ℕ) (room0 : ℕ) (held0 : Option (List ℕ)) (bytes : List ℕ) (room : ℕ)
+pub record ShowsNotices (bytes0 : List ℕ) (room0 : ℕ) (held0 : Option (List ℕ)) (bytes : List ℕ)
+    (room : ℕ)
     (held : Option (List ℕ)) : Type 0 where
   pub shown : List (List ℕ)
   pub each : AreShort shown
@@ -65,15 +66,15 @@ pub record ShowsPart (bytes0 : List ℕ) (room0 : ℕ) (held0 held : Option (Lis
 abbrev pub ShowsBy : List ℕ → ℕ → Option (List ℕ) → List ℕ → ℕ → Option (List ℕ) → Option Asked
     → Type 0
 ShowsBy bytes0 room0 held0 bytes room held None =
-    Shows bytes0 room0 held0 bytes room held × IsBeginning bytes × (0 < room)
+    ShowsNotices bytes0 room0 held0 bytes room held × IsBeginning bytes × (0 < room)
 ShowsBy bytes0 room0 held0 bytes room held (Some asked.Done) =
-    Shows bytes0 room0 held0 bytes room held × (room ≡ 0)
+    ShowsNotices bytes0 room0 held0 bytes room held × (room ≡ 0)
 ShowsBy bytes0 room0 held0 bytes room held (Some asked.NoReply) =
-    Shows bytes0 room0 held0 bytes room held × IsNoNotice bytes × (0 < room)
+    ShowsNotices bytes0 room0 held0 bytes room held × IsNoNotice bytes × (0 < room)
 ShowsBy bytes0 room0 held0 bytes room held (Some asked.WriteFault) =
     ShowsPart bytes0 room0 held0 held
 ShowsBy bytes0 room0 held0 bytes room held (Some asked.Memory) =
-    Shows bytes0 room0 held0 bytes room held
+    ShowsNotices bytes0 room0 held0 bytes room held
 ShowsBy bytes0 room0 held0 bytes room held (Some asked.Refused) = ⊥
 ShowsBy bytes0 room0 held0 bytes room held (Some asked.LinkFailed) = ⊥
 
@@ -88,7 +89,7 @@ pub record EndsShowing (bytes0 : List ℕ) (room0 : ℕ) (held0 held : Option (L
 abbrev pub KeepsShown : List ℕ → ℕ → Option (List ℕ) → List ℕ → ℕ → Option (List ℕ) → Option Asked
     → Type 0
 KeepsShown bytes0 room0 held0 bytes room held None =
-    Shows bytes0 room0 held0 bytes room held × IsBeginning bytes × (0 < room)
+    ShowsNotices bytes0 room0 held0 bytes room held × IsBeginning bytes × (0 < room)
 KeepsShown bytes0 room0 held0 bytes room held (Some ended) =
     EndsShowing bytes0 room0 held0 held ended
 
@@ -96,7 +97,7 @@ KeepsShown bytes0 room0 held0 bytes room held (Some ended) =
 pub record ShowsSome (stream : List ℕ) (most : ℕ) (held0 held : Option (List ℕ)) : Type 0 where
   pub rest : List ℕ
   pub room : ℕ
-  pub shows : Shows stream most held0 rest room held
+  pub shows : ShowsNotices stream most held0 rest room held
 
 -- the most that may be were written, or the link ended and what stands behind them is the beginning
 -- of a line
@@ -104,14 +105,14 @@ pub record ShowsAll (stream : List ℕ) (left : Option (List ℕ)) (most : ℕ)
     (held0 held : Option (List ℕ)) : Type 0 where
   pub rest : List ℕ
   pub room : ℕ
-  pub shows : Shows stream most held0 rest room held
+  pub shows : ShowsNotices stream most held0 rest room held
   pub why : (room ≡ 0) ⊎ (IsAtEnd left × IsBeginning rest)
 
 -- fewer were written, and behind them stands no notice
 pub record ShowsUpTo (stream : List ℕ) (most : ℕ) (held0 held : Option (List ℕ)) : Type 0 where
   pub rest : List ℕ
   pub room : ℕ
-  pub shows : Shows stream most held0 rest room held
+  pub shows : ShowsNotices stream most held0 rest room held
   pub more : 0 < room
   pub other : IsNoNotice rest
 
@@ -149,9 +150,9 @@ pub record IsWatching (start : List ℕ) (calls0 calls : Option (List LinkCall))
     (left0 left : Option (List ℕ)) (most : ℕ) (held0 : Option (List ℕ)) (bytes : List ℕ) (room : ℕ)
     (held : Option (List ℕ)) : Type 0 where
   pub taken : List ℕ
-  pub receives : GoesOn (WantsNotices most) 4096 start calls0 calls taken
+  pub receives : GoesOnReceiving (WantsNotices most) 4096 start calls0 calls taken
   pub source : Consumes left0 left taken
-  pub shows : Shows (start ++ taken) most held0 bytes room held
+  pub shows : ShowsNotices (start ++ taken) most held0 bytes room held
 
 -- the calls up to the reply, and then receives only while notices are to be printed
 pub record CallsToWatch (path line : List ℕ) (calls0 calls : Option (List LinkCall)) (most : ℕ)
@@ -181,7 +182,7 @@ pub record EndsBehind (path line : List ℕ) (calls0 calls : Option (List LinkCa
     pub whole : taken ≡ front ++ further
     pub enough : TakesNoMore front
     pub reply : Reply
-    pub ok : end_of reply ≡ asked.Done
+    pub ok : end_by_reply reply ≡ asked.Done
     pub behind : List ℕ
     pub replied : Replied front reply behind
     pub made : CallsToWatch path line calls0 calls most front behind further

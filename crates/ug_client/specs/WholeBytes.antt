@@ -5,7 +5,7 @@ use Rattle.ug_client.specs.Answers.{Replied, IsUnanswered}
 use Rattle.ug_client.specs.Awaiting.{answer_limit}
 
 -- the first bytes hold that reply, with something behind it
-pub record Gives (all : List ℕ) (reply : Reply) : Type 0 where
+pub record HoldsReply (all : List ℕ) (reply : Reply) : Type 0 where
   pub behind : List ℕ
   pub replied : Replied (take answer_limit all) reply behind
 

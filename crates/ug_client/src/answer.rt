@@ -1,6 +1,6 @@
 // What the bytes of a link come to.
 ghost use Rattle.std.specs.Prelude.{◌≡◌, ◌≤◌, ◌+◌, drop, length};
-ghost use Rattle.ug_client.specs.Answers.{Answers};
+ghost use Rattle.ug_client.specs.Answers.{AnswersReply};
 ghost use Rattle.ug_client.specs.Notices.{BeginsOtherwise, IsBehindNotices};
 
 use crate::notice::{Front, front_of};
@@ -13,7 +13,7 @@ fn read_reply(alloc: Global, text: &[u8], at: usize) -> Result<Option<(Reply, us
     requires within { at ≤ length text.now }
     requires notices { IsBehindNotices text.now (drop at text.now) }
     requires other { BeginsOtherwise (drop at text.now) }
-    ensures { Answers text.now result }
+    ensures { AnswersReply text.now result }
 {
     match parse_reply(alloc, &text[at..]) {
         Ok(Some((reply, n))) => Ok(Some((reply, at + n))),
@@ -32,7 +32,7 @@ pub fn read_behind(
     requires notices { IsBehindNotices text.now (drop at.old text.now) }
     ensures within { at.new ≤ length text.now }
     ensures notices { IsBehindNotices text.now (drop at.new text.now) }
-    ensures answers { Answers text.now result }
+    ensures answers { AnswersReply text.now result }
 {
     'notices: loop {
         match front_of(&text[*at..]) {
@@ -45,7 +45,7 @@ pub fn read_behind(
 
 /// The reply that stands behind notices, and the place behind it; nothing while it is to come.
 pub fn read_answer(alloc: Global, text: &[u8]) -> Result<Option<(Reply, usize)>, ReplyFault>
-    ensures { Answers text.now result }
+    ensures { AnswersReply text.now result }
 {
     let mut at = 0;
     read_behind(alloc, text, &mut at)

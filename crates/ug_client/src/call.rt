@@ -3,7 +3,7 @@ ghost use Rattle.std.specs.Prelude.{◌≡◌, ◌≤◌};
 ghost use Rattle.ug_proto.specs.declared.request.Request.TheVariants as request;
 ghost use Rattle.ug_client.specs.Watching.{Watches};
 ghost use Rattle.ug_types.specs.Ends.{Rose};
-ghost use Rattle.ug_client.specs.Asking.{request_line, Asks};
+ghost use Rattle.ug_client.specs.Asking.{request_line, AsksDaemon};
 
 use crate::asked::Asked;
 use crate::receive::{Awaited, await_reply};
@@ -11,8 +11,9 @@ use crate::send::{Sent, send_request};
 use crate::stream::watch_behind;
 use crate::write::write_answer;
 use std::alloc::Global;
+use ug_links::Link;
 use ug_proto::Request;
-use ug_types::{Link, Sink};
+use ug_types::Sink;
 
 /// Connects to the socket of that path, sends the request, and prints its reply. Notices before the reply are skipped. It
 /// reads no further once the reply is whole, and gives up at 67,108,864 bytes. It writes no fault line.
@@ -23,7 +24,8 @@ pub fn ask<L: Link, K: Sink>(
     request: &Request,
     out: &mut K,
 ) -> Asked
-    ensures asks { Asks path.now (request_line request.now) (L.told link.old) (L.told link.new)
+    ensures asks { AsksDaemon path.now (request_line request.now) (L.told link.old)
+        (L.told link.new)
         (L.sent link.old) (L.sent link.new)
         (L.left link.old) (L.left link.new) (K.held out.old) (K.held out.new) result }
     ensures link { result ≡ Asked.LinkFailed → Rose (L.faults link.old) (L.faults link.new) }

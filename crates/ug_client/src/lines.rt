@@ -1,7 +1,7 @@
 // Notices behind a reply, line by line.
 ghost use Rattle.std.specs.Prelude.{◌≡◌, ◌≢◌, ◌≤◌, Some, drop, length};
 ghost use Rattle.ug_types.specs.Ends.{Rose};
-ghost use Rattle.ug_client.specs.Watching.{IsNext, ShowsBy};
+ghost use Rattle.ug_client.specs.Watching.{IsNextNotice, ShowsBy};
 
 use crate::asked::Asked;
 use crate::notice::line_length;
@@ -32,7 +32,7 @@ pub struct Shown {
 
 /// What stands in front.
 fn next_line(text: &[u8]) -> Next
-    ensures { IsNext text.now result }
+    ensures { IsNextNotice text.now result }
 {
     match line_length(text) {
         Some(n) => {

@@ -3,8 +3,9 @@ ghost use Rattle.std.specs.Prelude.{◌≡◌, ◌↔◌, IsTrue, IfSome, IfNone
 ghost use Rattle.ug_client.specs.Answers.{IsNotice, IsNoticedLine};
 ghost use Rattle.ug_client.specs.NoticeLines as lines;
 
-use ug_decimals::parse_decimal;
-use ug_types::{NodeName, ParameterName, Principal, Target};
+use ug_numerals::parse_decimal;
+use ug_parameter::ParameterName;
+use ug_types::{NodeName, Principal, Target};
 
 /// The first word, where a space stands behind it, and what stands behind that.
 fn cut_word(text: &[u8]) -> Option<(&[u8], &[u8])>
@@ -20,7 +21,7 @@ fn cut_word(text: &[u8]) -> Option<(&[u8], &[u8])>
 }
 
 fn is_number(word: &[u8]) -> bool
-    ensures { result ≡ lines.is_number word.now }
+    ensures { result ≡ lines.is_decimal word.now }
 {
     parse_decimal(word).is_some()
 }

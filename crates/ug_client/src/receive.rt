@@ -6,8 +6,9 @@ ghost use Rattle.ug_client.specs.Awaiting.{Awaits};
 
 use crate::so_far::{SoFar, read_on};
 use std::alloc::Global;
+use ug_links::Link;
 use ug_proto::{Reply, ReplyFault};
-use ug_types::{Link, Taken};
+use ug_types::Taken;
 
 /// The greatest number of bytes that are taken for a reply, notices included.
 const ANSWER_LIMIT: usize = 67_108_864;

@@ -5,8 +5,9 @@ ghost use Rattle.ug_types.specs.Ends.{Rose};
 ghost use Rattle.ug_client.specs.Asking.{request_line, SendsCalls, SendsLine};
 
 use std::alloc::Global;
+use ug_links::{Dialled, Link};
 use ug_proto::{Request, print_request};
-use ug_types::{Dialled, Link, NoMemory, Put};
+use ug_types::{NoMemory, Put};
 
 /// How a sending ended.
 #[derive(Clone, Copy, PartialEq, Eq, Debug)]

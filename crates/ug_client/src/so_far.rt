@@ -1,12 +1,12 @@
 // How far the bytes of a link were read, so that a new piece doesn't have all of them read again.
 ghost use Rattle.std.specs.Prelude.{◌≡◌, ◌≤◌, ◌++◌, ◌∷◌, take, length, Ok, None};
-ghost use Rattle.ug_client.specs.Answers.{Answers};
+ghost use Rattle.ug_client.specs.Answers.{AnswersReply};
 ghost use Rattle.ug_client.specs.ReadSoFar.{AwaitsLines, IsReadSoFar, newlines};
 
 use crate::answer::read_behind;
 use crate::notice::line_length;
 use std::alloc::Global;
-use ug_decimals::parse_decimal;
+use ug_numerals::parse_decimal;
 use ug_proto::{Reply, ReplyFault};
 
 /// How far bytes in which no reply stands whole were read.
@@ -59,7 +59,7 @@ pub fn read_on(
     requires within { from ≤ length text.now }
     requires so_far { IsReadSoFar (take from text.now) so_far.old }
     ensures so_far { result ≡ Ok None → IsReadSoFar text.now so_far.new }
-    ensures answers { Answers text.now result }
+    ensures answers { AnswersReply text.now result }
 {
     let ended = count_newlines(&text[from..]);
     if ended < so_far.missing {

@@ -7,7 +7,8 @@ ghost use Rattle.ug_client.specs.Watching.{KeepsShown, WatchesOn};
 use crate::asked::Asked;
 use crate::lines::show_notices;
 use std::alloc::Global;
-use ug_types::{Link, Sink, Taken};
+use ug_links::Link;
+use ug_types::{Sink, Taken};
 
 /// Prints the notices that stand whole, and keeps what stands behind them; or tells how that ended.
 fn show_kept<K: Sink>(

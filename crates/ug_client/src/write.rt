@@ -3,7 +3,7 @@ ghost use Rattle.std.specs.Prelude.{◌≡◌, ◌≤◌, ◌++◌, IfOk, OnOk};
 ghost use Rattle.ug_types.specs.Ends.{Rose};
 ghost use Rattle.ug_proto.specs.Replies.{ended_lines};
 ghost use Rattle.ug_client.specs.Answers.{printed};
-ghost use Rattle.ug_client.specs.Asking.{Writes, end_of};
+ghost use Rattle.ug_client.specs.Asking.{Writes, end_by_reply};
 
 use crate::asked::Asked;
 use std::alloc::Global;
@@ -37,7 +37,7 @@ fn print_answer(alloc: Global, reply: &Reply) -> Result<Vec<u8>, NoMemory>
 }
 
 fn end_of(reply: &Reply) -> Asked
-    ensures { result ≡ end_of reply.now }
+    ensures { result ≡ end_by_reply reply.now }
 {
     match reply {
         Reply::Lines(_) => Asked::Done,

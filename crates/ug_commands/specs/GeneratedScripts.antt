@@ -19,14 +19,14 @@ port_in number = 1 + number / 2 ^ 24 % 8
 abbrev pub happening_in : ℕ → ℕ
 happening_in number = number / 2 ^ 16 % 4
 
-abbrev pub call_in : ℕ → ℕ
-call_in number = 1 + number / 2 ^ 8 % 16
+abbrev pub planned_call : ℕ → ℕ
+planned_call number = 1 + number / 2 ^ 8 % 16
 
 -- The lines.
 
 -- setup with an allowed and a blocked device, and a root hub
-unfoldable pub opening : List ℕ
-opening =
+unfoldable pub opening_lines : List ℕ
+opening_lines =
     codes
     "usbguard-replay 1\nseed 0000000000000000000000000000000000000000000000000000000000000000\nrule allow id 1050:0011\nrule block id *:*\nplug usb1 1 12010002090001406b1d020006060302010109021900010100e0000904000001090000000705810304000c - - -\n"
 
@@ -56,17 +56,17 @@ happening_line happening port call =
     else if nat_eq happening 2 then blocked_line port else fail_line call
 
 abbrev pub line_before : ℕ → List ℕ
-line_before number = happening_line (happening_in number) (port_in number) (call_in number)
+line_before number = happening_line (happening_in number) (port_in number) (planned_call number)
 
 abbrev pub event_text : ℕ → ℕ → List ℕ
 event_text start event = line_before (number_at start event) ++ sweep_line event
 
 -- so many events behind that one
-abbrev pub events_text : ℕ → ℕ → ℕ → List ℕ
-events_text start event zero = []
-events_text start event (suc more) =
-    event_text start (suc event) ++ events_text start (suc event) more
+abbrev pub generated_events : ℕ → ℕ → ℕ → List ℕ
+generated_events start event zero = []
+generated_events start event (suc more) =
+    event_text start (suc event) ++ generated_events start (suc event) more
 
 -- the whole script
 abbrev pub generated_script : ℕ → ℕ → List ℕ
-generated_script events start = opening ++ events_text start 0 events
+generated_script events start = opening_lines ++ generated_events start 0 events

@@ -15,12 +15,12 @@ use Rattle.ug_lint.specs.Findings.{findings, found_place}
 use Rattle.ug_lint.specs.NeverDecides.{HasWords, NeverDecides, PrunedAlike}
 use Rattle.ug_policy.specs.Rules.{rules_in}
 use Rattle.ug_lint.specs.Remaining.{remaining, remaining_entries}
-use Rattle.ug_console.specs.WholeInputs as whole
-use Rattle.ug_console.specs.WholeInputs.{input_limit}
-use Rattle.ug_console.specs.Fold.{no_memory}
-use Rattle.ug_console.specs.declared.results.Ended.{Ended}
-use Rattle.ug_console.specs.declared.results.Ended.TheVariants as ended
-use Rattle.ug_commands.specs.Checking.{status_of}
+use Rattle.ug_command_io.specs.WholeInputs as whole
+use Rattle.ug_command_io.specs.WholeInputs.{input_limit}
+use Rattle.ug_command_io.specs.Fold.{no_memory}
+use Rattle.ug_command_io.specs.declared.results.Ended.{Ended}
+use Rattle.ug_command_io.specs.declared.results.Ended.TheVariants as ended
+use Rattle.ug_commands.specs.Checking.{check_status}
 use Rattle.ug_commands.specs.CheckingLines.{bad_rules_line}
 use Rattle.ug_commands.specs.LintingLines.{findings_text, too_many_rules}
 use Rattle.ug_commands.specs.declared.few_rules.LintFault.{LintFault}
@@ -56,8 +56,8 @@ pub record IsPruned (bytes text : List ℕ) : Type 0 where
       × PrunedAlike dev ctx records entries stream
 
 -- a line of the text is bad, and the first such line is told
-abbrev pub IsBad : List ℕ → List ℕ → Type 0
-IsBad bytes text =
+abbrev pub TellsFirstBadRule : List ℕ → List ℕ → Type 0
+TellsFirstBadRule bytes text =
     (fault : TextFault) × (file_read bytes ≡ Err fault) × (text ≡ bad_rules_line fault)
 
 -- each line is good, and there are too many rules
@@ -66,46 +66,48 @@ AreTooMany bytes text =
     (rules : List Rule) × (file_read bytes ≡ Ok rules) × (rules_most < length rules)
     × (text ≡ too_many_rules)
 
-abbrev pub IsRefused : List ℕ → List ℕ → Type 0
-IsRefused bytes text = IsBad bytes text ⊎ AreTooMany bytes text
+abbrev pub TellsLintFault : List ℕ → List ℕ → Type 0
+TellsLintFault bytes text = TellsFirstBadRule bytes text ⊎ AreTooMany bytes text
 
 -- the whole output of a text whose rules are good: the findings, or the rules that remain
 abbrev pub IsOutput : Bool → List ℕ → List ℕ → Type 0
 IsOutput false bytes text = IsLinted bytes text
 IsOutput true bytes text = IsPruned bytes text
 
-abbrev pub Tells : Bool → List ℕ → Option (List ℕ) → Option (List ℕ) → Option (List ℕ) → Ended
+abbrev pub TellsLint : Bool → List ℕ → Option (List ℕ) → Option (List ℕ) → Option (List ℕ) → Ended
     → Type 0
-Tells prune bytes left held0 held result =
-    whole.TellsWhole input_limit (IsOutput prune) IsRefused bytes left held0 held result
+TellsLint prune bytes left held0 held result =
+    whole.TellsWhole input_limit (IsOutput prune) TellsLintFault bytes left held0 held result
 
 -- the whole call
-abbrev pub Completes : Bool → Option (List ℕ) → Option (List ℕ) → Option (List ℕ) → Option (List ℕ)
+abbrev pub CompletesLint : Bool → Option (List ℕ) → Option (List ℕ) → Option (List ℕ)
+    → Option (List ℕ)
     → Ended → Type 0
-Completes prune left0 left held0 held result =
-    whole.Completes input_limit (IsOutput prune) IsRefused left0 left held0 held result
+CompletesLint prune left0 left held0 held result =
+    whole.CompletesWhole input_limit (IsOutput prune) TellsLintFault left0 left held0 held result
 
 -- what a status says: all are the bytes of the source and base those of the sink before the call
-abbrev pub Answers : Bool → List ℕ → List ℕ → Option (List ℕ) → Option (List ℕ) → ℕ → Type 0
-Answers prune all base left held status =
-    whole.AnswersWhole status_of input_limit (IsOutput prune) IsRefused all base left held status
+abbrev pub AnswersLint : Bool → List ℕ → List ℕ → Option (List ℕ) → Option (List ℕ) → ℕ → Type 0
+AnswersLint prune all base left held status =
+    whole.AnswersWhole check_status input_limit
+    (IsOutput prune) TellsLintFault all base left held status
 
 -- ---- why there is no output
 
 -- what a fault says of the text
-abbrev pub IsFault : LintFault → List ℕ → Type 0
-IsFault (Bad fault) bytes = file_read bytes ≡ Err fault
-IsFault TooMany bytes =
+abbrev pub IsLintFault : LintFault → List ℕ → Type 0
+IsLintFault (Bad fault) bytes = file_read bytes ≡ Err fault
+IsLintFault TooMany bytes =
     (rules : List Rule) × (file_read bytes ≡ Ok rules) × (rules_most < length rules)
-IsFault Memory bytes = Unit {0}
+IsLintFault Memory bytes = Unit {0}
 
 -- the line that is written for the output, or for a fault, and how the call ends then
-abbrev pub fault_words : LintFault → List ℕ
-fault_words (Bad fault) = bad_rules_line fault
-fault_words TooMany = too_many_rules
-fault_words Memory = no_memory
+abbrev pub lint_fault_line : LintFault → List ℕ
+lint_fault_line (Bad fault) = bad_rules_line fault
+lint_fault_line TooMany = too_many_rules
+lint_fault_line Memory = no_memory
 
-abbrev pub fault_end : LintFault → Ended
-fault_end (Bad fault) = ended.Bad
-fault_end TooMany = ended.Bad
-fault_end Memory = ended.Memory
+abbrev pub lint_end : LintFault → Ended
+lint_end (Bad fault) = ended.Bad
+lint_end TooMany = ended.Bad
+lint_end Memory = ended.Memory

@@ -1,7 +1,7 @@
 -- The lines about descriptors.
 use Rattle.std.specs.Prelude.{ℕ, List, [], ◌∷◌, ◌++◌, codes, decimal}
 use Rattle.std.specs.List.{flat_map}
-use Rattle.ug_hex.specs.Digits.{hex_two, hex_four}
+use Rattle.ug_numerals.specs.Digits.{hex_two, hex_four}
 use Rattle.ug_types.specs.declared.record.Triple.{Triple}
 use Rattle.ug_descr.specs.declared.descriptors.Descr.{Descr}
 use Rattle.ug_descr.specs.declared.descriptors.Config.{Config}
@@ -13,8 +13,8 @@ line_with text [] = text ++ 10 ∷ []
 line_with text (word ∷ words) = line_with (text ++ 32 ∷ word) words
 
 -- vendor and product, four hexadecimal digits each
-abbrev pub id_text : ℕ → ℕ → List ℕ
-id_text vendor product =
+abbrev pub vendor_product_text : ℕ → ℕ → List ℕ
+vendor_product_text vendor product =
     hex_four vendor ++ 58 ∷ hex_four product
 
 -- class, subclass and protocol, two hexadecimal digits each
@@ -25,7 +25,7 @@ triple_text triple =
 unfoldable pub device_line : Descr → List ℕ
 device_line descr =
     line_with (codes "device")
-    (id_text descr.vendor descr.product ∷ codes "class" ∷ triple_text descr.class
+    (vendor_product_text descr.vendor descr.product ∷ codes "class" ∷ triple_text descr.class
     ∷ codes "configurations" ∷ decimal descr.configurations ∷ [])
 
 unfoldable pub configuration_line : Config → List ℕ

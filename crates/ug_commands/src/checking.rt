@@ -2,13 +2,13 @@
 ghost use Rattle.std.specs.Prelude.{◌≡◌, ◌≢◌, ◌≤◌, ℕ, List, Option, Some, length};
 ghost use Rattle.std.specs.Io.KnownBytes.{IsAtEnd};
 ghost use Rattle.ug_types.specs.Ends.{Rose};
-ghost use Rattle.ug_console.specs.WholeInputs.{input_limit};
-ghost use Rattle.ug_console.specs.declared.results.Ended.{Ended};
-ghost use Rattle.ug_commands.specs.Checking.{Answers, Completes, Tells, status_of};
+ghost use Rattle.ug_command_io.specs.WholeInputs.{input_limit};
+ghost use Rattle.ug_command_io.specs.declared.results.Ended.{Ended};
+ghost use Rattle.ug_commands.specs.Checking.{AnswersCheck, CompletesCheck, TellsCheck, check_status};
 
 use crate::checking_lines::{line_of_bad_rules, line_of_count};
 use std::alloc::Global;
-use ug_console::{Ended, INPUT_LIMIT, read_input, refuse_input, write_result};
+use ug_command_io::{Ended, INPUT_LIMIT, read_input, refuse_input, write_result};
 use ug_rule::count_rules;
 use ug_types::{FileFault, Sink, Source};
 
@@ -16,7 +16,7 @@ use ug_types::{FileFault, Sink, Source};
 fn write_count<K: Sink>(alloc: Global, bytes: &[u8], out: &mut K) -> Ended
     requires { length bytes.now ≤ input_limit }
     ensures told { (left : Option (List ℕ)) → IsAtEnd left
-        → Tells bytes.now left (K.held out.old) (K.held out.new) result }
+        → TellsCheck bytes.now left (K.held out.old) (K.held out.new) result }
     ensures not_read { result ≢ Ended.ReadFault }
     ensures cause { result ≡ Ended.WriteFault → Rose (K.faults out.old) (K.faults out.new) }
 {
@@ -32,7 +32,7 @@ fn write_count<K: Sink>(alloc: Global, bytes: &[u8], out: &mut K) -> Ended
 }
 
 fn check_input<S: Source, K: Sink>(alloc: Global, input: &mut S, out: &mut K) -> Ended
-    ensures told { Completes (S.left input.old) (S.left input.new) (K.held out.old)
+    ensures told { CompletesCheck (S.left input.old) (S.left input.new) (K.held out.old)
         (K.held out.new) result }
     ensures read { result ≡ Ended.ReadFault → Rose (S.faults input.old) (S.faults input.new) }
     ensures written { result ≡ Ended.WriteFault → Rose (K.faults out.old) (K.faults out.new) }
@@ -44,7 +44,7 @@ fn check_input<S: Source, K: Sink>(alloc: Global, input: &mut S, out: &mut K) ->
 }
 
 pub fn status(ended: Ended) -> u8
-    ensures { result ≡ status_of ended }
+    ensures { result ≡ check_status ended }
 {
     match ended {
         Ended::Done => 0,
@@ -63,10 +63,10 @@ pub fn status(ended: Ended) -> u8
 pub fn check_rules<S: Source, K: Sink>(alloc: Global, input: &mut S, out: &mut K) -> u8
     ensures answers { (all : List ℕ) (base : List ℕ) → S.left input.old ≡ Some all
         → K.held out.old ≡ Some base
-        → Answers all base (S.left input.new) (K.held out.new) result }
+        → AnswersCheck all base (S.left input.new) (K.held out.new) result }
     ensures read { result ≡ 4 → Rose (S.faults input.old) (S.faults input.new) }
     ensures written { result ≡ 5 → Rose (K.faults out.old) (K.faults out.new) }
-    ensures others { (ended : Ended) × (result ≡ status_of ended) }
+    ensures others { (ended : Ended) × (result ≡ check_status ended) }
 {
     status(check_input(alloc, input, out))
 }

@@ -3,7 +3,7 @@ ghost use Rattle.std.specs.Prelude.{◌≡◌, All, IfErr, IfOk, List, Ok};
 ghost use Rattle.ug_rule.specs.Files.{file_read};
 ghost use Rattle.ug_rule.specs.Grammar.{WellFormed};
 ghost use Rattle.ug_types.specs.declared.rule.Rule as types;
-ghost use Rattle.ug_commands.specs.Linting.{AreFew, IsFault};
+ghost use Rattle.ug_commands.specs.Linting.{AreFew, IsLintFault};
 
 use std::alloc::Global;
 use ug_rule::{count_rules, parse_file};
@@ -36,7 +36,7 @@ impl From<NoMemory> for LintFault {
 
 fn few(alloc: Global, bytes: &[u8]) -> Result<(), LintFault>
     ensures few { IfOk result (λ _. (rules : List types.Rule) × AreFew bytes.now rules) }
-    ensures fault { IfErr result (λ fault. IsFault fault bytes.now) }
+    ensures fault { IfErr result (λ fault. IsLintFault fault bytes.now) }
 {
     match count_rules(alloc, bytes) {
         Ok(count) => {
@@ -52,7 +52,7 @@ fn few(alloc: Global, bytes: &[u8]) -> Result<(), LintFault>
 
 fn rules_of(alloc: Global, bytes: &[u8]) -> Result<Vec<Rule>, LintFault>
     ensures read { IfOk result (λ rules. file_read bytes.now ≡ Ok rules.items) }
-    ensures fault { IfErr result (λ fault. IsFault fault bytes.now) }
+    ensures fault { IfErr result (λ fault. IsLintFault fault bytes.now) }
 {
     match parse_file(alloc, bytes) {
         Ok(rules) => Ok(rules),
@@ -65,7 +65,7 @@ fn rules_of(alloc: Global, bytes: &[u8]) -> Result<Vec<Rule>, LintFault>
 pub fn read_few(alloc: Global, bytes: &[u8]) -> Result<Vec<Rule>, LintFault>
     ensures few { IfOk result (λ rules. AreFew bytes.now rules.items) }
     ensures well_formed { IfOk result (λ rules. All WellFormed rules.items) }
-    ensures fault { IfErr result (λ fault. IsFault fault bytes.now) }
+    ensures fault { IfErr result (λ fault. IsLintFault fault bytes.now) }
 {
     few(alloc, bytes)?;
     rules_of(alloc, bytes)

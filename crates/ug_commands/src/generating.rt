@@ -1,7 +1,7 @@
 // The call that writes a script of random events.
 ghost use Rattle.std.specs.Prelude.{◌≡◌, ◌≤◌, ◌<◌, ◌^◌, ◌++◌, length};
 ghost use Rattle.ug_types.specs.Ends.{Puts, Rose};
-ghost use Rattle.ug_commands.specs.GeneratedScripts.{generated_script, line_before, number_behind, opening, sweep_line};
+ghost use Rattle.ug_commands.specs.GeneratedScripts.{generated_script, line_before, number_behind, opening_lines, sweep_line};
 
 use crate::generating_lines::{line_before, push_sweep};
 use ug_types::{Put, Sink};
@@ -27,9 +27,9 @@ fn put_event<K: Sink>(out: &mut K, number: u64, event: u64) -> Put
     out.put(line.bytes())
 }
 
-#[tactic(auto, unfolding(crate::specs::GeneratedScripts::opening))]
+#[tactic(auto, unfolding(crate::specs::GeneratedScripts::opening_lines))]
 fn put_opening<K: Sink>(out: &mut K) -> Put
-    ensures put { Puts (K.held out.old) (K.held out.new) opening result }
+    ensures put { Puts (K.held out.old) (K.held out.new) opening_lines result }
     ensures counted { K.faults out.old ≤ K.faults out.new }
     ensures cause { result ≡ Put.Failed → Rose (K.faults out.old) (K.faults out.new) }
 {

@@ -2,11 +2,11 @@
 ghost use Rattle.std.specs.Prelude.{◌≡◌, ◌≢◌, ◌≤◌, ℕ, IfErr, IfOk, List, Option, Some, length};
 ghost use Rattle.std.specs.Io.KnownBytes.{IsAtEnd};
 ghost use Rattle.ug_types.specs.Ends.{Rose};
-ghost use Rattle.ug_console.specs.Runs.{Says};
-ghost use Rattle.ug_console.specs.WholeInputs.{input_limit};
-ghost use Rattle.ug_console.specs.declared.results.Ended.{Ended};
-ghost use Rattle.ug_commands.specs.Checking.{status_of};
-ghost use Rattle.ug_commands.specs.Linting.{Answers, Completes, IsFault, IsLinted, IsOutput, IsPruned, Tells, fault_end, fault_words};
+ghost use Rattle.ug_command_io.specs.Runs.{SaysFault};
+ghost use Rattle.ug_command_io.specs.WholeInputs.{input_limit};
+ghost use Rattle.ug_command_io.specs.declared.results.Ended.{Ended};
+ghost use Rattle.ug_commands.specs.Checking.{check_status};
+ghost use Rattle.ug_commands.specs.Linting.{AnswersLint, CompletesLint, IsLintFault, IsLinted, IsOutput, IsPruned, TellsLint, lint_end, lint_fault_line};
 
 use crate::checking::status;
 use crate::checking_lines::line_of_bad_rules;
@@ -14,13 +14,13 @@ use crate::few_rules::{LintFault, read_few};
 use crate::linting_lines::text_of_findings;
 use crate::rule_lines::text_of_rules;
 use std::alloc::Global;
-use ug_console::{Ended, INPUT_LIMIT, read_input, refuse_input, write_result};
+use ug_command_io::{Ended, INPUT_LIMIT, read_input, refuse_input, write_result};
 use ug_lint::{lint, prune};
 use ug_types::{Sink, Source, Text};
 
 fn findings_of(alloc: Global, bytes: &[u8]) -> Result<Text, LintFault>
     ensures linted { IfOk result (λ text. IsLinted bytes.now text) }
-    ensures fault { IfErr result (λ fault. IsFault fault bytes.now) }
+    ensures fault { IfErr result (λ fault. IsLintFault fault bytes.now) }
 {
     let rules = read_few(alloc, bytes)?;
     let found = lint(alloc, rules.as_slice())?;
@@ -29,7 +29,7 @@ fn findings_of(alloc: Global, bytes: &[u8]) -> Result<Text, LintFault>
 
 fn pruned_of(alloc: Global, bytes: &[u8]) -> Result<Text, LintFault>
     ensures pruned { IfOk result (λ text. IsPruned bytes.now text) }
-    ensures fault { IfErr result (λ fault. IsFault fault bytes.now) }
+    ensures fault { IfErr result (λ fault. IsLintFault fault bytes.now) }
 {
     let rules = read_few(alloc, bytes)?;
     let left = prune(alloc, rules)?;
@@ -38,7 +38,7 @@ fn pruned_of(alloc: Global, bytes: &[u8]) -> Result<Text, LintFault>
 
 fn output_of(alloc: Global, pruned: bool, bytes: &[u8]) -> Result<Text, LintFault>
     ensures output { IfOk result (λ text. IsOutput pruned bytes.now text) }
-    ensures fault { IfErr result (λ fault. IsFault fault bytes.now) }
+    ensures fault { IfErr result (λ fault. IsLintFault fault bytes.now) }
 {
     if pruned {
         pruned_of(alloc, bytes)
@@ -48,10 +48,10 @@ fn output_of(alloc: Global, pruned: bool, bytes: &[u8]) -> Result<Text, LintFaul
 }
 
 /// Writes why there is no output.
-#[tactic(auto, unfolding(crate::specs::LintingLines::too_many_rules, ug_console::specs::Fold::no_memory))]
+#[tactic(auto, unfolding(crate::specs::LintingLines::too_many_rules, ug_command_io::specs::Fold::no_memory))]
 fn refuse_rules<K: Sink>(out: &mut K, fault: LintFault) -> Ended
-    ensures told { Says (K.held out.old) (K.held out.new) (fault_words fault)
-        (fault_end fault) result }
+    ensures told { SaysFault (K.held out.old) (K.held out.new) (lint_fault_line fault)
+        (lint_end fault) result }
     ensures cause { result ≡ Ended.WriteFault → Rose (K.faults out.old) (K.faults out.new) }
 {
     match fault {
@@ -65,7 +65,7 @@ fn refuse_rules<K: Sink>(out: &mut K, fault: LintFault) -> Ended
 fn write_output<K: Sink>(alloc: Global, pruned: bool, bytes: &[u8], out: &mut K) -> Ended
     requires { length bytes.now ≤ input_limit }
     ensures told { (left : Option (List ℕ)) → IsAtEnd left
-        → Tells pruned bytes.now left (K.held out.old) (K.held out.new) result }
+        → TellsLint pruned bytes.now left (K.held out.old) (K.held out.new) result }
     ensures not_read { result ≢ Ended.ReadFault }
     ensures cause { result ≡ Ended.WriteFault → Rose (K.faults out.old) (K.faults out.new) }
 {
@@ -76,7 +76,7 @@ fn write_output<K: Sink>(alloc: Global, pruned: bool, bytes: &[u8], out: &mut K)
 }
 
 fn lint_input<S: Source, K: Sink>(alloc: Global, pruned: bool, input: &mut S, out: &mut K) -> Ended
-    ensures told { Completes pruned (S.left input.old) (S.left input.new) (K.held out.old)
+    ensures told { CompletesLint pruned (S.left input.old) (S.left input.new) (K.held out.old)
         (K.held out.new) result }
     ensures read { result ≡ Ended.ReadFault → Rose (S.faults input.old) (S.faults input.new) }
     ensures written { result ≡ Ended.WriteFault → Rose (K.faults out.old) (K.faults out.new) }
@@ -97,10 +97,10 @@ fn lint_input<S: Source, K: Sink>(alloc: Global, pruned: bool, input: &mut S, ou
 pub fn lint_rules<S: Source, K: Sink>(alloc: Global, pruned: bool, input: &mut S, out: &mut K) -> u8
     ensures answers { (all : List ℕ) (base : List ℕ) → S.left input.old ≡ Some all
         → K.held out.old ≡ Some base
-        → Answers pruned all base (S.left input.new) (K.held out.new) result }
+        → AnswersLint pruned all base (S.left input.new) (K.held out.new) result }
     ensures read { result ≡ 4 → Rose (S.faults input.old) (S.faults input.new) }
     ensures written { result ≡ 5 → Rose (K.faults out.old) (K.faults out.new) }
-    ensures others { (ended : Ended) × (result ≡ status_of ended) }
+    ensures others { (ended : Ended) × (result ≡ check_status ended) }
 {
     status(lint_input(alloc, pruned, input, out))
 }

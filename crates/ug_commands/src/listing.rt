@@ -2,15 +2,15 @@
 ghost use Rattle.std.specs.Prelude.{◌≡◌, ◌≢◌, ◌≤◌, ◌+◌, ℕ, List, Option, Some, length};
 ghost use Rattle.std.specs.Io.KnownBytes.{IsAtEnd};
 ghost use Rattle.ug_types.specs.Ends.{Rose};
-ghost use Rattle.ug_console.specs.Statuses.{status_of};
-ghost use Rattle.ug_console.specs.WholeInputs.{input_limit};
-ghost use Rattle.ug_console.specs.declared.results.Ended.{Ended};
-ghost use Rattle.ug_commands.specs.Listing.{Answers, Completes, Tells};
+ghost use Rattle.ug_command_io.specs.Statuses.{status_of};
+ghost use Rattle.ug_command_io.specs.WholeInputs.{input_limit};
+ghost use Rattle.ug_command_io.specs.declared.results.Ended.{Ended};
+ghost use Rattle.ug_commands.specs.Listing.{AnswersListing, CompletesListing, TellsListing};
 
 use crate::listing_lines::line_of_malformed;
 use crate::writing::write_listing;
 use std::alloc::Global;
-use ug_console::{Ended, INPUT_LIMIT, read_input, refuse_input, status, write_result};
+use ug_command_io::{Ended, INPUT_LIMIT, read_input, refuse_input, status, write_result};
 use ug_descr::{DescrFault, decode};
 use ug_types::{Put, Sink, Source};
 
@@ -18,7 +18,7 @@ use ug_types::{Put, Sink, Source};
 fn write_descriptors<K: Sink>(alloc: Global, bytes: &[u8], out: &mut K) -> Ended
     requires { length bytes.now ≤ input_limit }
     ensures told { (left : Option (List ℕ)) → IsAtEnd left
-        → Tells bytes.now left (K.held out.old) (K.held out.new) result }
+        → TellsListing bytes.now left (K.held out.old) (K.held out.new) result }
     ensures not_read { result ≢ Ended.ReadFault }
     ensures cause { result ≡ Ended.WriteFault → Rose (K.faults out.old) (K.faults out.new) }
 {
@@ -35,7 +35,7 @@ fn write_descriptors<K: Sink>(alloc: Global, bytes: &[u8], out: &mut K) -> Ended
 }
 
 fn list_input<S: Source, K: Sink>(alloc: Global, input: &mut S, out: &mut K) -> Ended
-    ensures told { Completes (S.left input.old) (S.left input.new) (K.held out.old)
+    ensures told { CompletesListing (S.left input.old) (S.left input.new) (K.held out.old)
         (K.held out.new) result }
     ensures read { result ≡ Ended.ReadFault → Rose (S.faults input.old) (S.faults input.new) }
     ensures written { result ≡ Ended.WriteFault → Rose (K.faults out.old) (K.faults out.new) }
@@ -53,7 +53,7 @@ fn list_input<S: Source, K: Sink>(alloc: Global, input: &mut S, out: &mut K) -> 
 pub fn list_descriptors<S: Source, K: Sink>(alloc: Global, input: &mut S, out: &mut K) -> u8
     ensures answers { (all : List ℕ) (base : List ℕ) → S.left input.old ≡ Some all
         → K.held out.old ≡ Some base
-        → Answers all base (S.left input.new) (K.held out.new) result }
+        → AnswersListing all base (S.left input.new) (K.held out.new) result }
     ensures read { result ≡ 4 → Rose (S.faults input.old) (S.faults input.new) }
     ensures written { result ≡ 5 → Rose (K.faults out.old) (K.faults out.new) }
     ensures others { (ended : Ended) × (result ≡ status_of ended) }

@@ -1,15 +1,15 @@
 // The lines about descriptors, each with its newline.
 ghost use Rattle.std.specs.Prelude.{◌≡◌, ◌≤◌, ◌<◌, ◌+◌, ◌++◌, ◌/◌, ◌%◌, [], ◌∷◌, length, decimal};
-ghost use Rattle.ug_commands.specs.ListingLines.{id_text, triple_text, device_line, configuration_line, interface_line, malformed_line};
+ghost use Rattle.ug_commands.specs.ListingLines.{vendor_product_text, triple_text, device_line, configuration_line, interface_line, malformed_line};
 
 use ug_descr::{Config, Descr, IfaceDescr};
-use ug_hex::{four_digits, two_digits};
+use ug_numerals::{four_digits, two_digits};
 use ug_types::{Line, Triple};
 
 /// Appends a space and `vvvv:pppp`.
 fn push_id(line: &mut Line, vendor: u16, product: u16)
     requires { length line.old + 9 < 512 }
-    ensures text { line.new ≡ line.old ++ 32 ∷ id_text vendor product }
+    ensures text { line.new ≡ line.old ++ 32 ∷ vendor_product_text vendor product }
     ensures length { length line.new ≡ length line.old + 10 }
 {
     line.push_word(&four_digits(vendor));

@@ -18,7 +18,7 @@ use Rattle.ug_cond.specs.declared.context.Context.{Context}
 use Rattle.ug_cond.specs.declared.history.History.{History}
 use Rattle.ug_cond.specs.Conditions.{is_in_time, is_recent, was_recent, is_drawn, is_so, condition_holds, by_operator, conditions_hold}
 use Rattle.ug_cond.specs.Judgements.{Judgement, WasApplied, WasEvaluated, IsGreatest, IsHistory}
-use Rattle.ug_cond.specs.Truth.{IsInTime, IsRecent, IsSo, unless, ConditionHolds, PassBy, ConditionsHold}
+use Rattle.ug_cond.specs.Truth.{IsInTime, IsRecent, IsSo, unless_negated, ConditionHolds, PassBy, ConditionsHold}
 use Rattle.ug_cond.specs.Words.{with_words}
 
 time_decides : (begin end second : ℕ) → Decides (is_in_time begin end second) (IsInTime begin end second)
@@ -55,7 +55,7 @@ so_decides judgements id history ctx records word (kind.Random billionths) h = d
 so_decides judgements id history ctx records word kind.True h = (λ t. tt, λ t. refl)
 so_decides judgements id history ctx records word kind.False h = (λ t. let none : ⊥ = cc in absurd none, λ t. absurd t)
 
-unless_decides : (b negated : Bool) (P : Type 0) → Decides b P → Decides (cond negated (not b) b) (unless negated P)
+unless_decides : (b negated : Bool) (P : Type 0) → Decides b P → Decides (cond negated (not b) b) (unless_negated negated P)
 unless_decides b true P d = Decides-not b d
 unless_decides b false P d = d
 

@@ -21,8 +21,8 @@ is_in_time begin end second =
     if nat_le begin end then nat_le begin second && nat_le second end
     else nat_le begin second || nat_le second end
 
-abbrev pub matches_some : Query → List DeviceRecord → Bool
-matches_some query records = list_any (λ r. query_matches query r) records
+abbrev pub matches_some_record : Query → List DeviceRecord → Bool
+matches_some_record query records = list_any (λ r. query_matches query r) records
 
 -- a moment is that many seconds ago, or fewer; where no number is given, each moment will do
 abbrev pub is_recent : Option ℕ → Moment → Moment → Bool
@@ -41,7 +41,7 @@ is_drawn billionths word = nat_lt (word * 1000000000) (billionths * 2 ^ 64)
 -- a condition without its negation; the word is for a random one
 abbrev pub is_so : History → Context → List DeviceRecord → ℕ → CondKind → Bool
 is_so history ctx records word (kind.LocalTime begin end) = is_in_time begin end ctx.second
-is_so history ctx records word (kind.AllowedMatches query) = matches_some query records
+is_so history ctx records word (kind.AllowedMatches query) = matches_some_record query records
 is_so history ctx records word (kind.RuleApplied past) = was_recent past ctx.moment history.applied
 is_so history ctx records word (kind.RuleEvaluated past) =
     was_recent past ctx.moment history.evaluated

@@ -39,13 +39,13 @@ IsSo judgements id ctx records word (kind.Random billionths) =
 IsSo judgements id ctx records word kind.True = Unit {0}
 IsSo judgements id ctx records word kind.False = ⊥
 
-abbrev pub unless : Bool → Type 0 → Type 0
-unless true P = ¬ P
-unless false P = P
+abbrev pub unless_negated : Bool → Type 0 → Type 0
+unless_negated true P = ¬ P
+unless_negated false P = P
 
 abbrev pub ConditionHolds : List Judgement → ℕ → Context → List DeviceRecord → Cond × ℕ → Type 0
 ConditionHolds judgements id ctx records c =
-    unless c.0.negated (IsSo judgements id ctx records c.1 c.0.kind)
+    unless_negated c.0.negated (IsSo judgements id ctx records c.1 c.0.kind)
 
 -- all must pass, or one, or none
 abbrev pub PassBy : {X : Type 0} → Op → (X → Type 0) → List X → Type 0

@@ -1,7 +1,7 @@
 // Which devices are allowed.
 ghost use Rattle.std.specs.Prelude.{◌≡◌, List};
 ghost use Rattle.ug_types.specs.declared.record.DeviceRecord.{DeviceRecord};
-ghost use Rattle.ug_cond.specs.Conditions.{matches_some};
+ghost use Rattle.ug_cond.specs.Conditions.{matches_some_record};
 
 use ug_types::Query;
 
@@ -12,5 +12,5 @@ pub trait Allowed {
 
     /// Whether the query matches one of them.
     fn any_allowed(&self, query: &Query) -> bool
-        ensures { result ≡ matches_some query.now (records self.now) };
+        ensures { result ≡ matches_some_record query.now (records self.now) };
 }

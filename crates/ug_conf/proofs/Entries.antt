@@ -2,11 +2,11 @@
 use Rattle.std.proofs.Common.{◌≡◌, ℕ, ◌+◌, inl, inr, List, [], ◌∷◌, ◌++◌, fold, Ok, refl, sym, ap, subst, ◌∙◌}
 use Rattle.ug_types.specs.Elements.{Has}
 use Rattle.ug_conf.specs.declared.keys.Key.{Key}
-use Rattle.ug_conf.specs.Draft.{Draft, draft_of, line_read, with_setting}
+use Rattle.ug_conf.specs.Draft.{Draft, draft_of, setting_line_read, with_setting}
 use Rattle.ug_conf.specs.Grammar.{IsSetting, IsBadSetting, IsSettingsLine, Skipped, SetsKey, Bad}
 use Rattle.ug_conf.specs.Meaning.{Entry, GivesEntry}
-use Rattle.ug_equations.specs.Entries.{AreEntries}
-use Rattle.ug_equations.proofs.EntriesRead as lines
+use Rattle.ug_lines.specs.Entries.{AreEntries}
+use Rattle.ug_lines.proofs.EntriesRead as lines
 use Rattle.ug_conf.proofs.Gathering.{applied, AreFit}
 use Rattle.ug_conf.proofs.LineCases.{skipped_read, setting_read, bad_read, line_case}
 
@@ -14,7 +14,7 @@ use Rattle.ug_conf.proofs.LineCases.{skipped_read, setting_read, bad_read, line_
 abbrev pub with_entry : Draft → Entry → Draft
 with_entry draft e = draft_of (with_setting e.number e.set draft.settings) (draft.seen ++ e.key ∷ [])
 
-entry_read : (number : ℕ) (draft : Draft) (line : List ℕ) (e : Entry) → GivesEntry number line e → ¬ Has draft.seen e.key → line_read number draft line ≡ Ok (with_entry draft e)
+entry_read : (number : ℕ) (draft : Draft) (line : List ℕ) (e : Entry) → GivesEntry number line e → ¬ Has draft.seen e.key → setting_line_read number draft line ≡ Ok (with_entry draft e)
 entry_read number draft line e g n =
     setting_read number draft line e.key e.set g.1 n
     ∙ ap (λ (at : ℕ). Ok (draft_of (with_setting at e.set draft.settings) (draft.seen ++ e.key ∷ []))) (sym g.0)
@@ -27,7 +27,7 @@ cases number seen line = by (line_case seen line)
     by (SetsKey key set s n) = lines.HasEntry (record { number = number; key = key; set = set }) (refl, s) n
     by (Bad kind place h) = lines.Bad kind place h
 
-pub reads : lines.Reads GivesEntry (λ e. e.key) IsBadSetting (λ (d : Draft). d.seen) with_entry line_read
+pub reads : lines.Reads GivesEntry (λ e. e.key) IsBadSetting (λ (d : Draft). d.seen) with_entry setting_line_read
 reads = record { skipped = skipped_read; entry = entry_read; bad = bad_read; keys = λ draft e. refl; cases = cases }
 
 -- what entries set, one after the other

@@ -10,7 +10,7 @@ use Rattle.ug_conf.specs.declared.settings.Settings.{Settings}
 use Rattle.ug_conf.specs.declared.values.Setting.{Setting}
 use Rattle.ug_conf.specs.declared.values.Setting.TheVariants as setting
 use Rattle.ug_conf.specs.Draft.{is_unused, with_setting}
-use Rattle.ug_conf.specs.Grammar.{IsValue}
+use Rattle.ug_conf.specs.Grammar.{IsSettingValue}
 use Rattle.ug_conf.specs.Meaning.{Entry, keys_of, is_noted, Sets, IsGiven, AreSettingsOf}
 use Rattle.ug_types.specs.Principals.{Named}
 use Rattle.ug_conf.specs.Settings.{defaults}
@@ -23,7 +23,7 @@ applied (e ∷ entries) s = applied entries (with_setting e.number e.set s)
 -- each key can have its value
 abbrev pub AreFit : List Entry → Type 0
 AreFit [] = Unit {0}
-AreFit (e ∷ entries) = ((value : List ℕ) × IsValue e.key value e.set) × AreFit entries
+AreFit (e ∷ entries) = ((value : List ℕ) × IsSettingValue e.key value e.set) × AreFit entries
 
 -- the key of what is set
 abbrev set_key : Setting → Option Key
@@ -46,7 +46,7 @@ its_key k it set what e w h = same_Some k it (sym w ∙ ap set_key (sym e) ∙ h
 no_key : (k it : Key) (set : Setting) → set ≡ setting.Unused → set_key set ≡ Some it → k ≡ it
 no_key k it set e h = absurd (none-some it (sym (ap set_key e) ∙ h))
 
-fit_key : (k : Key) (value : List ℕ) (set : Setting) (it : Key) → IsValue k value set → set_key set ≡ Some it → k ≡ it
+fit_key : (k : Key) (value : List ℕ) (set : Setting) (it : Key) → IsSettingValue k value set → set_key set ≡ Some it → k ≡ it
 fit_key key.RuleFile value set it h e = its_key key.RuleFile it set (setting.RuleFile value) h.1 refl e
 fit_key key.RuleFolder value set it h e = its_key key.RuleFolder it set (setting.RuleFolder value) h refl e
 fit_key key.ImplicitPolicyTarget value set it h e = its_key key.ImplicitPolicyTarget it set (setting.Implicit h.0) h.2 refl e
@@ -64,7 +64,7 @@ fit_key key.AuditBackend value set it h e = no_key key.AuditBackend it set h e
 fit_key key.AuditFilePath value set it h e = no_key key.AuditFilePath it set h e
 fit_key key.HidePii value set it h e = no_key key.HidePii it set h e
 
-entry_key : (e : Entry) (what : Setting) (it : Key) → ((value : List ℕ) × IsValue e.key value e.set) → e.set ≡ what → set_key what ≡ Some it → e.key ≡ it
+entry_key : (e : Entry) (what : Setting) (it : Key) → ((value : List ℕ) × IsSettingValue e.key value e.set) → e.set ≡ what → set_key what ≡ Some it → e.key ≡ it
 entry_key e what it f s k = fit_key e.key f.0 e.set it f.1 (ap set_key s ∙ k)
 
 -- where something is set, so is its key

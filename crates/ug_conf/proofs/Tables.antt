@@ -11,7 +11,7 @@ use Rattle.ug_conf.specs.declared.settings.Present.{Present}
 use Rattle.ug_conf.specs.declared.settings.Present.TheVariants as present
 use Rattle.ug_conf.specs.Keys.{key_of, unused_key_of}
 use Rattle.ug_conf.specs.Values.{present_of, default_of, flag_of}
-use Rattle.ug_conf.specs.Grammar.{word_of, present_word, default_word, flag_word}
+use Rattle.ug_conf.specs.Grammar.{word_of_key, present_word, default_word, flag_word}
 
 -- one row of a table
 named : {X : Type 0} (spell : X → List ℕ) (word text : List ℕ) (here it : X) (rest : Option X) → text ≡ spell here → (rest ≡ Some it → word ≡ spell it) → cond (pointwise nat_eq word text) (Some here) rest ≡ Some it → word ≡ spell it
@@ -21,15 +21,15 @@ named {X} spell word text here it rest t f h = by (pointwise nat_eq word text) r
     by true e k = same_text word text (sym e) ∙ t ∙ ap spell (same_Some here it k)
     by false e k = f k
 
-unused_key_written : (word : List ℕ) (it : Key) → unused_key_of word ≡ Some it → word ≡ word_of it
+unused_key_written : (word : List ℕ) (it : Key) → unused_key_of word ≡ Some it → word ≡ word_of_key it
 unfolding unused_key_of
-unused_key_written word it h = named word_of word (codes "RestoreControllerDeviceState") key.RestoreControllerDeviceState it _ refl (λ h. named word_of word (codes "DeviceManagerBackend") key.DeviceManagerBackend it _ refl (λ h. named word_of word (codes "AuditBackend") key.AuditBackend it _ refl (λ h. named word_of word (codes "AuditFilePath") key.AuditFilePath it _ refl (λ h. named word_of word (codes "HidePII") key.HidePii it _ refl (λ h. absurd (none-some it h)) h) h) h) h) h
+unused_key_written word it h = named word_of_key word (codes "RestoreControllerDeviceState") key.RestoreControllerDeviceState it _ refl (λ h. named word_of_key word (codes "DeviceManagerBackend") key.DeviceManagerBackend it _ refl (λ h. named word_of_key word (codes "AuditBackend") key.AuditBackend it _ refl (λ h. named word_of_key word (codes "AuditFilePath") key.AuditFilePath it _ refl (λ h. named word_of_key word (codes "HidePII") key.HidePii it _ refl (λ h. absurd (none-some it h)) h) h) h) h) h
 
-pub key_written : (word : List ℕ) (it : Key) → key_of word ≡ Some it → word ≡ word_of it
+pub key_written : (word : List ℕ) (it : Key) → key_of word ≡ Some it → word ≡ word_of_key it
 unfolding key_of
-key_written word it h = named word_of word (codes "RuleFile") key.RuleFile it _ refl (λ h. named word_of word (codes "RuleFolder") key.RuleFolder it _ refl (λ h. named word_of word (codes "ImplicitPolicyTarget") key.ImplicitPolicyTarget it _ refl (λ h. named word_of word (codes "PresentDevicePolicy") key.PresentDevicePolicy it _ refl (λ h. named word_of word (codes "PresentControllerPolicy") key.PresentControllerPolicy it _ refl (λ h. named word_of word (codes "InsertedDevicePolicy") key.InsertedDevicePolicy it _ refl (λ h. named word_of word (codes "AuthorizedDefault") key.AuthorizedDefault it _ refl (λ h. named word_of word (codes "IPCAllowedUsers") key.IpcAllowedUsers it _ refl (λ h. named word_of word (codes "IPCAllowedGroups") key.IpcAllowedGroups it _ refl (λ h. named word_of word (codes "IPCAccessControlFiles") key.IpcAccessControlFiles it _ refl (λ h. named word_of word (codes "DeviceRulesWithPort") key.DeviceRulesWithPort it _ refl (λ h. unused_key_written word it h) h) h) h) h) h) h) h) h) h) h) h
+key_written word it h = named word_of_key word (codes "RuleFile") key.RuleFile it _ refl (λ h. named word_of_key word (codes "RuleFolder") key.RuleFolder it _ refl (λ h. named word_of_key word (codes "ImplicitPolicyTarget") key.ImplicitPolicyTarget it _ refl (λ h. named word_of_key word (codes "PresentDevicePolicy") key.PresentDevicePolicy it _ refl (λ h. named word_of_key word (codes "PresentControllerPolicy") key.PresentControllerPolicy it _ refl (λ h. named word_of_key word (codes "InsertedDevicePolicy") key.InsertedDevicePolicy it _ refl (λ h. named word_of_key word (codes "AuthorizedDefault") key.AuthorizedDefault it _ refl (λ h. named word_of_key word (codes "IPCAllowedUsers") key.IpcAllowedUsers it _ refl (λ h. named word_of_key word (codes "IPCAllowedGroups") key.IpcAllowedGroups it _ refl (λ h. named word_of_key word (codes "IPCAccessControlFiles") key.IpcAccessControlFiles it _ refl (λ h. named word_of_key word (codes "DeviceRulesWithPort") key.DeviceRulesWithPort it _ refl (λ h. unused_key_written word it h) h) h) h) h) h) h) h) h) h) h) h
 
-pub key_read : (it : Key) → key_of (word_of it) ≡ Some it
+pub key_read : (it : Key) → key_of (word_of_key it) ≡ Some it
 unfolding key_of unused_key_of
 key_read key.RuleFile = refl
 key_read key.RuleFolder = refl

@@ -9,7 +9,7 @@ use Rattle.ug_conf.specs.declared.settings.AuthDefault.TheVariants as default
 use Rattle.ug_conf.specs.declared.settings.Settings.{Settings}
 use Rattle.ug_conf.specs.declared.values.Setting.{Setting}
 use Rattle.ug_conf.specs.declared.values.Setting.TheVariants as setting
-use Rattle.ug_equations.specs.Cuts.{EquationCut, Skip, NoSign, Sides, cut_of}
+use Rattle.ug_lines.specs.Cuts.{EquationCut, Skip, NoSign, Sides, cut_of}
 use Rattle.ug_types.specs.TextFaults.{fault_of_kind}
 use Rattle.ug_lines.specs.LineReading.{then_on}
 use Rattle.ug_conf.specs.Faults.{SettingFault, SettingLineFault}
@@ -34,12 +34,17 @@ is_unused default.Internal = true
 -- the settings with what the line of that number says
 abbrev pub with_setting : ℕ → Setting → Settings → Settings
 with_setting number (setting.RuleFile path) s = record s { rule_file = path }
-with_setting number (setting.RuleFolder path) s = record s { rule_folder = path; unused = s.unused ++ number ∷ [] }
+with_setting number (setting.RuleFolder path) s =
+    record s { rule_folder = path; unused = s.unused ++ number ∷ [] }
 with_setting number (setting.Implicit target) s = record s { implicit = target }
 with_setting number (setting.PresentDevice policy) s = record s { present_device = policy }
 with_setting number (setting.PresentController policy) s = record s { present_controller = policy }
 with_setting number (setting.Inserted policy) s = record s { inserted = policy }
-with_setting number (setting.Default default) s = record s { default = default; unused = if is_unused default then s.unused ++ number ∷ [] else s.unused }
+with_setting number (setting.Default default) s =
+    record s {
+      default = default;
+      unused = if is_unused default then s.unused ++ number ∷ [] else s.unused;
+    }
 with_setting number (setting.Users users) s = record s { users = users ++ s.users }
 with_setting number (setting.Groups groups) s = record s { users = s.users ++ groups }
 with_setting number (setting.AccessFolder path) s = record s { access_folder = path }
@@ -67,7 +72,8 @@ value_read place key text = or_bad place (setting_of key text)
 -- a word, and a value at a place
 abbrev pub assigned : ℕ → Draft → List ℕ → List ℕ → ℕ → Result Draft SettingFault
 assigned number draft word text place =
-    then_on (key_read draft.seen word) (λ key. then_on (value_read place key text) (λ setting. Ok (draft_of (with_setting number setting draft.settings) (draft.seen ++ key ∷ []))))
+    then_on (key_read draft.seen word) (λ key. then_on (value_read place key text) (λ setting.
+    Ok (draft_of (with_setting number setting draft.settings) (draft.seen ++ key ∷ []))))
 
 -- what a line's cut sets
 abbrev pub cut_read : ℕ → Draft → EquationCut → Result Draft SettingFault
@@ -76,11 +82,12 @@ cut_read number draft NoSign = Err (fault_of_kind NoEquals 0)
 cut_read number draft (Sides word value place) = assigned number draft word value place
 
 -- what was set before with what the line of that number sets, or what is wrong with the line
-abbrev pub line_read : ℕ → Draft → List ℕ → Result Draft SettingFault
-line_read number draft line = cut_read number draft (cut_of line)
+abbrev pub setting_line_read : ℕ → Draft → List ℕ → Result Draft SettingFault
+setting_line_read number draft line = cut_read number draft (cut_of line)
 
 -- a call's answer, and what it leaves; a refusal changes nothing
-abbrev pub LeavesDraft : Result (Unit {0}) SettingLineFault → Draft → Draft → Result Draft SettingFault → Type 0
+abbrev pub LeavesDraft : Result (Unit {0}) SettingLineFault → Draft → Draft
+    → Result Draft SettingFault → Type 0
 LeavesDraft (Ok done) before after read = read ≡ Ok after
 LeavesDraft (Err (Bad fault)) before after read = (read ≡ Err fault) × (after ≡ before)
 LeavesDraft (Err Memory) before after read = after ≡ before

@@ -6,11 +6,11 @@ use Rattle.ug_conf.specs.declared.fault.FaultKind.{FaultKind}
 use Rattle.ug_conf.specs.declared.fault.FaultKind.TheVariants.{NoEquals, UnknownKey, BadValue, Repeated}
 
 -- the number of a kind of fault
-abbrev pub kind_number : FaultKind → ℕ
-kind_number NoEquals = 1
-kind_number UnknownKey = 2
-kind_number BadValue = 3
-kind_number Repeated = 4
+abbrev pub setting_fault_number : FaultKind → ℕ
+setting_fault_number NoEquals = 1
+setting_fault_number UnknownKey = 2
+setting_fault_number BadValue = 3
+setting_fault_number Repeated = 4
 
 abbrev pub SettingFault : Type 0
 SettingFault = types.Fault FaultKind

@@ -29,7 +29,8 @@ text_at tree path = option_map (λ f. f.text) (find (λ f. pointwise nat_eq f.pa
 
 -- the names in the folder at that path
 abbrev pub names_at : Tree → List ℕ → Option (List (List ℕ))
-names_at tree path = option_map (λ f. f.names) (find (λ f. pointwise nat_eq f.path path) tree.folders)
+names_at tree path =
+    option_map (λ f. f.names) (find (λ f. pointwise nat_eq f.path path) tree.folders)
 
 -- the most bytes that are read from a file
 abbrev pub conf_limit : ℕ
@@ -65,6 +66,6 @@ SaysNames names folder.Failed = Unit {0}
 SaysNames names folder.Memory = Unit {0}
 
 -- an answer is what the files and folders are
-abbrev pub Says : Tree → FileStep → Type 0
-Says tree (Read_at path answer) = SaysText (text_at tree path) answer
-Says tree (Listed_at path answer) = SaysNames (names_at tree path) answer
+abbrev pub SaysFiles : Tree → FileStep → Type 0
+SaysFiles tree (Read_at path answer) = SaysText (text_at tree path) answer
+SaysFiles tree (Listed_at path answer) = SaysNames (names_at tree path) answer

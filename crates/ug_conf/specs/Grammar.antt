@@ -2,9 +2,9 @@
 use Rattle.std.specs.Prelude.{◌≡◌, ◌≢◌, ℕ, ◌+◌, Bool, true, false, IsTrue, List, [], ◌∷◌, ◌++◌, length, map, codes}
 use Rattle.ug_lines.specs.Equations.{IsBlank, AreBlanks, IsTextOf, IsSkipped, IsEquation}
 use Rattle.ug_types.specs.Elements.{Has}
-use Rattle.ug_equations.specs.Entries.{IsSkippedLine}
+use Rattle.ug_lines.specs.Entries.{IsSkippedLine}
 use Rattle.ug_types.specs.declared.verdict.Target.{Target}
-use Rattle.ug_types.specs.Parameters.{inserted_word}
+use Rattle.ug_parameter.specs.Parameters.{inserted_word}
 use Rattle.ug_types.specs.Targets.{target_word}
 use Rattle.ug_conf.specs.declared.fault.FaultKind.{FaultKind}
 use Rattle.ug_conf.specs.declared.fault.FaultKind.TheVariants.{NoEquals, UnknownKey, BadValue, Repeated}
@@ -12,7 +12,7 @@ use Rattle.ug_conf.specs.declared.keys.Key.{Key}
 use Rattle.ug_conf.specs.declared.keys.Key.TheVariants as key
 use Rattle.ug_conf.specs.declared.settings.AuthDefault.{AuthDefault}
 use Rattle.ug_conf.specs.declared.settings.AuthDefault.TheVariants as auth_default
-use Rattle.ug_types.specs.declared.parameter.Inserted.{Inserted}
+use Rattle.ug_parameter.specs.declared.parameter.Inserted.{Inserted}
 use Rattle.ug_conf.specs.declared.settings.Present.{Present}
 use Rattle.ug_conf.specs.declared.settings.Present.TheVariants as present
 use Rattle.ug_conf.specs.declared.values.Setting.{Setting}
@@ -20,23 +20,23 @@ use Rattle.ug_conf.specs.declared.values.Setting.TheVariants as setting
 use Rattle.ug_types.specs.Principals.{Named, is_name}
 
 -- how keys are written
-abbrev pub word_of : Key → List ℕ
-word_of key.RuleFile = codes "RuleFile"
-word_of key.RuleFolder = codes "RuleFolder"
-word_of key.ImplicitPolicyTarget = codes "ImplicitPolicyTarget"
-word_of key.PresentDevicePolicy = codes "PresentDevicePolicy"
-word_of key.PresentControllerPolicy = codes "PresentControllerPolicy"
-word_of key.InsertedDevicePolicy = codes "InsertedDevicePolicy"
-word_of key.AuthorizedDefault = codes "AuthorizedDefault"
-word_of key.IpcAllowedUsers = codes "IPCAllowedUsers"
-word_of key.IpcAllowedGroups = codes "IPCAllowedGroups"
-word_of key.IpcAccessControlFiles = codes "IPCAccessControlFiles"
-word_of key.DeviceRulesWithPort = codes "DeviceRulesWithPort"
-word_of key.RestoreControllerDeviceState = codes "RestoreControllerDeviceState"
-word_of key.DeviceManagerBackend = codes "DeviceManagerBackend"
-word_of key.AuditBackend = codes "AuditBackend"
-word_of key.AuditFilePath = codes "AuditFilePath"
-word_of key.HidePii = codes "HidePII"
+abbrev pub word_of_key : Key → List ℕ
+word_of_key key.RuleFile = codes "RuleFile"
+word_of_key key.RuleFolder = codes "RuleFolder"
+word_of_key key.ImplicitPolicyTarget = codes "ImplicitPolicyTarget"
+word_of_key key.PresentDevicePolicy = codes "PresentDevicePolicy"
+word_of_key key.PresentControllerPolicy = codes "PresentControllerPolicy"
+word_of_key key.InsertedDevicePolicy = codes "InsertedDevicePolicy"
+word_of_key key.AuthorizedDefault = codes "AuthorizedDefault"
+word_of_key key.IpcAllowedUsers = codes "IPCAllowedUsers"
+word_of_key key.IpcAllowedGroups = codes "IPCAllowedGroups"
+word_of_key key.IpcAccessControlFiles = codes "IPCAccessControlFiles"
+word_of_key key.DeviceRulesWithPort = codes "DeviceRulesWithPort"
+word_of_key key.RestoreControllerDeviceState = codes "RestoreControllerDeviceState"
+word_of_key key.DeviceManagerBackend = codes "DeviceManagerBackend"
+word_of_key key.AuditBackend = codes "AuditBackend"
+word_of_key key.AuditFilePath = codes "AuditFilePath"
+word_of_key key.HidePii = codes "HidePII"
 
 -- how values are written
 abbrev pub present_word : Present → List ℕ
@@ -71,34 +71,46 @@ BeginsBlank (b ∷ bytes) = IsBlank b
 -- words with blanks between, and about them
 abbrev pub AreSpaced : List (List ℕ) → List ℕ → Type 0
 AreSpaced [] text = AreBlanks text
-AreSpaced (word ∷ words) text = (before : List ℕ) × (rest : List ℕ) × (text ≡ before ++ (word ++ rest)) × AreBlanks before × IsWord word × BeginsBlank rest × AreSpaced words rest
+AreSpaced (word ∷ words) text =
+    (before : List ℕ) × (rest : List ℕ) × (text ≡ before ++ (word ++ rest)) × AreBlanks before
+    × IsWord word × BeginsBlank rest × AreSpaced words rest
 
 -- users or groups, by names of 1 to 32 letters, digits, `_`, `-` and `.`
 abbrev pub AreAll : Bool → List Named → Type 0
 AreAll group [] = Unit {0}
-AreAll group (named ∷ names) = (named.group ≡ group) × IsTrue (is_name named.name) × AreAll group names
+AreAll group (named ∷ names) =
+    (named.group ≡ group) × IsTrue (is_name named.name) × AreAll group names
 
 abbrev pub AreNames : Bool → List Named → List ℕ → Type 0
 AreNames group names text = AreSpaced (map (λ named. named.name) names) text × AreAll group names
 
 -- the table of keys, with the values that each can have
-abbrev pub IsValue : Key → List ℕ → Setting → Type 0
-IsValue key.RuleFile value set = (value ≢ []) × (set ≡ setting.RuleFile value)
-IsValue key.RuleFolder value set = set ≡ setting.RuleFolder value
-IsValue key.ImplicitPolicyTarget value set = (t : Target) × (value ≡ target_word t) × (set ≡ setting.Implicit t)
-IsValue key.PresentDevicePolicy value set = (p : Present) × (value ≡ present_word p) × (set ≡ setting.PresentDevice p)
-IsValue key.PresentControllerPolicy value set = (p : Present) × (value ≡ present_word p) × (set ≡ setting.PresentController p)
-IsValue key.InsertedDevicePolicy value set = (i : Inserted) × (value ≡ inserted_word i) × (set ≡ setting.Inserted i)
-IsValue key.AuthorizedDefault value set = (d : AuthDefault) × (value ≡ default_word d) × (set ≡ setting.Default d)
-IsValue key.IpcAllowedUsers value set = (names : List Named) × AreNames false names value × (set ≡ setting.Users names)
-IsValue key.IpcAllowedGroups value set = (names : List Named) × AreNames true names value × (set ≡ setting.Groups names)
-IsValue key.IpcAccessControlFiles value set = (value ≢ []) × (set ≡ setting.AccessFolder value)
-IsValue key.DeviceRulesWithPort value set = (b : Bool) × (value ≡ flag_word b) × (set ≡ setting.WithPort b)
-IsValue key.RestoreControllerDeviceState value set = set ≡ setting.Unused
-IsValue key.DeviceManagerBackend value set = set ≡ setting.Unused
-IsValue key.AuditBackend value set = set ≡ setting.Unused
-IsValue key.AuditFilePath value set = set ≡ setting.Unused
-IsValue key.HidePii value set = set ≡ setting.Unused
+abbrev pub IsSettingValue : Key → List ℕ → Setting → Type 0
+IsSettingValue key.RuleFile value set = (value ≢ []) × (set ≡ setting.RuleFile value)
+IsSettingValue key.RuleFolder value set = set ≡ setting.RuleFolder value
+IsSettingValue key.ImplicitPolicyTarget value set =
+    (t : Target) × (value ≡ target_word t) × (set ≡ setting.Implicit t)
+IsSettingValue key.PresentDevicePolicy value set =
+    (p : Present) × (value ≡ present_word p) × (set ≡ setting.PresentDevice p)
+IsSettingValue key.PresentControllerPolicy value set =
+    (p : Present) × (value ≡ present_word p) × (set ≡ setting.PresentController p)
+IsSettingValue key.InsertedDevicePolicy value set =
+    (i : Inserted) × (value ≡ inserted_word i) × (set ≡ setting.Inserted i)
+IsSettingValue key.AuthorizedDefault value set =
+    (d : AuthDefault) × (value ≡ default_word d) × (set ≡ setting.Default d)
+IsSettingValue key.IpcAllowedUsers value set =
+    (names : List Named) × AreNames false names value × (set ≡ setting.Users names)
+IsSettingValue key.IpcAllowedGroups value set =
+    (names : List Named) × AreNames true names value × (set ≡ setting.Groups names)
+IsSettingValue key.IpcAccessControlFiles value set =
+    (value ≢ []) × (set ≡ setting.AccessFolder value)
+IsSettingValue key.DeviceRulesWithPort value set =
+    (b : Bool) × (value ≡ flag_word b) × (set ≡ setting.WithPort b)
+IsSettingValue key.RestoreControllerDeviceState value set = set ≡ setting.Unused
+IsSettingValue key.DeviceManagerBackend value set = set ≡ setting.Unused
+IsSettingValue key.AuditBackend value set = set ≡ setting.Unused
+IsSettingValue key.AuditFilePath value set = set ≡ setting.Unused
+IsSettingValue key.HidePii value set = set ≡ setting.Unused
 
 -- a line that sets a key
 pub record IsSetting (line : List ℕ) (key : Key) (set : Setting) : Type 0 where
@@ -106,21 +118,31 @@ pub record IsSetting (line : List ℕ) (key : Key) (set : Setting) : Type 0 wher
   pub value : List ℕ
   pub text_of : IsTextOf line text
   pub shown : ¬ IsSkipped text
-  pub equation : IsEquation text (word_of key) value
-  pub has_value : IsValue key value set
+  pub equation : IsEquation text (word_of_key key) value
+  pub has_value : IsSettingValue key value set
 
 -- what is wrong with a text behind lines that set some keys, and where
 abbrev pub IsBad : List Key → List ℕ → FaultKind → ℕ → Type 0
 IsBad seen text NoEquals place = (place ≡ 0) × (¬ Has text 61)
-IsBad seen text UnknownKey place = (place ≡ 0) × (word : List ℕ) × (value : List ℕ) × IsEquation text word value × ((key : Key) → ¬ (word ≡ word_of key))
-IsBad seen text Repeated place = (place ≡ 0) × (key : Key) × (value : List ℕ) × IsEquation text (word_of key) value × Has seen key
-IsBad seen text BadValue place = (key : Key) × (value : List ℕ) × IsEquation text (word_of key) value × (¬ Has seen key) × ((set : Setting) → ¬ IsValue key value set) × (length text ≡ place + length value)
+IsBad seen text UnknownKey place =
+    (place ≡ 0) × (word : List ℕ) × (value : List ℕ) × IsEquation text word value
+    × ((key : Key) → ¬ (word ≡ word_of_key key))
+IsBad seen text Repeated place =
+    (place ≡ 0) × (key : Key) × (value : List ℕ) × IsEquation text (word_of_key key) value
+    × Has seen key
+IsBad seen text BadValue place =
+    (key : Key) × (value : List ℕ) × IsEquation text (word_of_key key) value × (¬ Has seen key)
+    × ((set : Setting) → ¬ IsSettingValue key value set) × (length text ≡ place + length value)
 
 abbrev pub IsBadSetting : List Key → List ℕ → FaultKind → ℕ → Type 0
-IsBadSetting seen line kind place = (text : List ℕ) × IsTextOf line text × (¬ IsSkipped text) × IsBad seen text kind place
+IsBadSetting seen line kind place =
+    (text : List ℕ) × IsTextOf line text × (¬ IsSkipped text) × IsBad seen text kind place
 
--- what a line is behind lines that set some keys: skipped, a key that is set for the first time, or bad
+-- what a line is behind lines that set some keys: skipped, a key that is
+-- set for the first time, or bad
 pub data IsSettingsLine (seen : List Key) (line : List ℕ) : Type 0 where
   Skipped : IsSkippedLine line → IsSettingsLine seen line
-  SetsKey : (key : Key) (set : Setting) → IsSetting line key set → ¬ Has seen key → IsSettingsLine seen line
-  Bad : (kind : FaultKind) (place : ℕ) → IsBadSetting seen line kind place → IsSettingsLine seen line
+  SetsKey : (key : Key) (set : Setting) → IsSetting line key set → ¬ Has seen key
+      → IsSettingsLine seen line
+  Bad : (kind : FaultKind) (place : ℕ) → IsBadSetting seen line kind place
+      → IsSettingsLine seen line

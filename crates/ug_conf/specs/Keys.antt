@@ -7,7 +7,8 @@ use Rattle.ug_conf.specs.declared.keys.Key.TheVariants.{RuleFile, RuleFolder, Im
 -- keys that set nothing
 unfoldable pub unused_key_of : List ℕ → Option Key
 unused_key_of word =
-    if pointwise nat_eq word (codes "RestoreControllerDeviceState") then Some RestoreControllerDeviceState else
+    if pointwise nat_eq word (codes "RestoreControllerDeviceState")
+    then Some RestoreControllerDeviceState else
     if pointwise nat_eq word (codes "DeviceManagerBackend") then Some DeviceManagerBackend else
     if pointwise nat_eq word (codes "AuditBackend") then Some AuditBackend else
     if pointwise nat_eq word (codes "AuditFilePath") then Some AuditFilePath else
@@ -20,13 +21,15 @@ key_of word =
     if pointwise nat_eq word (codes "RuleFolder") then Some RuleFolder else
     if pointwise nat_eq word (codes "ImplicitPolicyTarget") then Some ImplicitPolicyTarget else
     if pointwise nat_eq word (codes "PresentDevicePolicy") then Some PresentDevicePolicy else
-    if pointwise nat_eq word (codes "PresentControllerPolicy") then Some PresentControllerPolicy else
+    if pointwise nat_eq word (codes "PresentControllerPolicy")
+    then Some PresentControllerPolicy else
     if pointwise nat_eq word (codes "InsertedDevicePolicy") then Some InsertedDevicePolicy else
     if pointwise nat_eq word (codes "AuthorizedDefault") then Some AuthorizedDefault else
     if pointwise nat_eq word (codes "IPCAllowedUsers") then Some IpcAllowedUsers else
     if pointwise nat_eq word (codes "IPCAllowedGroups") then Some IpcAllowedGroups else
     if pointwise nat_eq word (codes "IPCAccessControlFiles") then Some IpcAccessControlFiles else
-    if pointwise nat_eq word (codes "DeviceRulesWithPort") then Some DeviceRulesWithPort else unused_key_of word
+    if pointwise nat_eq word (codes "DeviceRulesWithPort") then Some DeviceRulesWithPort else
+    unused_key_of word
 
 -- the place of a key in the table of usbguard-daemon.conf(5)
 abbrev pub key_number : Key → ℕ

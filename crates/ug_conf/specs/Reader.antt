@@ -2,7 +2,7 @@
 use Rattle.std.specs.Prelude.{◌≡◌, ℕ, ◌+◌, ◌-◌, ◌^◌, min, List, Result, Ok, Err}
 use Rattle.ug_types.specs.declared.text_fault.LineFault.TheVariants.{Bad, Memory}
 use Rattle.ug_conf.specs.Faults.{SettingLineFault}
-use Rattle.ug_conf.specs.Draft.{Draft, line_read}
+use Rattle.ug_conf.specs.Draft.{Draft, setting_line_read}
 
 pub record Progress : Type 0 where
   pub draft : Draft
@@ -14,7 +14,11 @@ abbrev pub next_number : ℕ → ℕ
 next_number lines = min (lines + 1) (2 ^ 64 - 1)
 
 -- a line that is taken is counted, and a refusal changes nothing
-abbrev pub TakesLine : Result (Unit {0}) SettingLineFault → Progress → Progress → List ℕ → Type 0
-TakesLine (Ok done) before after line = (line_read (next_number before.lines) before.draft line ≡ Ok after.draft) × (after.lines ≡ next_number before.lines)
-TakesLine (Err (Bad fault)) before after line = (line_read (next_number before.lines) before.draft line ≡ Err fault) × (after ≡ before)
-TakesLine (Err Memory) before after line = after ≡ before
+abbrev pub TakesSettingLine : Result (Unit {0}) SettingLineFault → Progress → Progress → List ℕ
+    → Type 0
+TakesSettingLine (Ok done) before after line =
+    (setting_line_read (next_number before.lines) before.draft line ≡ Ok after.draft)
+    × (after.lines ≡ next_number before.lines)
+TakesSettingLine (Err (Bad fault)) before after line =
+    (setting_line_read (next_number before.lines) before.draft line ≡ Err fault) × (after ≡ before)
+TakesSettingLine (Err Memory) before after line = after ≡ before

@@ -3,13 +3,14 @@ use Rattle.std.specs.Prelude.{ℕ, List, [], Result, Ok, Err}
 use Rattle.ug_types.specs.declared.text_fault.TextFault.{TextFault}
 use Rattle.ug_lines.specs.LineReading.{on_line, text_read}
 use Rattle.ug_conf.specs.declared.settings.Settings.{Settings}
-use Rattle.ug_conf.specs.Draft.{Draft, draft_of, line_read}
-use Rattle.ug_conf.specs.Faults.{kind_number}
+use Rattle.ug_conf.specs.Draft.{Draft, draft_of, setting_line_read}
+use Rattle.ug_conf.specs.Faults.{setting_fault_number}
 use Rattle.ug_conf.specs.Settings.{defaults}
 
 -- what was set before with what the line of that number sets
 abbrev pub setting_line : ℕ → Draft → List ℕ → Result Draft TextFault
-setting_line number draft line = on_line kind_number number (line_read number draft line)
+setting_line number draft line =
+    on_line setting_fault_number number (setting_line_read number draft line)
 
 abbrev pub settled : Result Draft TextFault → Result Settings TextFault
 settled (Ok draft) = Ok draft.settings

@@ -2,7 +2,7 @@
 use Rattle.std.specs.Prelude.{ℕ, Bool, true, false, nat_eq, if◌then◌else◌, List, [], ◌∷◌, codes, Option, Some, None}
 use Rattle.std.specs.Cmp.Lexicographic.{pointwise}
 use Rattle.std.specs.Option.{option_map}
-use Rattle.ug_types.specs.Parameters.{inserted_of}
+use Rattle.ug_parameter.specs.Parameters.{inserted_of}
 use Rattle.ug_types.specs.Targets.{target_of}
 use Rattle.ug_conf.specs.declared.keys.Key.{Key}
 use Rattle.ug_conf.specs.declared.keys.Key.TheVariants as key
@@ -12,7 +12,7 @@ use Rattle.ug_conf.specs.declared.settings.Present.{Present}
 use Rattle.ug_conf.specs.declared.settings.Present.TheVariants as present
 use Rattle.ug_conf.specs.declared.values.Setting.{Setting}
 use Rattle.ug_conf.specs.declared.values.Setting.TheVariants as setting
-use Rattle.ug_conf.specs.Names.{words_of, all_named}
+use Rattle.ug_conf.specs.Names.{words_between, all_named}
 
 unfoldable pub present_of : List ℕ → Option Present
 present_of word =
@@ -45,11 +45,14 @@ setting_of key.RuleFile value = option_map setting.RuleFile (path_of value)
 setting_of key.RuleFolder value = Some (setting.RuleFolder value)
 setting_of key.ImplicitPolicyTarget value = option_map setting.Implicit (target_of value)
 setting_of key.PresentDevicePolicy value = option_map setting.PresentDevice (present_of value)
-setting_of key.PresentControllerPolicy value = option_map setting.PresentController (present_of value)
+setting_of key.PresentControllerPolicy value =
+    option_map setting.PresentController (present_of value)
 setting_of key.InsertedDevicePolicy value = option_map setting.Inserted (inserted_of value)
 setting_of key.AuthorizedDefault value = option_map setting.Default (default_of value)
-setting_of key.IpcAllowedUsers value = option_map setting.Users (all_named false (words_of value))
-setting_of key.IpcAllowedGroups value = option_map setting.Groups (all_named true (words_of value))
+setting_of key.IpcAllowedUsers value =
+    option_map setting.Users (all_named false (words_between value))
+setting_of key.IpcAllowedGroups value =
+    option_map setting.Groups (all_named true (words_between value))
 setting_of key.IpcAccessControlFiles value = option_map setting.AccessFolder (path_of value)
 setting_of key.DeviceRulesWithPort value = option_map setting.WithPort (flag_of value)
 setting_of key.RestoreControllerDeviceState value = Some setting.Unused

@@ -1,14 +1,14 @@
 // What the lines so far set.
 ghost use Rattle.std.specs.Prelude.{◌≡◌, ◌++◌, IfOk, OnOk, OnErr};
 ghost use Rattle.ug_types.specs.TextFaults.{IsLineRead};
-ghost use Rattle.ug_conf.specs.Draft.{draft_of, is_unused, with_setting, key_read, value_read, assigned, line_read, LeavesDraft};
+ghost use Rattle.ug_conf.specs.Draft.{draft_of, is_unused, with_setting, key_read, value_read, assigned, setting_line_read, LeavesDraft};
 
 use crate::fault::FaultKind;
 use crate::keys::{Key, known_key};
 use crate::settings::{AuthDefault, Settings};
 use crate::values::{Setting, make_setting};
 use std::alloc::Global;
-use ug_equations::{LineCut, cut_line};
+use ug_lines::{LineCut, cut_line};
 use ug_types::{LineFault, List, NoMemory, Principal};
 
 // Both, one behind the other.
@@ -109,7 +109,9 @@ fn add_assignment(
     text: &[u8],
     place: u64,
 ) -> Result<(), LineFault<FaultKind>>
-    ensures { LeavesDraft result (draft_of settings.old seen.old.items) (draft_of settings.new seen.new.items) (assigned number (draft_of settings.old seen.old.items) word.now text.now place) }
+    ensures { LeavesDraft result
+        (draft_of settings.old seen.old.items) (draft_of settings.new seen.new.items)
+        (assigned number (draft_of settings.old seen.old.items) word.now text.now place) }
 {
     let key = new_key(seen.as_slice(), word)?;
     let setting = value(alloc, key, text, place)?;
@@ -130,7 +132,8 @@ pub fn add_line(
     number: u64,
     line: &[u8],
 ) -> Result<(), LineFault<FaultKind>>
-    ensures { LeavesDraft result (draft_of settings.old seen.old.items) (draft_of settings.new seen.new.items) (line_read number (draft_of settings.old seen.old.items) line.now) }
+    ensures { LeavesDraft result (draft_of settings.old seen.old.items) (draft_of settings.new
+        seen.new.items) (setting_line_read number (draft_of settings.old seen.old.items) line.now) }
 {
     match cut_line(line) {
         LineCut::Skipped => Ok(()),

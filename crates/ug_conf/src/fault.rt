@@ -17,9 +17,9 @@ pub enum FaultKind {
 }
 
 impl Numbered for FaultKind {
-    ghost use Rattle.ug_conf.specs.Faults.{kind_number};
+    ghost use Rattle.ug_conf.specs.Faults.{setting_fault_number};
 
-    ghost number_of = { kind_number };
+    ghost number_of = { setting_fault_number };
 
     /// 1 for `NoEquals`, 2 for `UnknownKey`, 3 for `BadValue`, 4 for `Repeated`.
     fn number(self) -> u8 {

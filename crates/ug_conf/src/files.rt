@@ -1,7 +1,7 @@
 // The files of settings.
 ghost use Rattle.std.specs.Prelude.{◌≡◌, ℕ, Option, Some};
 ghost use Rattle.ug_types.specs.Ends.{IsCounted, Rose};
-ghost use Rattle.ug_conf.specs.Files.{FileStep, Read_at, Listed_at, Tree, FitsFolder, FitsText, Says};
+ghost use Rattle.ug_conf.specs.Files.{FileStep, Read_at, Listed_at, Tree, FitsFolder, FitsText, SaysFiles};
 
 use std::alloc::Global;
 use ug_types::{List, Text};
@@ -57,5 +57,5 @@ pub trait ConfFiles {
 
     /// Where the files are told after a call, the same were told before it, and its answer is what they say.
     ghost tells: { (s : Self) (step : FileStep) (t : Self) (tree : Tree)
-        → gives s step t → told t ≡ Some tree → (told s ≡ Some tree) × Says tree step };
+        → gives s step t → told t ≡ Some tree → (told s ≡ Some tree) × SaysFiles tree step };
 }

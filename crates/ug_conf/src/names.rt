@@ -1,6 +1,6 @@
 // Names with blanks between.
 ghost use Rattle.std.specs.Prelude.{◌≡◌, ◌≤◌, IfOk, length};
-ghost use Rattle.ug_conf.specs.Names.{words_of, all_named, first_blank};
+ghost use Rattle.ug_conf.specs.Names.{words_between, all_named, first_blank};
 
 use std::alloc::Global;
 use ug_lines::{is_blank, without_front};
@@ -21,7 +21,7 @@ fn word_length(text: &[u8]) -> usize
 
 /// The users or the groups of the names, in their order; None where one of them is no name.
 pub fn named(alloc: Global, group: bool, text: &[u8]) -> Result<Option<List<Principal>>, NoMemory>
-    ensures { IfOk result (λ names. names ≡ all_named group (words_of text.now)) }
+    ensures { IfOk result (λ names. names ≡ all_named group (words_between text.now)) }
 {
     let mut names = List::new(alloc);
     let mut rest = without_front(text);

@@ -2,7 +2,7 @@
 ghost use Rattle.std.specs.Prelude.{◌≡◌, [], IfOk};
 ghost use Rattle.ug_conf.specs.Draft.{draft_of};
 ghost use Rattle.ug_conf.specs.Settings.{defaults};
-ghost use Rattle.ug_conf.specs.Reader.{TakesLine};
+ghost use Rattle.ug_conf.specs.Reader.{TakesSettingLine};
 
 use crate::defaults::default_settings;
 use crate::draft::add_line;
@@ -34,7 +34,10 @@ impl Model for SettingsReader {
 impl SettingsReader {
     /// No line yet: the settings are those of `default_settings`.
     pub fn new(alloc: Global) -> Result<SettingsReader, NoMemory>
-        ensures { IfOk result (λ reader. reader ≡ record { draft = draft_of defaults []; lines = 0 }) }
+        ensures { IfOk result (λ reader. reader ≡ record {
+          draft = draft_of defaults [];
+          lines = 0;
+        }) }
     {
         Ok(SettingsReader {
             alloc,
@@ -47,7 +50,7 @@ impl SettingsReader {
     /// Takes a line without its newline, as `parse_conf` does. No key may be set twice in the lines so far. A refusal changes
     /// nothing.
     pub fn line(&mut self, line: &[u8]) -> Result<(), LineFault<FaultKind>>
-        ensures { TakesLine result self.old self.new line.now }
+        ensures { TakesSettingLine result self.old self.new line.now }
     {
         let number = self.lines.saturating_add(1);
         match add_line(self.alloc, &mut self.settings, &mut self.seen, number, line) {

@@ -6,7 +6,8 @@ use crate::keys::Key;
 use crate::names::named;
 use crate::settings::{AuthDefault, Present};
 use std::alloc::Global;
-use ug_types::{Inserted, List, NoMemory, Principal, Target, Text};
+use ug_parameter::Inserted;
+use ug_types::{List, NoMemory, Principal, Target, Text};
 
 /// A key with its value.
 #[derive(Drop)]

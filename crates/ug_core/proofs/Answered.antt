@@ -3,21 +3,21 @@ use Rattle.std.proofs.Common.{◌≡◌, ℕ, Bool, true, false, cond, not, ◌&
 use Rattle.std.specs.Prelude.{IsSome}
 use Rattle.ug_types.specs.Elements.{Has}
 use Rattle.ug_types.specs.Principals.{Named}
-use Rattle.ug_types.specs.declared.refusal.Refusal.{Refusal}
-use Rattle.ug_types.specs.declared.refusal.Refusal.TheVariants as refusal
+use Rattle.ug_refusal.specs.declared.refusal.Refusal.{Refusal}
+use Rattle.ug_refusal.specs.declared.refusal.Refusal.TheVariants as refusal
 use Rattle.ug_types.specs.declared.saved.Saved.{Saved}
 use Rattle.ug_types.specs.declared.saved.Saved.TheVariants as saved
 use Rattle.ug_types.specs.declared.verdict.Moment.{Moment}
 use Rattle.ug_types.specs.declared.verdict.Target.{Target}
 use Rattle.ug_types.specs.declared.verdict.Target.TheVariants as target
 use Rattle.ug_types.specs.Names.{parent_of}
-use Rattle.ug_types.specs.declared.control.Write.{Write}
+use Rattle.ug_kernel.specs.declared.control.Write.{Write}
 use Rattle.ug_kernel.specs.declared.calls.FailedCall.{FailedCall}
 use Rattle.ug_kernel.specs.declared.calls.Probe.{Probe}
 use Rattle.ug_kernel.specs.declared.calls.Probe.TheVariants as probe
-use Rattle.ug_kernel.specs.Along.{Made, answered, Along, failure, failure_of, failures, AreNumbered}
+use Rattle.ug_kernel.specs.Along.{Made, made_with, Along, failure, failure_of, failures, AreNumbered}
 use Rattle.ug_kernel.specs.Called.{Follows, says_probe}
-use Rattle.ug_kernel.specs.Calls.{Call, Answer, Ask_alive, Told, failed_probe}
+use Rattle.ug_kernel.specs.Calls.{Call, Answer, Ask_alive, ToldAnswer, is_probe_failed}
 use Rattle.ug_kernel.specs.Kernel.{Kernel, IsKernel}
 use Rattle.ug_kernel.specs.Quiet.{Quiet}
 use Rattle.ug_kernel.specs.Tree.{Runs, calls}
@@ -32,7 +32,7 @@ use Rattle.ug_proto.specs.declared.reply.Reply.{Reply}
 use Rattle.ug_proto.specs.declared.reply.Reply.TheVariants as reply
 use Rattle.ug_proto.specs.declared.request.Request.{Request}
 use Rattle.ug_proto.specs.declared.request.Request.TheVariants as request
-use Rattle.ug_rules.specs.declared.edit.Edit.TheVariants.{Insert, Remove, Retarget}
+use Rattle.ug_ruleset.specs.declared.edit.Edit.TheVariants.{Insert, Remove, Retarget}
 use Rattle.ug_store.specs.DiskCalls.{DiskCall, DiskTold}
 use Rattle.ug_table.specs.Bring.{default_write, is_reject, is_to_go}
 use Rattle.ug_table.specs.Laws.{Stand, swept_before}
@@ -52,10 +52,10 @@ use Rattle.ug_table.proofs.Ordered.{EndsOrder, numbered_now, order_marks, order_
 use Rattle.ug_table.proofs.Standings.{numbered_has}
 use Rattle.ug_table.proofs.Steps.{in_order as kept_order}
 use Rattle.ug_core.specs.Answering.{acting, answer_of, asking, deed_after, keeping, reply_to, replying}
-use Rattle.ug_core.specs.Changes.{change_entry, lines_of}
+use Rattle.ug_core.specs.Changes.{change_entry, change_lines_of}
 use Rattle.ug_core.specs.Event.{DaemonState, ready}
 use Rattle.ug_core.specs.Values.{LogsValues}
-use Rattle.ug_core.specs.Laws.{Answers, AnswersAtOnce, AnswersEvent, CarriesOut, GoesAsAnswer, GoesOn, LeavesVerdict, No_record, No_room, Outcome, ProbeRefuses, RefusesBehind, RefusesOrder, RunsAnswer, StoreRefuses, Unstored, Without_memory, if_watching, is_on_device}
+use Rattle.ug_core.specs.Laws.{AnswersInEvent, AnswersAtOnce, AnswersEvent, CarriesOut, GoesAsAnswer, GoesOn, LeavesVerdict, No_record, No_room, Outcome, ProbeRefuses, RefusesBehind, RefusesOrder, RunsAnswer, StoreRefuses, Unstored, Without_memory, if_watching, is_on_device}
 use Rattle.ug_core.specs.Policy.{Judging, policy_answer, policy_later}
 use Rattle.ug_core.specs.Storing.{noted_store, refused_by, stored_with, with_changes}
 use Rattle.ug_core.specs.declared.changes.Change.{Change}
@@ -190,7 +190,7 @@ module _ {S : Type 0} (gives : S → (call : Call) → Answer call → S → Typ
   abbrev Made_so : Type 0
   Made_so = Answered gives calls faults (Order moment who line) s d became t a
 
-  refused_made : (r : Refusal) (made : List Made) → Along gives s made t → (made ≡ []) ⊎ ((x : Standing) × (f : Told Probe) × Has d.sweep.standings x × (made ≡ answered (Ask_alive x.held.0) f ∷ [])) → failures made ≡ told_in_reply (Err r) → a ≡ replying (reply.Refused r) (noted_store became d) → Made_so
+  refused_made : (r : Refusal) (made : List Made) → Along gives s made t → (made ≡ []) ⊎ ((x : Standing) × (f : ToldAnswer Probe) × Has d.sweep.standings x × (made ≡ made_with (Ask_alive x.held.0) f ∷ [])) → failures made ≡ told_in_reply (Err r) → a ≡ replying (reply.Refused r) (noted_store became d) → Made_so
   refused_made r made along calls told is =
       let before = store_silent became d silent in
       record {
@@ -202,12 +202,12 @@ module _ {S : Type 0} (gives : S → (call : Call) → Answer call → S → Typ
       }
 
   -- the first call of an event has number 1
-  first_number : (held : ℕ) (found : Told Probe) (u : S) → gives s (Ask_alive held) found u → found.number ≡ 1
-  first_number held found u probed = (subst (λ (n : ℕ). AreNumbered n (answered (Ask_alive held) found ∷ [])) none (along_numbered gives calls faults counting (answered (Ask_alive held) found ∷ []) s u (u, probed, refl))).0
+  first_number : (held : ℕ) (found : ToldAnswer Probe) (u : S) → gives s (Ask_alive held) found u → found.number ≡ 1
+  first_number held found u probed = (subst (λ (n : ℕ). AreNumbered n (made_with (Ask_alive held) found ∷ [])) none (along_numbered gives calls faults counting (made_with (Ask_alive held) found ∷ []) s u (u, probed, refl))).0
 
   -- a probe that answered that makes this of the failures
-  probe_failures : (found : Told Probe) (held : ℕ) (q : Probe) → found.answer ≡ q → failures (answered (Ask_alive held) found ∷ []) ≡ (cond (failed_probe q) (failure_of found ∷ []) []) ++ []
-  probe_failures found held q is = ap (λ (p : Probe). (cond (failed_probe p) (failure_of found ∷ []) []) ++ []) is
+  probe_failures : (found : ToldAnswer Probe) (held : ℕ) (q : Probe) → found.answer ≡ q → failures (made_with (Ask_alive held) found ∷ []) ≡ (cond (is_probe_failed q) (failure_of found ∷ []) []) ++ []
+  probe_failures found held q is = ap (λ (p : Probe). (cond (is_probe_failed p) (failure_of found ∷ []) []) ++ []) is
 
   set_made : SetsVerdict gives who line d change became s t a → Made_so
   set_made y =
@@ -220,12 +220,12 @@ module _ {S : Type 0} (gives : S → (call : Call) → Answer call → S → Typ
       let z = with_verdict y.verdict who x.standing in
       let rest = rest_quiet x.standing.name g.rest g.bears g.why in
       let b : DaemonState = keeping y.p.1 now in
-      let m : Made = answered (Ask_alive x.standing.held.0) x.found in
-      let lines = lines_of change d.sweep.judge.next in
+      let m : Made = made_with (Ask_alive x.standing.held.0) x.found in
+      let lines = change_lines_of change d.sweep.judge.next in
       let quiet = changes_silent change (noted_store became d) (store_silent became d silent) in
       let before : failures_told y.p.1.entries ≡ [] = ap (λ (es : List Entry). failures_told es) g.entries ∙ told_more now.sweep.entries (verdict_entry z ∷ g.rest) ∙ ap (λ (fs : List FailedCall). fs ++ failures_told g.rest) quiet.0 ∙ rest.0 in
       let names : unsettled_names y.p.1.entries ≡ [] = ap (λ (es : List Entry). unsettled_names es) g.entries ∙ names_more now.sweep.entries (verdict_entry z ∷ g.rest) ∙ ap (λ (ns : List (List ℕ)). ns ++ unsettled_names g.rest) quiet.1 ∙ rest.1 in
-      let alive : failure (Ask_alive x.standing.held.0) x.found ≡ [] = ap (λ (q : Probe). cond (failed_probe q) (failure_of x.found ∷ []) []) y.alive in
+      let alive : failure (Ask_alive x.standing.held.0) x.found ≡ [] = ap (λ (q : Probe). cond (is_probe_failed q) (failure_of x.found ∷ []) []) y.alive in
       record {
         made = m ∷ g.made;
         along = (y.behind, x.probed, g.along);
@@ -250,15 +250,15 @@ module _ {S : Type 0} (gives : S → (call : Call) → Answer call → S → Typ
   goes_made : (asked : Request) → GoesFrom gives who line d s t asked → (r : Refusal) → told_in_reply (Err r) ≡ [] → a ≡ replying (reply.Refused r) (noted_store became d) → Made_so
   goes_made _ (No_call asked reads granted unsaved same) r quiet is = refused_made r [] same (inl refl) (sym quiet) is
   goes_made _ (By_probe number verdict permanent on x alive) r quiet is =
-      refused_made r (answered (Ask_alive x.standing.held.0) x.found ∷ []) (t, x.probed, refl) (inr (x.standing, x.found, (numbered_has number d.sweep.standings x.standing x.stands).0, refl))
+      refused_made r (made_with (Ask_alive x.standing.held.0) x.found ∷ []) (t, x.probed, refl) (inr (x.standing, x.found, (numbered_has number d.sweep.standings x.standing x.stands).0, refl))
       (probe_failures x.found x.standing.held.0 (probe.Alive on) alive ∙ sym quiet) is
 
   probe_made : (number : ℕ) (verdict : Target) (permanent : Bool) (x : Probed gives who line d number verdict permanent s t) (r : Refusal) → ((x.found.answer ≡ probe.Gone) × (r ≡ refusal.NoDevice number)) ⊎ ((x.found.answer ≡ probe.Failed) × (r ≡ refusal.ProbeFault x.found.count)) → a ≡ replying (reply.Refused r) (noted_store became d) → Made_so
   probe_made number verdict permanent x r (inl w) is =
-      refused_made r (answered (Ask_alive x.standing.held.0) x.found ∷ []) (t, x.probed, refl) (inr (x.standing, x.found, (numbered_has number d.sweep.standings x.standing x.stands).0, refl))
+      refused_made r (made_with (Ask_alive x.standing.held.0) x.found ∷ []) (t, x.probed, refl) (inr (x.standing, x.found, (numbered_has number d.sweep.standings x.standing x.stands).0, refl))
       (probe_failures x.found x.standing.held.0 probe.Gone w.0 ∙ ap (λ (v : Refusal). told_in_reply (Err v)) (sym w.1)) is
   probe_made number verdict permanent x r (inr w) is =
-      refused_made r (answered (Ask_alive x.standing.held.0) x.found ∷ []) (t, x.probed, refl) (inr (x.standing, x.found, (numbered_has number d.sweep.standings x.standing x.stands).0, refl))
+      refused_made r (made_with (Ask_alive x.standing.held.0) x.found ∷ []) (t, x.probed, refl) (inr (x.standing, x.found, (numbered_has number d.sweep.standings x.standing x.stands).0, refl))
       (probe_failures x.found x.standing.held.0 probe.Failed w.0 ∙ ap (λ (n : ℕ). let f : FailedCall = record { call = n; count = x.found.count } in f ∷ []) (first_number x.standing.held.0 x.found t x.probed) ∙ ap (λ (v : Refusal). told_in_reply (Err v)) (sym w.1)) is
 
   order_made : Came gives who line d change became s t a → Made_so
@@ -394,7 +394,7 @@ module _ (who : Named) (line : List ℕ) (k : Kernel) (d : DaemonState) (change 
         how = y.p.0;
         kept = y.p.1;
         law = order_one y.number y.verdict who y.on now.sweep y.behind l y.p x.standing z.sound_after (stand_stays k y.behind now.sweep.standings now.sweep.next (quiet_grows k y.behind z.quiet) stand_now) here y.run;
-        leaves = leaves_verdict calls now.sweep.next y.number y.verdict who y.on was x.standing y.behind y.p l (lines_of change d.sweep.judge.next) a.reply (ap (λ (v : DaemonState). v.reply) y.state) (kept_order stand_now) here y.run;
+        leaves = leaves_verdict calls now.sweep.next y.number y.verdict who y.on was x.standing y.behind y.p l (change_lines_of change d.sweep.judge.next) a.reply (ap (λ (v : DaemonState). v.reply) y.state) (kept_order stand_now) here y.run;
         rest = told.rest;
         entries = told.entries;
         bears = told.bears;
@@ -411,7 +411,7 @@ module _ (who : Named) (line : List ℕ) (k : Kernel) (d : DaemonState) (change 
   order_so (At_last asked goes r why quiet none is) = last_so asked goes r why is
   order_so (Sets y) = set_so y
 
-pub answering_told : {S T : Type 0} (gives : S → (call : Call) → Answer call → S → Type 0) (told : S → Option Kernel) → ((s : S) (call : Call) (answer : Answer call) (t : S) (l : Kernel) → gives s call answer t → told t ≡ Some l → Follows call answer (told s) l) → (keeps : T → (call : DiskCall) → DiskTold call → T → Type 0) (event : Event) (s : S) (o : T) (d : DaemonState) (became : Stored) (t : S) (p : T) (a : DaemonState) → RunsAnswer gives keeps event s o d became t p a → Answers told event s d became t a
+pub answering_told : {S T : Type 0} (gives : S → (call : Call) → Answer call → S → Type 0) (told : S → Option Kernel) → ((s : S) (call : Call) (answer : Answer call) (t : S) (l : Kernel) → gives s call answer t → told t ≡ Some l → Follows call answer (told s) l) → (keeps : T → (call : DiskCall) → DiskTold call → T → Type 0) (event : Event) (s : S) (o : T) (d : DaemonState) (became : Stored) (t : S) (p : T) (a : DaemonState) → RunsAnswer gives keeps event s o d became t p a → AnswersInEvent told event s d became t a
 answering_told gives told did keeps (Sweep moment) s o d became t p a h = λ l e. (l, subst (λ (v : _). told v ≡ Some l) h.0 e, λ sound stand. (refl, h.2, h.3))
 answering_told gives told did keeps (Order moment who line) s o d became t p a h = λ l e.
     let stores = stores_as keeps o d h.choice.change became p h.stores in

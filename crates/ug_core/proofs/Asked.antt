@@ -4,13 +4,13 @@ use Rattle.std.specs.Prelude.{IsSome}
 use Rattle.std.specs.Option.{option_map}
 use Rattle.std.proofs.lemmas.Option.{same_Some}
 use Rattle.ug_types.specs.Principals.{Named}
-use Rattle.ug_types.specs.declared.refusal.Refusal.{Refusal}
-use Rattle.ug_types.specs.declared.refusal.Refusal.TheVariants as refusal
-use Rattle.ug_types.specs.Parameters.{parameter_of, value_of, value_word}
+use Rattle.ug_refusal.specs.declared.refusal.Refusal.{Refusal}
+use Rattle.ug_refusal.specs.declared.refusal.Refusal.TheVariants as refusal
+use Rattle.ug_parameter.specs.Parameters.{parameter_of, parameter_with, value_word}
 use Rattle.ug_types.specs.declared.access.Privilege.{Privilege}
 use Rattle.ug_types.specs.declared.access.Section.{Section}
-use Rattle.ug_types.specs.declared.parameter.Parameter.{Parameter}
-use Rattle.ug_types.specs.declared.parameter.ParameterName.{ParameterName}
+use Rattle.ug_parameter.specs.declared.parameter.Parameter.{Parameter}
+use Rattle.ug_parameter.specs.declared.parameter.ParameterName.{ParameterName}
 use Rattle.ug_types.specs.declared.record.DeviceRecord.{DeviceRecord}
 use Rattle.ug_types.specs.declared.record.Judged.{Judged}
 use Rattle.ug_types.specs.declared.record.Judged.TheVariants as judged
@@ -20,7 +20,7 @@ use Rattle.ug_types.specs.declared.rule.Rule.{Rule}
 use Rattle.ug_types.specs.declared.verdict.Target.{Target}
 use Rattle.ug_kernel.specs.declared.calls.Probe.{Probe}
 use Rattle.ug_kernel.specs.declared.calls.Probe.TheVariants as probe
-use Rattle.ug_kernel.specs.Calls.{Call, Answer, Ask_alive, Told}
+use Rattle.ug_kernel.specs.Calls.{Call, Answer, Ask_alive, ToldAnswer}
 use Rattle.ug_kernel.specs.Tree.{Runs}
 use Rattle.ug_acl.specs.Acls.{Addition}
 use Rattle.ug_policy.specs.Edits.{IsThere}
@@ -28,10 +28,10 @@ use Rattle.ug_policy.specs.declared.entry.RuleEntry.{RuleEntry}
 use Rattle.ug_rule.specs.Faults.{kind_number}
 use Rattle.ug_rule.specs.Rules.{rule_read}
 use Rattle.ug_rule.specs.declared.fault.Fault.{Fault}
-use Rattle.ug_rules.specs.RulePlaces.{first_of, has_rule, if_few, made_rule}
-use Rattle.ug_rules.specs.RuleRows.{rule_rows}
-use Rattle.ug_rules.specs.declared.edit.Edit.TheVariants.{Insert, Remove}
-use Rattle.ug_rules.proofs.MadeRules.{made_there}
+use Rattle.ug_ruleset.specs.RulePlaces.{first_of, has_rule, if_few, made_rule}
+use Rattle.ug_ruleset.specs.RuleRows.{rule_rows}
+use Rattle.ug_ruleset.specs.declared.edit.Edit.TheVariants.{Insert, Remove}
+use Rattle.ug_ruleset.proofs.MadeRules.{made_there}
 use Rattle.ug_proto.specs.declared.request.Request.{Request}
 use Rattle.ug_proto.specs.declared.request.Request.TheVariants as request
 use Rattle.ug_proto.specs.Privileges.{needs}
@@ -39,8 +39,8 @@ use Rattle.ug_proto.specs.Requests.{request_read}
 use Rattle.ug_table.specs.Parts.{told_in_reply}
 use Rattle.ug_table.specs.Standings.{numbered}
 use Rattle.ug_table.specs.declared.standing.Standing.{Standing}
-use Rattle.ug_core.specs.Answering.{asking, asking_of, by_edit, by_name, by_permanent, by_probe, by_record, by_request, by_rule, by_setting, by_standing, by_value, changing, if_granted, if_read, if_room, if_rule_made, if_rule_read, only, refusing, unless}
-use Rattle.ug_core.specs.Changes.{CanChange, change_lines, edit_for, lines_of, ordered_mark, parameter_at, record_change, rule_asked, setting_asked, standing_change}
+use Rattle.ug_core.specs.Answering.{asking, asking_of, by_edit, by_name, by_permanent, by_probe, by_record, by_request, by_rule, by_setting, by_standing, by_value, changing, if_granted, if_read, if_reply_room, if_rule_made, if_rule_read, only, refusing, unless}
+use Rattle.ug_core.specs.Changes.{CanChange, change_lines, edit_for, change_lines_of, ordered_mark, parameter_at, record_change, rule_asked, setting_asked, standing_change}
 use Rattle.ug_core.specs.DeviceRows.{device_rows}
 use Rattle.ug_core.specs.Event.{DaemonState}
 use Rattle.ug_core.specs.Laws.{Bad_rule, By_facts, Changes, ComesTo, Denied, Devices, Full, List_rules, No_device, No_memory, No_parameter, No_place, No_record, No_room, No_rule, No_setting, No_value, Outcome, Refuses, RefusesBehind, Unread, Value, Watches, WhyRefused, Without_memory, change_of, is_on_device, only_lines, outcome_of_change}
@@ -58,11 +58,11 @@ pub record Probed {S : Type 0} (gives : S → (call : Call) → Answer call → 
   pub granted : is_granted d.access who (needs (request.Device number verdict permanent)) ≡ true
   pub standing : Standing
   pub stands : numbered number d.sweep.standings ≡ Some standing
-  pub found : Told Probe
+  pub found : ToldAnswer Probe
   pub probed : gives s (Ask_alive standing.held.0) found u
 
 -- and isn't there
-abbrev pub Missing : ℕ → Told Probe → Choice → Type 0
+abbrev pub Missing : ℕ → ToldAnswer Probe → Choice → Type 0
 Missing number found c = ((found.answer ≡ probe.Gone) × (c ≡ refusing (refusal.NoDevice number))) ⊎ ((found.answer ≡ probe.Failed) × (c ≡ refusing (refusal.ProbeFault found.count)))
 
 abbrev pub CanMade : List RuleEntry → Option Change → Type 0
@@ -71,7 +71,7 @@ CanMade rules None = Unit {0}
 
 -- or it is
 pub data FoundSo (d : DaemonState) (number : ℕ) (verdict : Target) (permanent on : Bool) (c : Choice) : Type 0 where
-  Set_so : (change : Option Change) → change ≡ change_of d (request.Device number verdict permanent) → (permanent ≡ true → IsSome change) → CanMade d.sweep.judge.rules change → c ≡ record { change = change; deed = deed.SetVerdict number verdict on (lines_of change d.sweep.judge.next) } → FoundSo d number verdict permanent on c
+  Set_so : (change : Option Change) → change ≡ change_of d (request.Device number verdict permanent) → (permanent ≡ true → IsSome change) → CanMade d.sweep.judge.rules change → c ≡ record { change = change; deed = deed.SetVerdict number verdict on (change_lines_of change d.sweep.judge.next) } → FoundSo d number verdict permanent on c
   Refused_so : (r : Refusal) → RefusesBehind d stored.NotNeeded (request.Device number verdict permanent) r → told_in_reply (Err r) ≡ [] → c ≡ refusing r → FoundSo d number verdict permanent on c
 
 -- what is told or changed without a call
@@ -174,7 +174,7 @@ module _ {S : Type 0} (gives : S → (call : Call) → Answer call → S → Typ
     chooses : (outcome : Outcome) (chosen : Choice) → is_on_device asked ≡ false → ComesTo d asked outcome → outcome.change ≡ change_of d asked → Chosen d outcome chosen → (c ≡ chosen) × (t ≡ s) → It
     chooses outcome chosen none comes asks how h = Chosen_first (record { asked = asked; reads = reads; granted = granted; no_device = none; outcome = outcome; comes = comes; asks = asks; chosen = chosen; how = how; is = h.0 }) h.1
 
-    tells_rows : (rows : List (List ℕ)) → is_on_device asked ≡ false → ComesTo d asked (only_lines rows) → None ≡ change_of d asked → (b : Bool) → Runs gives s (if_room rows b) c t → It
+    tells_rows : (rows : List (List ℕ)) → is_on_device asked ≡ false → ComesTo d asked (only_lines rows) → None ≡ change_of d asked → (b : Bool) → Runs gives s (if_reply_room rows b) c t → It
     tells_rows rows none comes asks true h = chooses (only_lines rows) (only (deed.Tell rows)) none comes asks (Told_lines rows) h
     tells_rows rows none comes asks false h = refuses (refusal.Memory false) No_memory refl h
 
@@ -205,7 +205,7 @@ module _ {S : Type 0} (gives : S → (call : Call) → Answer call → S → Typ
   by_name_asked name None at reads granted h = facts (request.GetParameter name) reads granted refusal.BadParameter (No_parameter name at) refl h
   by_name_asked name (Some set) at reads granted h = tells_rows (request.GetParameter name) reads granted (value_word (parameter_at set d.sweep.judge.classes) ∷ []) refl (Value name set at) refl h.0 h.1
 
-  by_value_asked : (name value : List ℕ) (set : ParameterName) (o : Option Parameter) → parameter_of name ≡ Some set → value_of set value ≡ o → request_read line ≡ Ok (request.SetParameter name value) → is_granted d.access who (needs (request.SetParameter name value)) ≡ true → (c ≡ by_value o) × (t ≡ s) → It
+  by_value_asked : (name value : List ℕ) (set : ParameterName) (o : Option Parameter) → parameter_of name ≡ Some set → parameter_with set value ≡ o → request_read line ≡ Ok (request.SetParameter name value) → is_granted d.access who (needs (request.SetParameter name value)) ≡ true → (c ≡ by_value o) × (t ≡ s) → It
   by_value_asked name value set None at with reads granted h = facts (request.SetParameter name value) reads granted refusal.BadValue (No_value name value set at with) refl h
   by_value_asked name value set (Some to) at with reads granted h =
       chooses (request.SetParameter name value) reads granted (outcome_of_change d (Set to)) (changing (Set to) (deed.Tell [])) refl
@@ -214,7 +214,7 @@ module _ {S : Type 0} (gives : S → (call : Call) → Answer call → S → Typ
 
   by_setting_asked : (name value : List ℕ) (o : Option ParameterName) → parameter_of name ≡ o → request_read line ≡ Ok (request.SetParameter name value) → is_granted d.access who (needs (request.SetParameter name value)) ≡ true → (c ≡ by_setting o value) × (t ≡ s) → It
   by_setting_asked name value None at reads granted h = facts (request.SetParameter name value) reads granted refusal.BadParameter (No_setting name value at) refl h
-  by_setting_asked name value (Some set) at reads granted h = by_value_asked name value set (value_of set value) at refl reads granted h
+  by_setting_asked name value (Some set) at reads granted h = by_value_asked name value set (parameter_with set value) at refl reads granted h
 
   by_id_asked : (id : ℕ) (there : Bool) → has_rule id d.sweep.judge.rules ≡ there → request_read line ≡ Ok (request.RemoveRule id) → is_granted d.access who (needs (request.RemoveRule id)) ≡ true → (c ≡ unless (cond there None (Some (refusal.NoRule id))) (changing (Rules (Remove id)) (deed.Tell []))) × (t ≡ s) → It
   by_id_asked id false at reads granted h = facts (request.RemoveRule id) reads granted (refusal.NoRule id) (No_rule id at) refl h

@@ -3,13 +3,13 @@ use Rattle.std.proofs.Common.{◌≡◌, ℕ, suc, ◌+◌, ◌≤◌, Bool, tru
 use Rattle.ug_types.specs.Elements.{Has}
 use Rattle.ug_types.proofs.Elements.{has_cases}
 use Rattle.ug_types.specs.Names.{parent_of}
-use Rattle.ug_types.specs.declared.control.Control.TheVariants.{Authorized}
+use Rattle.ug_kernel.specs.declared.control.Control.TheVariants.{Authorized}
 use Rattle.ug_types.specs.declared.record.Attrs.{Attrs}
 use Rattle.ug_types.specs.declared.record.DeviceRecord.{DeviceRecord}
 use Rattle.ug_types.specs.declared.record.Judged.{Judged}
 use Rattle.ug_types.specs.declared.record.Judged.TheVariants as judged
 use Rattle.ug_types.specs.declared.verdict.Cause.{Cause}
-use Rattle.ug_types.specs.declared.verdict.Held.{Held}
+use Rattle.ug_kernel.specs.declared.control.Held.{Held}
 use Rattle.ug_types.specs.declared.verdict.Target.{Target}
 use Rattle.ug_conf.specs.declared.settings.Present.{Present}
 use Rattle.ug_types.specs.Sweep.{in_sweep_order}
@@ -17,7 +17,7 @@ use Rattle.ug_kernel.specs.declared.calls.Listing.{Listing}
 use Rattle.ug_kernel.specs.declared.calls.Opened.{Opened}
 use Rattle.ug_kernel.specs.declared.calls.Probe.{Probe}
 use Rattle.ug_kernel.specs.declared.sysfs.Sysfs
-use Rattle.ug_kernel.specs.Along.{Made, answered, Along}
+use Rattle.ug_kernel.specs.Along.{Made, made_with, Along}
 use Rattle.ug_kernel.specs.Called.{Follows, does_open, says_probe}
 use Rattle.ug_kernel.specs.Calls.{Call, Names, Open, Read, Ask_alive, Put, Close, Answer}
 use Rattle.ug_kernel.specs.Kernel.{Kernel, IsKernel}
@@ -81,8 +81,8 @@ record Got (ms : List Made) (name : List ℕ) (held : Held) (verdict : Target) (
 
 binds_more : {name : List ℕ} {held : Held} {on : Bool} {ms : List Made} (ns : List Made) → Binds name held on ms → Binds name held on (ms ++ ns)
 binds_more {name} {held} {on} {ms} ns b =
-    let start : Made = answered (Open name Authorized) b.opening in
-    let end : Made = answered (Ask_alive held.0) b.probing in
+    let start : Made = made_with (Open name Authorized) b.opening in
+    let end : Made = made_with (Ask_alive held.0) b.probing in
     record {
       earlier = b.earlier;
       opening = b.opening;
@@ -97,8 +97,8 @@ binds_more {name} {held} {on} {ms} ns b =
 
 binds_behind : {name : List ℕ} {held : Held} {on : Bool} {ns : List Made} (ms : List Made) → Binds name held on ns → Binds name held on (ms ++ ns)
 binds_behind {name} {held} {on} {ns} ms b =
-    let start : Made = answered (Open name Authorized) b.opening in
-    let end : Made = answered (Ask_alive held.0) b.probing in
+    let start : Made = made_with (Open name Authorized) b.opening in
+    let end : Made = made_with (Ask_alive held.0) b.probing in
     record {
       earlier = ms ++ b.earlier;
       opening = b.opening;
@@ -145,7 +145,7 @@ binding_binds (Bound_by call count number total ms x reads first are) = record {
 -- under the held file of the parent
 
 -- the opening, calls that ask, and the probe that ends it
-probed_binds : {name : List ℕ} {file : Held} {own : OwnFiles} {parent : Option Attrs} {ns : List Made} {x : Bound} (call count : ℕ) (asked : List Made) → AllOnlyAsk asked → Probed_by file own parent ns (Binding.Bound x) → Binds name x.held x.on (answered (Open name Authorized) (told (Opened.Token file) call count) ∷ (asked ++ ns))
+probed_binds : {name : List ℕ} {file : Held} {own : OwnFiles} {parent : Option Attrs} {ns : List Made} {x : Bound} (call count : ℕ) (asked : List Made) → AllOnlyAsk asked → Probed_by file own parent ns (Binding.Bound x) → Binds name x.held x.on (made_with (Open name Authorized) (told (Opened.Token file) call count) ∷ (asked ++ ns))
 probed_binds {file = file} call count asked only (Found_alive on number total) = record {
   earlier = [];
   opening = told (Opened.Token file) call count;
@@ -161,12 +161,12 @@ probed_binds {file = file} call count asked only (Found_alive on number total) =
 under_binds : {name parent : List ℕ} {kept : ℕ} {ms : List Made} {x : Bound} → Under_by name parent kept ms (Binding.Bound x) → Binds name x.held x.on ms
 under_binds {x = x} (Under_cut file call count ms at t shut why r left own first stops e) = absurd (stop_unbound why x e)
 under_binds {name} {parent} {kept} (Under_alive file call count d p s c on number total ns r own h) =
-    probed_binds call count (reads_own name d p s c (answered (Ask_alive kept) (told (Probe.Alive on) number total) ∷ [])) (tt, (tt, (tt, (tt, (tt, tt))))) h
+    probed_binds call count (reads_own name d p s c (made_with (Ask_alive kept) (told (Probe.Alive on) number total) ∷ [])) (tt, (tt, (tt, (tt, (tt, tt))))) h
 under_binds {name} {parent} {kept} {x = x} (Under_other file call count d p s c t ns r isnt own h) = by h
   where
-    by : {own : OwnFiles} {ns : List Made} → Behind_by name parent file own ns (Binding.Bound x) → Binds name x.held x.on (answered (Open name Authorized) (told (Opened.Token file) call count) ∷ reads_own name d p s c (answered (Ask_alive kept) t ∷ ns))
+    by : {own : OwnFiles} {ns : List Made} → Behind_by name parent file own ns (Binding.Bound x) → Binds name x.held x.on (made_with (Open name Authorized) (told (Opened.Token file) call count) ∷ reads_own name d p s c (made_with (Ask_alive kept) t ∷ ns))
     by (Cut_behind ms at t shut why r left a first stops e) = absurd (stop_unbound why x e)
-    by (Read_behind u v w ns r a first h) = probed_binds call count (reads_own name d p s c (answered (Ask_alive kept) t ∷ reads_parents parent u v w)) (tt, (tt, (tt, (tt, (tt, (tt, (tt, (tt, tt)))))))) h
+    by (Read_behind u v w ns r a first h) = probed_binds call count (reads_own name d p s c (made_with (Ask_alive kept) t ∷ reads_parents parent u v w)) (tt, (tt, (tt, (tt, (tt, (tt, (tt, (tt, tt)))))))) h
 
 -- beside the standing of the parent, if there is one
 beside_binds : (name : List ℕ) (ss : List Standing) (ms : List Made) (x : Bound) → Way (binding_for name ss) ms (Binding.Bound x) → Binds name x.held x.on ms
@@ -253,10 +253,10 @@ farewells_none names (s ∷ ss) number other held verdict cause =
 goes_got : {w v : State Judging} {ok : Bool} {ms : List Made} {es : List Entry} (number : ℕ) (other : List ℕ) (held : Held) (verdict : Target) (cause : Cause) → Goes policy_answer policy_later w ok ms es v → Tells es number other held verdict cause → Got ms other held verdict cause
 goes_got {w = w} number other held verdict cause (Listed found failed ok shut made es v closings c) a = elim (has_cases (farewells (in_sweep_order found) w.standings) es (Entry.Judged number other held verdict cause) a) [
   | inl h ↦ absurd (farewells_none (in_sweep_order found) w.standings number other held verdict cause h)
-  | inr h ↦ got_behind (answered Names (told_at (Listing.Names found) failed) ∷ shut) (chain_got number other held verdict cause c h)
+  | inr h ↦ got_behind (made_with Names (told_at (Listing.Names found) failed) ∷ shut) (chain_got number other held verdict cause c h)
 ]
 goes_got number other held verdict cause (Unlisted list failed room why ok made es v by c) (inl is) = let none : ⊥ = cc in absurd none
-goes_got number other held verdict cause (Unlisted list failed room why ok made es v by c) (inr h) = got_behind (answered Names (told_at list failed) ∷ []) (chain_got number other held verdict cause c h)
+goes_got number other held verdict cause (Unlisted list failed room why ok made es v by c) (inr h) = got_behind (made_with Names (told_at list failed) ∷ []) (chain_got number other held verdict cause c h)
 
 -- a sweep, with the last entry
 record SweepGot (d : DaemonState) (ms : List Made) (e : DaemonState) : Type 0 where
@@ -309,8 +309,8 @@ module _ {S : Type 0} (sysfs : Sysfs.Ghosts S) (did : (s : S) (call : Call) (ans
 
   bound_among : {name : List ℕ} {held : Held} {on : Bool} {made : List Made} (b : Binds name held on made) (s t : S) → Along gives s made t → BoundAmong sysfs b s t
   bound_among {name} {held} {on} {made} b s t along =
-      let start : Made = answered (Open name Authorized) b.opening in
-      let end : Made = answered (Ask_alive held.0) b.probing in
+      let start : Made = made_with (Open name Authorized) b.opening in
+      let end : Made = made_with (Ask_alive held.0) b.probing in
       let whole = subst (λ (v : List Made). Along gives s v t) b.cut along in
       let x = along_split gives b.earlier (start ∷ (b.asked ++ end ∷ b.later)) s t whole in
       let y = along_split gives b.asked (end ∷ b.later) x.2.0 t x.2.2 in

@@ -2,8 +2,8 @@
 use Rattle.std.proofs.Common.{◌≡◌, ℕ, Bool, true, false, List, [], length, arith, Option, Some, None, Err, Ok, ◌⊎◌, inl, inr, refl, sym, ◌∙◌, ap, subst}
 use Rattle.std.specs.Prelude.{IsSome, nat_le}
 use Rattle.ug_types.specs.Principals.{Named}
-use Rattle.ug_types.specs.declared.refusal.Refusal.{Refusal}
-use Rattle.ug_types.specs.declared.refusal.Refusal.TheVariants as refusal
+use Rattle.ug_refusal.specs.declared.refusal.Refusal.{Refusal}
+use Rattle.ug_refusal.specs.declared.refusal.Refusal.TheVariants as refusal
 use Rattle.ug_types.specs.declared.saved.Saved.{Saved}
 use Rattle.ug_types.specs.declared.saved.Saved.TheVariants as saved
 use Rattle.ug_types.specs.declared.verdict.Target.{Target}
@@ -16,7 +16,7 @@ use Rattle.ug_proto.specs.declared.request.Request.TheVariants as request
 use Rattle.ug_proto.specs.Privileges.{needs}
 use Rattle.ug_proto.specs.Requests.{request_read}
 use Rattle.ug_print.specs.RuleTexts.{rules_limit}
-use Rattle.ug_rules.specs.RuleFile.{FitsFile, permanent_text}
+use Rattle.ug_ruleset.specs.RuleFile.{FitsFile, permanent_text}
 use Rattle.ug_store.specs.DiskCalls.{DiskCall, DiskTold}
 use Rattle.ug_store.specs.Store.{Ended, RunsDisk, saving}
 use Rattle.ug_store.proofs.DiskRuns.{runs_split_disk}
@@ -25,7 +25,7 @@ use Rattle.ug_table.specs.Parts.{told_in_reply}
 use Rattle.ug_table.specs.State.{Kept, kept_of}
 use Rattle.ug_table.specs.declared.standing.Settled.{Settled}
 use Rattle.ug_core.specs.Answering.{acting, answered_with, asking, changing, deed_after, if_refused, refusing, replying}
-use Rattle.ug_core.specs.Changes.{CanChange, change_lines, changed_by, is_saved, lines_of}
+use Rattle.ug_core.specs.Changes.{CanChange, change_lines, changed_by, is_saved, change_lines_of}
 use Rattle.ug_core.specs.Event.{DaemonState}
 use Rattle.ug_core.specs.Laws.{AnswersAtOnce, ComesTo, IsInForce, Outcome, RefusesBehind, StoreRefuses, Unstored, WhyRefused, change_of, if_watching, is_on_device, only_lines, outcome_of_change}
 use Rattle.ug_core.specs.Policy.{Judging}
@@ -119,7 +119,7 @@ pub record SetsVerdict {S : Type 0} (gives : S → (call : Call) → Answer call
   pub in_force : IsInForce d.sweep.judge change became
   pub p : Settled × Kept
   pub run : Runs gives behind (ordering number verdict who on (kept_of (with_changes change (noted_store became d)).sweep.standings (with_changes change (noted_store became d)).sweep.entries)) p t
-  pub state : a ≡ answered_with (with_changes change (noted_store became d)) (lines_of change d.sweep.judge.next) p
+  pub state : a ≡ answered_with (with_changes change (noted_store became d)) (change_lines_of change d.sweep.judge.next) p
 
 pub data Came {S : Type 0} (gives : S → (call : Call) → Answer call → S → Type 0) (who : Named) (line : List ℕ) (d : DaemonState) (change : Option Change) (became : Stored) (s t : S) (a : DaemonState) : Type 0 where
   At_first : (r : Refusal) → WhyRefused who line d r → told_in_reply (Err r) ≡ [] → change ≡ None → became ≡ stored.NotNeeded → t ≡ s → a ≡ replying (reply.Refused r) (noted_store became d) → Came gives who line d change became s t a
@@ -179,15 +179,15 @@ module _ {S : Type 0} (gives : S → (call : Call) → Answer call → S → Typ
   by_found number verdict permanent on x alive c (Set_so change asks has can is) stores h =
       subst (λ (v : Choice). Comes v.change) (sym is) (by_store (kept_or_not d change became (subst (λ (v : Choice). StoresAs d.sweep.judge v.change became) is stores) can) (subst Acts is h))
     where
-      out : (change : Option Change) → change ≡ change_of d (request.Device number verdict permanent) → CanMade d.sweep.judge.rules change → IsKeptOut d change became → Runs gives u (acting who (stored_with became change d) (deed_after became (deed.SetVerdict number verdict on (lines_of change d.sweep.judge.next)))) a t → Comes change
+      out : (change : Option Change) → change ≡ change_of d (request.Device number verdict permanent) → CanMade d.sweep.judge.rules change → IsKeptOut d change became → Runs gives u (acting who (stored_with became change d) (deed_after became (deed.SetVerdict number verdict on (change_lines_of change d.sweep.judge.next)))) a t → Comes change
       out None asks can k run = absurd k
       out (Some change) asks can k run =
           let e = kept_out (Some change) k.0 k.1 (deed.SetVerdict number verdict on (change_lines change d.sweep.judge.next)) run in
           At_last (request.Device number verdict permanent) (subst (λ (v : S). GoesFrom gives who line d s v (request.Device number verdict permanent)) (sym e.1) (By_probe number verdict permanent on x alive)) k.0 (Unstored (request.Device number verdict permanent) k.0 change (sym asks) can k.2) k.3 (λ unsaved. absurd (needed k.0 change k.1 unsaved)) e.0
 
-      by_store : IsLetIn d change became ⊎ IsKeptOut d change became → Runs gives u (acting who (stored_with became change d) (deed_after became (deed.SetVerdict number verdict on (lines_of change d.sweep.judge.next)))) a t → Comes change
+      by_store : IsLetIn d change became ⊎ IsKeptOut d change became → Runs gives u (acting who (stored_with became change d) (deed_after became (deed.SetVerdict number verdict on (change_lines_of change d.sweep.judge.next)))) a t → Comes change
       by_store (inl k) run =
-          let r = runs_split gives u (ordering number verdict who on (kept_of (with_changes change (noted_store became d)).sweep.standings (with_changes change (noted_store became d)).sweep.entries)) (λ (p : Settled × Kept). Return (answered_with (with_changes change (noted_store became d)) (lines_of change d.sweep.judge.next) p)) a t (let_in change k.0 (deed.SetVerdict number verdict on (lines_of change d.sweep.judge.next)) run) in
+          let r = runs_split gives u (ordering number verdict who on (kept_of (with_changes change (noted_store became d)).sweep.standings (with_changes change (noted_store became d)).sweep.entries)) (λ (p : Settled × Kept). Return (answered_with (with_changes change (noted_store became d)) (change_lines_of change d.sweep.judge.next) p)) a t (let_in change k.0 (deed.SetVerdict number verdict on (change_lines_of change d.sweep.judge.next)) run) in
           Sets (record {
             number = number;
             verdict = verdict;

@@ -21,11 +21,11 @@ use Rattle.ug_core.specs.Policy.{Judging}
 use Rattle.ug_core.specs.Verdicts.{IsLater}
 use Rattle.ug_core.specs.declared.changes.Change.{Change}
 use Rattle.ug_core.specs.declared.changes.Change.TheVariants.{Rules, Set}
-use Rattle.ug_rules.specs.RuleEdits.{CanEdit, edited_by, next_after}
-use Rattle.ug_rules.specs.RuleFile.{as_given}
-use Rattle.ug_rules.specs.declared.edit.Edit.{Edit}
-use Rattle.ug_rules.specs.declared.edit.Edit.TheVariants.{Insert, Remove, Retarget}
-use Rattle.ug_rules.proofs.Given.{given_append}
+use Rattle.ug_ruleset.specs.RuleEdits.{CanEdit, edited_by, next_after}
+use Rattle.ug_ruleset.specs.RuleFile.{as_given}
+use Rattle.ug_ruleset.specs.declared.edit.Edit.{Edit}
+use Rattle.ug_ruleset.specs.declared.edit.Edit.TheVariants.{Insert, Remove, Retarget}
+use Rattle.ug_ruleset.proofs.Given.{given_append}
 use Rattle.ug_types.specs.declared.verdict.Target.{Target}
 use Rattle.ug_core.specs.declared.classes.Classes.{Classes}
 

@@ -1,7 +1,7 @@
 -- The defaults of the standings that are marked so stay where nothing is written, and where a verdict is ordered.
 use Rattle.std.proofs.Common.{◌≡◌, ℕ, List, Option, Some, slice_get, sym, ◌∙◌, ap, subst}
-use Rattle.ug_types.specs.declared.control.Control.TheVariants.{Authorized}
-use Rattle.ug_types.specs.declared.control.Write.{Write}
+use Rattle.ug_kernel.specs.declared.control.Control.TheVariants.{Authorized}
+use Rattle.ug_kernel.specs.declared.control.Write.{Write}
 use Rattle.ug_types.specs.declared.verdict.Target.{Target}
 use Rattle.ug_types.specs.Principals.{Named}
 use Rattle.ug_types.proofs.Elements.{map_has}

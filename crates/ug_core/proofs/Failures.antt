@@ -3,7 +3,7 @@ use Rattle.std.proofs.Common.{◌≡◌, ℕ, List, [], ◌∷◌, ◌++◌, ref
 use Rattle.ug_types.specs.Elements.{AllDistinct}
 use Rattle.ug_kernel.specs.Calls.{Call, Names, Answer}
 use Rattle.ug_kernel.specs.declared.calls.FailedCall.{FailedCall}
-use Rattle.ug_kernel.specs.Along.{Made, answered, Along, failure, failures, AreNumbered, Rises}
+use Rattle.ug_kernel.specs.Along.{Made, made_with, Along, failure, failures, AreNumbered, Rises}
 use Rattle.ug_kernel.proofs.Rises.{Counting, along_numbered, along_rises}
 use Rattle.ug_audit.specs.declared.entry.Entry.{Entry}
 use Rattle.ug_audit.specs.declared.entry.Entry.TheVariants as entry
@@ -36,8 +36,8 @@ pub event_tells : {S : Type 0} (gives : S → (call : Call) → Answer call → 
 event_tells gives calls faults counting event s d became m a t e order none along answers quiet law =
     let v : State Judging = law.swept in
     let h = law.tells in
-    let ms : List Made = answered Names h.goes.listed ∷ h.goes.later in
-    let ks : List Made = answered Names h.goes.listed ∷ (h.goes.shut ++ h.goes.ending) in
+    let ms : List Made = made_with Names h.goes.listed ∷ h.goes.later in
+    let ks : List Made = made_with Names h.goes.listed ∷ (h.goes.shut ++ h.goes.ending) in
     let both : List Entry = h.goes.head ++ h.goes.rest in
     let whole : failures_told e.sweep.entries ≡ failures (order ++ ks) =
     ap (λ (x : State Judging). failures_told x.entries) law.entries

@@ -1,7 +1,7 @@
 -- The verdict in force, as entries are added.
 use Rattle.std.proofs.Common.{◌≡◌, ℕ, ◌+◌, ◌<◌, ◌≤◌, Bool, true, false, cond, List, [], ◌∷◌, ◌++◌, Option, Some, None, inl, inr, refl, sym, ◌∙◌, ap, subst, arith, nat_eq, append_assoc, append-nil}
 use Rattle.ug_types.specs.Elements.{Has, AllDistinct}
-use Rattle.ug_types.specs.declared.verdict.Held.{Held}
+use Rattle.ug_kernel.specs.declared.control.Held.{Held}
 use Rattle.ug_types.specs.declared.verdict.Target.{Target}
 use Rattle.ug_types.specs.declared.verdict.Cause.{Cause}
 use Rattle.ug_types.proofs.Elements.{has_left, has_right}
@@ -9,7 +9,7 @@ use Rattle.ug_audit.specs.declared.entry.Entry.{Entry}
 use Rattle.ug_audit.specs.declared.entry.Entry.TheVariants as entry
 use Rattle.ug_table.specs.Laws.{TellsNeither, numbers_of}
 use Rattle.ug_table.specs.declared.standing.Standing.{Standing}
-use Rattle.ug_core.specs.InForce.{Decision, decision_in, decisions_in, decision_of, or_else, on_number, last_decision, last_judged, standing_decision, in_force, Agree, is_ordered, unordered, numbers_on, Follow}
+use Rattle.ug_core.specs.InForce.{Decision, decision_in, decisions_in, decision_of, or_else, on_number, last_decision, last_judged, standing_decision, in_force, AgreeInForce, is_ordered, unordered, numbers_on, Follow}
 
 -- the numbers of all that was told
 abbrev pub told_numbers : List Entry → List ℕ
@@ -136,7 +136,7 @@ follow_append a [] ys b c f g = subst (λ (v : ℕ). Follow v ys c) f g
 follow_append a (x ∷ xs) ys b c f g = (f.0, follow_append (a + 1) xs ys b c f.1 g)
 
 -- a verdict that stood before was the last one told
-pub lift : (pre : List Entry) (ss : List Standing) (front : List Entry) (n : ℕ) (d : Decision) → Agree [] pre ss → in_force ss front n ≡ Some d → in_force [] (pre ++ front) n ≡ Some d
+pub lift : (pre : List Entry) (ss : List Standing) (front : List Entry) (n : ℕ) (d : Decision) → AgreeInForce [] pre ss → in_force ss front n ≡ Some d → in_force [] (pre ++ front) n ≡ Some d
 lift pre ss front n d agree h = in_force_append [] pre front n ∙ lifted (last_judged front n) h
   where
     lifted : (last : Option Decision) → or_else last (standing_decision ss n) ≡ Some d → or_else last (in_force [] pre n) ≡ Some d
@@ -145,7 +145,7 @@ lift pre ss front n d agree h = in_force_append [] pre front n ∙ lifted (last_
         let s = standing_has ss n d e in
         ap (λ (m : ℕ). in_force [] pre m) (sym s.2) ∙ agree s.0 s.1 ∙ ap (λ (x : Decision). Some x) s.3
 
-pub lift_agree : (pre : List Entry) (ss after : List Standing) (es : List Entry) → Agree [] pre ss → Agree ss es after → Agree [] (pre ++ es) after
+pub lift_agree : (pre : List Entry) (ss after : List Standing) (es : List Entry) → AgreeInForce [] pre ss → AgreeInForce ss es after → AgreeInForce [] (pre ++ es) after
 lift_agree pre ss after es agree h s a = lift pre ss es s.number (decision_of s) agree (h s a)
 
 -- decisions but for those that were ordered

@@ -18,12 +18,12 @@ use Rattle.ug_table.specs.Orders.{with_verdict, verdict_entry}
 use Rattle.ug_table.specs.State.{State}
 use Rattle.ug_table.specs.declared.standing.Standing.{Standing}
 use Rattle.ug_core.specs.Policy.{Judging}
-use Rattle.ug_rules.specs.RuleFile.{permanent_text}
+use Rattle.ug_ruleset.specs.RuleFile.{permanent_text}
 use Rattle.ug_core.specs.Answering.{answer_of, reply_to, replying}
 use Rattle.ug_cond.specs.declared.context.Context.{Context}
 use Rattle.ug_types.specs.declared.record.Judged.{Judged}
 use Rattle.ug_types.specs.declared.record.Judged.TheVariants as judged
-use Rattle.ug_core.specs.Changes.{change_asked, record_change, standing_change, change_entry, changed_by, is_saved, lines_of, text_if_saved}
+use Rattle.ug_core.specs.Changes.{change_asked, record_change, standing_change, change_entry, changed_by, is_saved, change_lines_of, text_if_saved}
 use Rattle.ug_core.specs.declared.changes.Change.{Change}
 use Rattle.ug_core.specs.declared.changes.Change.TheVariants.{Rules, Set}
 use Rattle.ug_proto.specs.declared.reply.Reply.TheVariants as reply
@@ -38,18 +38,18 @@ use Rattle.ug_core.proofs.Plain.{SameRules}
 use Rattle.std.specs.Prelude.{IsSome, nat_le, length, Result}
 use Rattle.ug_types.proofs.Elements.{has_left, has_right}
 use Rattle.ug_types.specs.Principals.{Named}
-use Rattle.ug_types.specs.declared.refusal.Refusal.{Refusal}
-use Rattle.ug_types.specs.declared.refusal.Refusal.TheVariants as refusal
+use Rattle.ug_refusal.specs.declared.refusal.Refusal.{Refusal}
+use Rattle.ug_refusal.specs.declared.refusal.Refusal.TheVariants as refusal
 use Rattle.ug_types.specs.declared.verdict.Target.{Target}
 use Rattle.ug_kernel.proofs.Ways.{ways_run}
 use Rattle.ug_print.specs.RuleTexts.{rules_limit}
 use Rattle.ug_proto.specs.Privileges.{needs}
 use Rattle.ug_proto.specs.Requests.{request_read}
 use Rattle.ug_proto.specs.declared.request.Request.TheVariants as request
-use Rattle.ug_rules.specs.RuleEdits.{changes_file}
-use Rattle.ug_rules.specs.declared.edit.Edit.{Edit}
-use Rattle.ug_rules.proofs.Edited.{text_stays}
-use Rattle.ug_rules.proofs.Given.{text_given}
+use Rattle.ug_ruleset.specs.RuleEdits.{changes_file}
+use Rattle.ug_ruleset.specs.declared.edit.Edit.{Edit}
+use Rattle.ug_ruleset.proofs.Edited.{text_stays}
+use Rattle.ug_ruleset.proofs.Given.{text_given}
 use Rattle.ug_store.specs.Disk.{IsImage}
 use Rattle.ug_table.specs.Orders.{ordering}
 use Rattle.ug_table.specs.Standings.{numbered}
@@ -243,7 +243,7 @@ module _ {S : Type 0} (gives : S → (call : Call) → Answer call → S → Typ
       let was : Kept = kept_of now.sweep.standings now.sweep.entries in
       let z = with_verdict y.verdict who x.standing in
       let told = (ways_run gives (EndsOrder x.standing z was) (ordering y.number y.verdict who y.on was) y.behind y.p t (ordering_ways y.number y.verdict who y.on was x.standing here) y.run).so in
-      let lines = lines_of change d.sweep.judge.next in
+      let lines = change_lines_of change d.sweep.judge.next in
       let e : Entry = entry.Reply (answer_of (reply_to lines y.p.0)) in
       let own : List Entry = verdict_entry z ∷ told.rest in
       record {

@@ -9,7 +9,7 @@ use Rattle.ug_lines.specs.Lines.{lines_of}
 use Rattle.ug_lines.specs.LineReading.{lines_read, text_read, then_on}
 use Rattle.ug_rule.specs.declared.fault.Fault.{Fault}
 use Rattle.ug_rule.specs.Files.{added, adding_line, file_read, line_read}
-use Rattle.ug_rule.specs.TextLines.{numbered}
+use Rattle.ug_rule.specs.TextLines.{fault_numbered}
 use Rattle.ug_policy.specs.declared.entry.Mark.TheVariants as mark
 use Rattle.ug_policy.specs.declared.entry.RuleEntry.{RuleEntry}
 use Rattle.ug_policy.specs.Edits.{new_entry}
@@ -22,7 +22,7 @@ use Rattle.ug_print.specs.Bytes.{RuleOfBytes}
 use Rattle.ug_print.specs.RuleTexts.{rules_limit, rules_text_of}
 use Rattle.ug_print.specs.declared.rule_texts.RulesTextFault.{RulesTextFault}
 use Rattle.ug_print.specs.declared.rule_texts.RulesTextFault.TheVariants as printed
-use Rattle.ug_rules.specs.RuleFile.{IsSaveable, ReadsBack, permanent_rules, permanent_text}
+use Rattle.ug_ruleset.specs.RuleFile.{IsSaveable, ReadsBack, permanent_rules, permanent_text}
 use Rattle.ug_core.proofs.Readable.{all_permanent, list_reads_back, list_saves}
 use Rattle.ug_core.specs.Starting.{HasRulesOf, HoldsJust, IsListOf, StartsWith, fault_of_printing, ListsText, fault_of_file, listed, listing_line, one_listed}
 use Rattle.ug_core.proofs.Numbering.{holds_more}
@@ -57,7 +57,7 @@ Goes (Err bad) (Err fault) = bad ≡ fault
 Goes (Ok rules) (Err fault) = ⊥
 Goes (Err bad) (Ok all) = ⊥
 
-line_goes : (number : ℕ) (rules : Option (List Rule)) (all : List Rule) → IsListed rules all → (read : Result (Option Rule) Fault) → Goes (listed rules (numbered number read)) (added number all read)
+line_goes : (number : ℕ) (rules : Option (List Rule)) (all : List Rule) → IsListed rules all → (read : Result (Option Rule) Fault) → Goes (listed rules (fault_numbered number read)) (added number all read)
 line_goes number rules all h (Ok (Some rule)) = one_more rule rules all h
 line_goes number rules all h (Ok None) = h
 line_goes number rules all h (Err fault) = refl

@@ -4,7 +4,7 @@ use Rattle.rand_core.specs.declared.Rng.{Ghosts}
 use Rattle.ug_audit.specs.declared.entry.Entry.{Entry}
 use Rattle.ug_audit.specs.declared.journal.Journal.{Journal}
 use Rattle.ug_audit.specs.declared.panel.Panel.{Panel}
-use Rattle.ug_audit.specs.Journal.{SameEntries, Told, members}
+use Rattle.ug_audit.specs.Journal.{SameEntries, AuditorTold, members}
 use Rattle.ug_audit.specs.Noting.{NotesEntries}
 use Rattle.ug_audit.specs.Panels.{Member}
 use Rattle.ug_audit.proofs.Noting.{notes_on}
@@ -13,7 +13,7 @@ use Rattle.ug_core.specs.declared.daemon.Daemon.{Daemon}
 use Rattle.ug_core.specs.declared.report.Report.{Report}
 
 -- what was noted in a journal, by the panel that it leaves
-pub noted_more : {X : Type 0} {F : X → Type 0} (told : Told X F) (a b : Journal X F) (panel last : Panel X F) (es fs : List Entry) → SameEntries told a b → a.panel.now ≡ panel → last ≡ b.panel.now → a.entries.now.entries ≡ es → fs ≡ b.entries.now.entries → NotesMore es fs (members told panel) (members told last)
+pub noted_more : {X : Type 0} {F : X → Type 0} (told : AuditorTold X F) (a b : Journal X F) (panel last : Panel X F) (es fs : List Entry) → SameEntries told a b → a.panel.now ≡ panel → last ≡ b.panel.now → a.entries.now.entries ≡ es → fs ≡ b.entries.now.entries → NotesMore es fs (members told panel) (members told last)
 noted_more {X} {F} told a b panel last es fs h same end was is =
     let from = subst (λ (p : Panel X F). NotesEntries h.added (members told p) (members told b.panel.now)) same h.noted in
     record {
@@ -35,7 +35,7 @@ more_noted es fs gs ms ns os h k = record {
 
 -- a step that notes nothing: it changes at most whether a save is pending
 pub notes_none : {R : Type 0} {g : Ghosts R} {X : Type 0} {F : X → Type 0} {most : ℕ}
-    {told : Told X F} {d e : Daemon R g} {panel : Panel X F} {pending : Bool}
+    {told : AuditorTold X F} {d e : Daemon R g} {panel : Panel X F} {pending : Bool}
     → e.report ≡ d.report → daemon_of e ≡ record (daemon_of d) { pending = pending }
     → NotesAtMost most told d panel e panel
 notes_none {d = d} report same =
@@ -56,7 +56,7 @@ notes_none {d = d} report same =
 
 -- a step behind another
 pub notes_then : {R : Type 0} {g : Ghosts R} {X : Type 0} {F : X → Type 0} {m n : ℕ}
-    {told : Told X F} {d e f : Daemon R g} {panel amid last : Panel X F}
+    {told : AuditorTold X F} {d e f : Daemon R g} {panel amid last : Panel X F}
     → NotesAtMost m told d panel e amid → NotesAtMost n told e amid f last
     → NotesAtMost (m + n) told d panel f last
 notes_then h k = record {

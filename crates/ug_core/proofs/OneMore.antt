@@ -4,7 +4,7 @@ use Rattle.ug_core.proofs.Kept.{asked_anytime}
 use Rattle.std.specs.List.{list_any}
 use Rattle.ug_types.specs.Elements.{Has}
 use Rattle.ug_types.specs.Principals.{Named}
-use Rattle.ug_types.specs.declared.refusal.Refusal.{Refusal}
+use Rattle.ug_refusal.specs.declared.refusal.Refusal.{Refusal}
 use Rattle.ug_types.specs.declared.saved.Saved.{Saved}
 use Rattle.ug_types.specs.declared.verdict.Moment.{Moment}
 use Rattle.ug_types.proofs.Elements.{cancel, has_right}
@@ -28,7 +28,7 @@ use Rattle.ug_table.specs.declared.standing.Standing.{Standing}
 use Rattle.ug_table.proofs.Standings.{numbered_has}
 use Rattle.ug_core.specs.Answering.{answer_of, reply_to, answered_with, replying}
 use Rattle.ug_core.specs.Storing.{noted_store, with_change, with_changes}
-use Rattle.ug_core.specs.Changes.{CanChange, change_asked, change_entry, changed_by, lines_of}
+use Rattle.ug_core.specs.Changes.{CanChange, change_asked, change_entry, changed_by, change_lines_of}
 use Rattle.ug_core.specs.Privileges.{is_granted}
 use Rattle.ug_core.specs.declared.changes.Change.{Change}
 use Rattle.ug_core.specs.declared.changes.Change.TheVariants.{Rules, Set}
@@ -45,11 +45,11 @@ use Rattle.ug_core.proofs.Walk.{IsAt}
 use Rattle.std.proofs.lemmas.Option.{same_Some}
 use Rattle.ug_types.specs.declared.access.Privilege.{Privilege}
 use Rattle.ug_types.specs.declared.access.Section.{Section}
-use Rattle.ug_types.specs.declared.refusal.Refusal.TheVariants as refusal
+use Rattle.ug_refusal.specs.declared.refusal.Refusal.TheVariants as refusal
 use Rattle.ug_types.specs.declared.saved.Saved.TheVariants as saved
 use Rattle.ug_kernel.specs.declared.calls.Probe.{Probe}
 use Rattle.ug_kernel.specs.declared.calls.Probe.TheVariants as probe
-use Rattle.ug_rules.specs.declared.edit.Edit.TheVariants.{Insert, Remove, Retarget}
+use Rattle.ug_ruleset.specs.declared.edit.Edit.TheVariants.{Insert, Remove, Retarget}
 use Rattle.ug_table.specs.Orders.{OrderedOne}
 use Rattle.ug_table.specs.declared.standing.Settled.{Settled}
 use Rattle.ug_table.specs.declared.standing.Settled.TheVariants as settled
@@ -322,7 +322,7 @@ module _ (policy : Judging) (first : Kernel) (hs : List Happened) (h : Happened)
         let now : DaemonState = with_changes c.change (noted_store h.became d) in
         let w : State Judging = now.sweep in
         let tl : List Told = told_of hs ++ told_by_change c.change in
-        let lines : List (List ℕ) = lines_of c.change d.sweep.judge.next in
+        let lines : List (List ℕ) = change_lines_of c.change d.sweep.judge.next in
         let amid = amid_now c.middle (request.Device c.number c.verdict c.permanent) c.change c.asked c.granted c.asks c.in_force (amid_moves h.kernel c.middle (told_of hs) d c.probed.quiet ready) in
         let y : Standing = with_verdict c.verdict who c.standing in
         let told : Entry = verdict_entry y in

@@ -2,21 +2,21 @@
 use Rattle.std.proofs.Common.{◌≡◌, ℕ, ◌<◌, nat_lt, Bool, true, false, ◌||◌, cond, List, [], ◌∷◌, length, Option, Some, None, inl, inr, refl, arith, sym, subst}
 use Rattle.std.proofs.lemmas.Bool.{eqb-true}
 use Rattle.ug_types.specs.Elements.{Has}
-use Rattle.ug_types.specs.declared.refusal.Refusal.{Refusal}
-use Rattle.ug_types.specs.declared.refusal.Refusal.TheVariants as refusal
+use Rattle.ug_refusal.specs.declared.refusal.Refusal.{Refusal}
+use Rattle.ug_refusal.specs.declared.refusal.Refusal.TheVariants as refusal
 use Rattle.ug_types.specs.declared.rule.After.{After}
 use Rattle.ug_types.specs.declared.rule.After.TheVariants as after
 use Rattle.ug_policy.specs.Edits.{IsThere, has_id}
 use Rattle.ug_policy.specs.Rules.{ids}
 use Rattle.ug_policy.specs.declared.entry.RuleEntry.{RuleEntry}
-use Rattle.ug_rules.specs.RulePlaces.{first_of, has_rule, if_few, if_place, if_taken}
+use Rattle.ug_ruleset.specs.RulePlaces.{first_of, has_rule, if_few, place_refusal, if_taken}
 use Rattle.ug_core.specs.Policy.{Judging}
 use Rattle.ug_types.specs.declared.record.DeviceRecord.{DeviceRecord}
 use Rattle.ug_types.specs.declared.verdict.Target.{Target}
-use Rattle.ug_rules.specs.RuleEdits.{CanEdit, if_room_for}
-use Rattle.ug_rules.specs.RulePlaces.{made_rule}
-use Rattle.ug_rules.specs.declared.edit.Edit.{Edit}
-use Rattle.ug_rules.proofs.MadeRules.{made_there}
+use Rattle.ug_ruleset.specs.RuleEdits.{CanEdit, if_room_for}
+use Rattle.ug_ruleset.specs.RulePlaces.{made_rule}
+use Rattle.ug_ruleset.specs.declared.edit.Edit.{Edit}
+use Rattle.ug_ruleset.proofs.MadeRules.{made_there}
 use Rattle.ug_core.specs.Changes.{edit_for, verdict_edit}
 
 pub rule_there : (id : ℕ) (es : List RuleEntry) → has_rule id es ≡ true → Has (ids es) id
@@ -44,14 +44,14 @@ few_by : (b : Bool) → cond b None (Some refusal.RulesFull) ≡ None → b ≡ 
 few_by true h = refl
 few_by false h = let none : ⊥ = cc in absurd none
 
-place_there : (place : After) (rules : List RuleEntry) → if_place place rules ≡ None → IsThere place rules
+place_there : (place : After) (rules : List RuleEntry) → place_refusal place rules ≡ None → IsThere place rules
 place_there after.End rules h = tt
 place_there after.Front rules h = tt
 place_there (after.Rule id) rules h = rule_there id rules (there_by (has_rule id rules) id h)
 
 pub place_free : (place : After) (rules : List RuleEntry) → if_taken place rules ≡ None → IsThere place rules × (length rules < 65536)
 place_free place rules h =
-    let both = none_else (if_place place rules) (if_few rules) h in
+    let both = none_else (place_refusal place rules) (if_few rules) h in
     (place_there place rules both.0, few_below (length rules) (few_by (nat_lt (length rules) 65536) both.1))
 
 -- a verdict's edit, for which there is room

@@ -26,7 +26,7 @@ use Rattle.ug_table.specs.State.{State, Terms, kept_of, terms_for}
 use Rattle.ug_table.specs.Sweep.{settling_all, resettling_all, closing_unlisted, parted, marked_listed, unlisted, if_room, after_list, names_of, resumed, sweeping}
 use Rattle.ug_table.specs.declared.standing.Known.{Known}
 use Rattle.ug_table.specs.declared.standing.Settled.{Settled}
-use Rattle.ug_rules.specs.RuleFile.{as_given}
+use Rattle.ug_ruleset.specs.RuleFile.{as_given}
 use Rattle.ug_core.specs.Event.{DaemonState, ended, handling}
 use Rattle.ug_core.specs.Policy.{Judging, policy_answer, policy_later}
 use Rattle.ug_core.proofs.Verdicts.{rules_stay}

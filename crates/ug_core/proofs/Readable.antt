@@ -16,7 +16,7 @@ use Rattle.ug_print.specs.RuleTexts.{rules_limit, rules_text_of}
 use Rattle.ug_print.specs.Words.{rule_text}
 use Rattle.ug_print.proofs.Printed.{printed}
 use Rattle.ug_print.proofs.RuleTexts.{text_read}
-use Rattle.ug_rules.specs.RuleFile.{CanSave, IsSaveable, ReadsBack, permanent_rules}
+use Rattle.ug_ruleset.specs.RuleFile.{CanSave, IsSaveable, ReadsBack, permanent_rules}
 use Rattle.ug_core.specs.Starting.{HoldsJust, permanent_entries}
 
 are_well : (lines : List (List ℕ)) (rules : List Rule) → AreRules lines rules → AllByRecursion WellFormed rules

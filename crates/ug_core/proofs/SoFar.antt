@@ -4,7 +4,7 @@ use Rattle.std.specs.List.{list_any}
 use Rattle.ug_types.specs.Elements.{Has, AllDistinct}
 use Rattle.ug_types.specs.Principals.{Named}
 use Rattle.ug_types.specs.Names.{parent_of}
-use Rattle.ug_types.specs.declared.control.Write.{Write}
+use Rattle.ug_kernel.specs.declared.control.Write.{Write}
 use Rattle.ug_types.specs.declared.record.DeviceRecord.{DeviceRecord}
 use Rattle.ug_types.specs.declared.record.Judged.{Judged}
 use Rattle.ug_types.specs.declared.record.Judged.TheVariants as judged
@@ -39,7 +39,7 @@ use Rattle.ug_core.specs.declared.changes.Change.{Change}
 use Rattle.ug_core.specs.declared.changes.Change.TheVariants.{Rules, Set}
 use Rattle.ug_core.specs.Policy.{Judging, cause_for, choice_for, kept, by_choice, found_for, verdict_of, policy_answer, policy_later}
 use Rattle.ug_core.specs.Event.{moment_of}
-use Rattle.ug_core.specs.InForce.{Decision, decision_of, decisions_in, or_else, on_number, last_decision, last_judged, standing_decision, in_force, Agree, is_ordered, unordered, numbers_on, given_numbers, Follow}
+use Rattle.ug_core.specs.InForce.{Decision, decision_of, decisions_in, or_else, on_number, last_decision, last_judged, standing_decision, in_force, AgreeInForce, is_ordered, unordered, numbers_on, given_numbers, Follow}
 use Rattle.ug_core.specs.Rulings.{CanTake, Changed, Decided, PolicyStep, Ruled, Ruling, Told, Was_changed, after_ruling, after_steps, at_moment, decision_by, told_by}
 use Rattle.ug_core.specs.Values.{LogsValues}
 use Rattle.ug_core.specs.Chain.{Happened, ready_of, changes_asked, decided, journal, told_if, told_in, told_of, was_done, tells_unlisted, has_listed, IsPlaced, WasAsked, WasOrdered}
@@ -48,7 +48,7 @@ use Rattle.ug_core.proofs.Steps.{after_ruled, can_ruled, can_then, ruled, ruled_
 use Rattle.ug_core.proofs.Walk.{after_rulings, decisions_by, Effected, IsAt, None_written, Others, Uneffected, WasWritten, Written, walk}
 use Rattle.ug_core.proofs.Defaulted.{quiet_defaulted, ordered_defaulted}
 use Rattle.ug_core.proofs.Known.{IsKnown, AreKnown, known_grow, known_still, known_new}
-use Rattle.ug_rules.specs.declared.edit.Edit.TheVariants.{Insert, Remove, Retarget}
+use Rattle.ug_ruleset.specs.declared.edit.Edit.TheVariants.{Insert, Remove, Retarget}
 
 -- entries of events and of runs
 
@@ -57,7 +57,7 @@ journal_append [] hs = refl
 journal_append (g ∷ gs) hs = ap (λ (es : List Entry). g.after.sweep.entries ++ es) (journal_append gs hs) ∙ sym (append_assoc g.after.sweep.entries (journal gs) (journal hs))
 
 -- what was written in an event, behind what was written before it
-pub written_lifted : (hub : Option Write) (pre : List Entry) (log : List Effect) (ss : List Standing) (k : Kernel) (es : List Entry) (added : List Effect) → Agree [] pre ss → Written hub [] k pre log → Written hub ss k es added → Written hub [] k (pre ++ es) (log ++ added)
+pub written_lifted : (hub : Option Write) (pre : List Entry) (log : List Effect) (ss : List Standing) (k : Kernel) (es : List Entry) (added : List Effect) → AgreeInForce [] pre ss → Written hub [] k pre log → Written hub ss k es added → Written hub [] k (pre ++ es) (log ++ added)
 written_lifted hub pre log ss k _ _ agree before None_written = subst (λ (x : List Entry). Written hub [] k x (log ++ [])) (sym (append-nil pre)) (subst (λ (x : List Effect). Written hub [] k pre x) (sym (append-nil log)) before)
 written_lifted hub pre log ss k _ _ agree before (Others es more added none w) =
     subst (λ (x : List Entry). Written hub [] k x (log ++ added)) (append_assoc pre es more) (Others (pre ++ es) more (log ++ added) none (written_lifted hub pre log ss k es added agree before w))
@@ -84,7 +84,7 @@ pub record AllWritten (hub : Option Write) (es : List Entry) (first k : Kernel) 
   pub each : Written hub [] k es added
 
 -- the standings that a sweep leaves have the verdicts in force
-pub agree_left : (before : List Standing) (next0 next : ℕ) (rest : List Entry) (after : List Standing) (k : Kernel) → Stand k before next0 → Follow next0 (told_numbers rest) next → ((s : Standing) → Has after s → IsTold before rest s) → Agree before rest after
+pub agree_left : (before : List Standing) (next0 next : ℕ) (rest : List Entry) (after : List Standing) (k : Kernel) → Stand k before next0 → Follow next0 (told_numbers rest) next → ((s : Standing) → Has after s → IsTold before rest s) → AgreeInForce before rest after
 agree_left before next0 next rest after k stood follow told s h =
     let f = fresh (decisions_in rest) next0 next follow in
     elim (told s h) [
@@ -211,7 +211,7 @@ pub record SoFar (policy : Judging) (first k : Kernel) (hs : List Happened) (tl 
   pub ordered : (d : Decision) → Has (decisions_in es) d → is_ordered d.cause ≡ true → WasOrdered hs d
   pub written : AllWritten w.hub es first k
   pub numbers : Follow 1 (given_numbers es) w.next
-  pub agree : Agree [] es w.standings
+  pub agree : AgreeInForce [] es w.standings
   pub known : AreKnown (decisions_in es) k w.standings
   pub defaulted : AreDefaulted w.hub k w.standings
 

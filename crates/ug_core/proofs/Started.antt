@@ -10,7 +10,7 @@ use Rattle.ug_policy.specs.Rules.{Rules, IsNumbered, ids}
 use Rattle.ug_store.specs.Disk.{Disk}
 use Rattle.ug_store.specs.DiskCalls.{DiskCall, DiskTold}
 use Rattle.ug_store.specs.declared.store.RecoverFault.{RecoverFault}
-use Rattle.ug_rules.specs.RuleFile.{as_given}
+use Rattle.ug_ruleset.specs.RuleFile.{as_given}
 use Rattle.ug_core.specs.Policy.{Judging}
 use Rattle.std.specs.Prelude.{IfErr, IfOk}
 use Rattle.ug_store.specs.Store.{seen_by}

@@ -11,8 +11,8 @@ use Rattle.ug_policy.specs.declared.entry.RuleEntry.{RuleEntry}
 use Rattle.ug_rule.specs.Files.{file_read}
 use Rattle.ug_rule.proofs.Cases.{one_outcome}
 use Rattle.ug_print.specs.RuleTexts.{rules_limit, rules_text_of}
-use Rattle.ug_rules.specs.RuleFile.{CanSave, IsRuleFile, IsSaveable, permanent_rules, permanent_text}
-use Rattle.ug_rules.proofs.Readable.{saved_file}
+use Rattle.ug_ruleset.specs.RuleFile.{CanSave, IsRuleFile, IsSaveable, permanent_rules, permanent_text}
+use Rattle.ug_ruleset.proofs.Readable.{saved_file}
 use Rattle.ug_store.specs.Disk.{Disk, Images, IsAsItWas, IsImage}
 use Rattle.ug_store.specs.DiskCalls.{file_limit}
 use Rattle.ug_store.specs.Store.{RecoversFrom}

@@ -2,13 +2,13 @@
 use Rattle.std.proofs.Common.{◌≡◌, ℕ, Bool, true, false, cond, nat_eq, List, [], ◌∷◌, ◌++◌, Some, inl, inr, refl, sym, ◌∙◌, ap, subst, arith, append_assoc, append-nil}
 use Rattle.std.proofs.lemmas.Option.{same_Some}
 use Rattle.std.specs.List.{slice_get}
-use Rattle.ug_types.specs.declared.control.Write.{Write}
+use Rattle.ug_kernel.specs.declared.control.Write.{Write}
 use Rattle.ug_kernel.specs.declared.calls.Opened.{Opened}
 use Rattle.ug_kernel.specs.declared.calls.Wrote.{Wrote}
 use Rattle.ug_kernel.specs.declared.device.Device.{Device}
 use Rattle.ug_kernel.specs.declared.device.Effect.{Effect}
 use Rattle.ug_kernel.specs.Along.{Made, Along}
-use Rattle.ug_kernel.specs.Called.{Called, Does, IsWritten, does_open, does_put, value_after, written_to}
+use Rattle.ug_kernel.specs.Called.{Called, DoesCall, IsWritten, does_open, does_put, value_after, written_to}
 use Rattle.ug_kernel.specs.Calls.{Call, Names, Open, Read, Ask_alive, Put, Close, Answer}
 use Rattle.ug_kernel.specs.Kernel.{Kernel}
 use Rattle.ug_kernel.specs.Quiet.{Quiet}
@@ -64,7 +64,7 @@ put_values held what Wrote.Gone k l h = same_values k l h
 put_values held what Wrote.Failed k l (inl h) = same_values k l h
 put_values held what Wrote.Failed k l (inr h) = written_values held what k l h
 
-does_values : (call : Call) (answer : Answer call) (k l : Kernel) → Does call answer k l → LogsValues k l
+does_values : (call : Call) (answer : Answer call) (k l : Kernel) → DoesCall call answer k l → LogsValues k l
 does_values Names answer k l h = same_values k l h
 does_values (Open name control) answer k l h = opening answer.answer h
   where

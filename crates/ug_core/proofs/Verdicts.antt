@@ -18,8 +18,8 @@ use Rattle.ug_policy.proofs.Finding.{behind_add, some_decider, outcome_at, outco
 use Rattle.ug_policy.proofs.Stands.{stands_found}
 use Rattle.ug_conf.specs.declared.settings.Present.{Present}
 use Rattle.ug_conf.specs.declared.settings.Present.TheVariants as present
-use Rattle.ug_rules.specs.RuleFile.{as_given}
-use Rattle.ug_rules.proofs.Given.{given_judged}
+use Rattle.ug_ruleset.specs.RuleFile.{as_given}
+use Rattle.ug_ruleset.proofs.Given.{given_judged}
 use Rattle.ug_core.specs.Policy.{Judging, found_for, kept, choice_for, by_choice, by_class, verdict_of, asks, rules_if, stream_if, judgements_if, judgements_of, later_of, words_if, words_needed}
 use Rattle.ug_core.specs.Changes.{changed_by}
 use Rattle.ug_core.specs.Rulings.{CanTake, Changed, PolicyStep, Ruled, after_ruling, after_steps, at_moment, changed_alone, judgements_for, words_for}

@@ -2,11 +2,11 @@
 -- standings, and by what a probe of its device finds.
 use Rattle.std.specs.Prelude.{◌≡◌, ◌⊎◌, ℕ, Bool, true, false, List, [], ◌∷◌, decimal, Option, Some, None, IsSome, Result, Ok, Err}
 use Rattle.ug_types.specs.Principals.{Named}
-use Rattle.ug_types.specs.declared.refusal.Refusal.{Refusal}
-use Rattle.ug_types.specs.declared.refusal.Refusal.TheVariants as refusal
-use Rattle.ug_types.specs.Parameters.{parameter_of, value_of, value_word}
-use Rattle.ug_types.specs.declared.parameter.Parameter.{Parameter}
-use Rattle.ug_types.specs.declared.parameter.ParameterName.{ParameterName}
+use Rattle.ug_refusal.specs.declared.refusal.Refusal.{Refusal}
+use Rattle.ug_refusal.specs.declared.refusal.Refusal.TheVariants as refusal
+use Rattle.ug_parameter.specs.Parameters.{parameter_of, parameter_with, value_word}
+use Rattle.ug_parameter.specs.declared.parameter.Parameter.{Parameter}
+use Rattle.ug_parameter.specs.declared.parameter.ParameterName.{ParameterName}
 use Rattle.ug_types.specs.declared.rule.After.{After}
 use Rattle.ug_types.specs.declared.rule.Rule.{Rule}
 use Rattle.ug_types.specs.declared.verdict.Target.{Target}
@@ -35,14 +35,14 @@ use Rattle.ug_table.specs.declared.standing.Standing.{Standing}
 use Rattle.ug_core.specs.Event.{DaemonState, noting}
 use Rattle.ug_core.specs.Changes.{CanChange, ChangeReads, change_lines, ordered_mark, parameter_at, verdict_edit}
 use Rattle.ug_core.specs.Privileges.{denied_of}
-use Rattle.ug_rules.specs.RuleEdits.{if_room_for}
-use Rattle.ug_rules.specs.RulePlaces.{if_taken, if_there}
+use Rattle.ug_ruleset.specs.RuleEdits.{if_room_for}
+use Rattle.ug_ruleset.specs.RulePlaces.{if_taken, if_there}
 use Rattle.ug_core.specs.DeviceRows.{device_rows}
-use Rattle.ug_rules.specs.RuleRows.{rule_rows}
+use Rattle.ug_ruleset.specs.RuleRows.{rule_rows}
 use Rattle.ug_core.specs.declared.changes.Change.{Change}
 use Rattle.ug_core.specs.declared.changes.Change.TheVariants.{Rules, Set}
-use Rattle.ug_rules.specs.declared.edit.Edit.{Edit}
-use Rattle.ug_rules.specs.declared.edit.Edit.TheVariants.{Insert, Remove}
+use Rattle.ug_ruleset.specs.declared.edit.Edit.{Edit}
+use Rattle.ug_ruleset.specs.declared.edit.Edit.TheVariants.{Insert, Remove}
 use Rattle.ug_core.specs.declared.classes.Classes.{Classes}
 use Rattle.ug_core.specs.declared.choosing.Choice.{Choice}
 use Rattle.ug_core.specs.declared.choosing.Deed.{Deed}
@@ -123,12 +123,12 @@ if_granted (Some refused) asked = Return (refusing refused)
 if_granted None asked = asked
 
 -- lines take memory
-abbrev pub if_room : List (List ℕ) → Bool → Prog Choice
-if_room rows true = Return (only (deed.Tell rows))
-if_room rows false = Return (refusing (refusal.Memory false))
+abbrev pub if_reply_room : List (List ℕ) → Bool → Prog Choice
+if_reply_room rows true = Return (only (deed.Tell rows))
+if_reply_room rows false = Return (refusing (refusal.Memory false))
 
 abbrev pub telling : List (List ℕ) → Prog Choice
-telling rows = Room (if_room rows)
+telling rows = Room (if_reply_room rows)
 
 -- the value of a setting
 abbrev pub by_name : Classes → Option ParameterName → Prog Choice
@@ -142,14 +142,15 @@ by_value (Some set) = changing (Set set) (deed.Tell [])
 
 abbrev pub by_setting : Option ParameterName → List ℕ → Choice
 by_setting None value = refusing refusal.BadParameter
-by_setting (Some name) value = by_value (value_of name value)
+by_setting (Some name) value = by_value (parameter_with name value)
 
 -- a rule is put behind that place, and its id is told
 abbrev pub by_rule : Judging → After → Bool → Result Rule Fault → Choice
 by_rule p after permanent (Err bad) = refusing (refusal.BadRule (kind_number bad.kind) bad.place)
 by_rule p after permanent (Ok rule) =
     unless (if_taken after p.rules)
-    (changing (Rules (Insert after rule (ordered_mark permanent))) (deed.Tell (decimal p.next ∷ [])))
+    (changing (Rules (Insert after rule (ordered_mark permanent)))
+    (deed.Tell (decimal p.next ∷ [])))
 
 -- memory is taken to read it
 abbrev pub if_rule_read : Judging → After → Bool → List ℕ → Bool → Prog Choice
@@ -198,10 +199,10 @@ CanMake rules None = Unit {0}
 -- ---- the lines of a reply: none holds a newline
 
 -- those of a deed
-abbrev pub HasLines : Deed → Type 0
-HasLines (deed.Tell rows) = AreLines rows
-HasLines (deed.SetVerdict number verdict on lines) = AreLines lines
-HasLines doing = Unit {0}
+abbrev pub HasReplyLines : Deed → Type 0
+HasReplyLines (deed.Tell rows) = AreLines rows
+HasReplyLines (deed.SetVerdict number verdict on lines) = AreLines lines
+HasReplyLines doing = Unit {0}
 
 abbrev pub HasWholeLines : Reply → Type 0
 HasWholeLines (reply.Lines lines) = AreLines lines

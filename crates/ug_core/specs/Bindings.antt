@@ -1,19 +1,19 @@
 -- By which calls an event bound each device that its sweep judged, and what they say of the kernel.
 use Rattle.std.specs.Prelude.{◌≡◌, ℕ, Bool, List, [], ◌∷◌, ◌++◌, Some}
 use Rattle.ug_types.specs.Elements.{Has}
-use Rattle.ug_types.specs.declared.control.Control.TheVariants.{Authorized}
+use Rattle.ug_kernel.specs.declared.control.Control.TheVariants.{Authorized}
 use Rattle.ug_types.specs.declared.verdict.Cause.{Cause}
 use Rattle.ug_types.specs.declared.verdict.Cause.TheVariants as causes
-use Rattle.ug_types.specs.declared.verdict.Held.{Held}
+use Rattle.ug_kernel.specs.declared.control.Held.{Held}
 use Rattle.ug_types.specs.declared.verdict.Target.{Target}
 use Rattle.ug_kernel.specs.declared.calls.Opened.{Opened}
 use Rattle.ug_kernel.specs.declared.calls.Opened.TheVariants as opened
 use Rattle.ug_kernel.specs.declared.calls.Probe.{Probe}
 use Rattle.ug_kernel.specs.declared.calls.Probe.TheVariants as probe
 use Rattle.ug_kernel.specs.declared.sysfs.Sysfs
-use Rattle.ug_kernel.specs.Along.{Made, answered, Along}
+use Rattle.ug_kernel.specs.Along.{Made, made_with, Along}
 use Rattle.ug_kernel.specs.Called.{IsAlive, IsOpened}
-use Rattle.ug_kernel.specs.Calls.{Call, Names, Open, Read, Ask_alive, Put, Close, Told}
+use Rattle.ug_kernel.specs.Calls.{Call, Names, Open, Read, Ask_alive, Put, Close, ToldAnswer}
 use Rattle.ug_kernel.specs.Kernel.{Kernel, IsKernel, Moves}
 use Rattle.ug_kernel.specs.Quiet.{Quiet}
 use Rattle.ug_audit.specs.declared.entry.Entry.{Entry}
@@ -51,12 +51,12 @@ AllOnlyAsk (m ∷ ms) = OnlyAsks m.call × AllOnlyAsk ms
 -- found alive, with that value.
 pub record Binds (name : List ℕ) (held : Held) (on : Bool) (made : List Made) : Type 0 where
   pub earlier : List Made
-  pub opening : Told Opened
+  pub opening : ToldAnswer Opened
   pub asked : List Made
-  pub probing : Told Probe
+  pub probing : ToldAnswer Probe
   pub later : List Made
-  pub cut : made ≡ earlier ++ answered (Open name Authorized) opening
-      ∷ (asked ++ answered (Ask_alive held.0) probing ∷ later)
+  pub cut : made ≡ earlier ++ made_with (Open name Authorized) opening
+      ∷ (asked ++ made_with (Ask_alive held.0) probing ∷ later)
   pub token : opening.answer ≡ opened.Token held
   pub only : AllOnlyAsk asked
   pub found : probing.answer ≡ probe.Alive on

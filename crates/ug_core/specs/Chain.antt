@@ -4,14 +4,14 @@ use Rattle.std.specs.Prelude.{◌≡◌, ℕ, Bool, true, false, not, is_none, �
 use Rattle.std.specs.List.{list_any}
 use Rattle.ug_types.specs.Elements.{Has}
 use Rattle.ug_types.specs.Names.{parent_of}
-use Rattle.ug_types.specs.declared.refusal.Refusal.TheVariants as refusal
+use Rattle.ug_refusal.specs.declared.refusal.Refusal.TheVariants as refusal
 use Rattle.ug_types.specs.declared.saved.Saved.{Saved}
 use Rattle.ug_types.specs.declared.verdict.Target.{Target}
 use Rattle.ug_types.specs.declared.verdict.Cause.{Cause}
 use Rattle.ug_types.specs.declared.verdict.Cause.TheVariants as causes
 use Rattle.ug_types.specs.declared.verdict.Moment.{Moment}
-use Rattle.ug_types.specs.declared.control.Control.TheVariants.{Authorized}
-use Rattle.ug_types.specs.declared.control.Write.{Write}
+use Rattle.ug_kernel.specs.declared.control.Control.TheVariants.{Authorized}
+use Rattle.ug_kernel.specs.declared.control.Write.{Write}
 use Rattle.ug_types.specs.Principals.{Named}
 use Rattle.ug_kernel.specs.declared.device.Device.{Device}
 use Rattle.ug_kernel.specs.declared.device.Effect.{Effect}
@@ -40,7 +40,7 @@ use Rattle.ug_core.specs.Durable.{IsKept, unsure_behind, unsure_with, KeepsRules
 use Rattle.ug_core.specs.Event.{DaemonState, IsStarted, moment_of, ready}
 use Rattle.ug_core.specs.Pending.{TriesSave}
 use Rattle.ug_core.specs.Privileges.{is_granted}
-use Rattle.ug_core.specs.InForce.{Decision, decision_of, decisions_in, is_ordered, unordered, in_force, Agree, given_numbers, Follow}
+use Rattle.ug_core.specs.InForce.{Decision, decision_of, decisions_in, is_ordered, unordered, in_force, AgreeInForce, given_numbers, Follow}
 use Rattle.ug_core.specs.Laws.{AnswersEvent, Handled}
 use Rattle.ug_core.specs.Changes.{change_asked}
 use Rattle.ug_core.specs.Values.{on_by}
@@ -333,7 +333,7 @@ pub record IsRun (policy : Judging) (hub : Option Write) (first : Kernel) (o : O
       → WasOrdered hs d
   pub explained : AllExplained hub policy hs steps first k
   pub numbers : Follow 1 (given_numbers (journal hs)) e.sweep.next
-  pub agree : Agree [] (journal hs) e.sweep.standings
+  pub agree : AgreeInForce [] (journal hs) e.sweep.standings
   pub setting : e.sweep.hub ≡ hub
   pub defaulted : AreDefaulted hub k e.sweep.standings
   pub listed : e.sweep.listed ≡ has_listed hs

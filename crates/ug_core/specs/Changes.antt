@@ -1,11 +1,11 @@
 -- What orders change of rules and settings.
 use Rattle.std.specs.Prelude.{ℕ, Bool, true, false, List, [], ◌∷◌, decimal, Option, Some, None, Result, Ok, Err}
 use Rattle.std.specs.Option.{option_map}
-use Rattle.ug_types.specs.Parameters.{parameter_of, value_of}
-use Rattle.ug_types.specs.declared.parameter.Parameter.{Parameter}
-use Rattle.ug_types.specs.declared.parameter.Parameter.TheVariants as parameter
-use Rattle.ug_types.specs.declared.parameter.ParameterName.{ParameterName}
-use Rattle.ug_types.specs.declared.parameter.ParameterName.TheVariants as name
+use Rattle.ug_parameter.specs.Parameters.{parameter_of, parameter_with}
+use Rattle.ug_parameter.specs.declared.parameter.Parameter.{Parameter}
+use Rattle.ug_parameter.specs.declared.parameter.Parameter.TheVariants as parameter
+use Rattle.ug_parameter.specs.declared.parameter.ParameterName.{ParameterName}
+use Rattle.ug_parameter.specs.declared.parameter.ParameterName.TheVariants as name
 use Rattle.ug_types.specs.declared.record.DeviceRecord.{DeviceRecord}
 use Rattle.ug_types.specs.declared.record.Judged.{Judged}
 use Rattle.ug_types.specs.declared.record.Judged.TheVariants as judged
@@ -24,11 +24,11 @@ use Rattle.ug_proto.specs.declared.request.Request.{Request}
 use Rattle.ug_proto.specs.declared.request.Request.TheVariants as request
 use Rattle.ug_rule.specs.Rules.{rule_read}
 use Rattle.ug_rule.specs.declared.fault.Fault.{Fault}
-use Rattle.ug_rules.specs.RuleEdits.{CanEdit, EditReads, HasRoomFor, changes_file, edited_by, next_after}
-use Rattle.ug_rules.specs.RuleFile.{IsSaveable, permanent_text}
-use Rattle.ug_rules.specs.RulePlaces.{made_rule}
-use Rattle.ug_rules.specs.declared.edit.Edit.{Edit}
-use Rattle.ug_rules.specs.declared.edit.Edit.TheVariants.{Insert, Remove, Retarget}
+use Rattle.ug_ruleset.specs.RuleEdits.{CanEdit, EditReads, HasRoomFor, changes_file, edited_by, next_after}
+use Rattle.ug_ruleset.specs.RuleFile.{IsSaveable, permanent_text}
+use Rattle.ug_ruleset.specs.RulePlaces.{made_rule}
+use Rattle.ug_ruleset.specs.declared.edit.Edit.{Edit}
+use Rattle.ug_ruleset.specs.declared.edit.Edit.TheVariants.{Insert, Remove, Retarget}
 use Rattle.ug_table.specs.Standings.{numbered}
 use Rattle.ug_table.specs.declared.standing.Standing.{Standing}
 use Rattle.ug_core.specs.Policy.{Judging}
@@ -60,7 +60,7 @@ rule_asked after permanent (Ok rule) = Some (Rules (Insert after rule (ordered_m
 rule_asked after permanent (Err bad) = None
 
 abbrev pub setting_asked : Option ParameterName → List ℕ → Option Change
-setting_asked (Some name) value = option_map Set (value_of name value)
+setting_asked (Some name) value = option_map Set (parameter_with name value)
 setting_asked None value = None
 
 -- A verdict that is to be permanent: the first permanent rule that is made of the device gets it,
@@ -150,6 +150,6 @@ change_lines (Rules (Retarget id rule)) next = decimal id ∷ []
 change_lines (Set set) next = []
 
 -- an order may have none
-abbrev pub lines_of : Option Change → ℕ → List (List ℕ)
-lines_of (Some change) next = change_lines change next
-lines_of None next = []
+abbrev pub change_lines_of : Option Change → ℕ → List (List ℕ)
+change_lines_of (Some change) next = change_lines change next
+change_lines_of None next = []

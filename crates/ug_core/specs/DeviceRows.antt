@@ -8,7 +8,7 @@ use Rattle.ug_table.specs.declared.standing.Standing.{Standing}
 use Rattle.ug_print.specs.DeviceLines.{malformed_text}
 use Rattle.ug_print.specs.Generated.{generated_of}
 use Rattle.ug_print.specs.Words.{rule_text}
-use Rattle.ug_rules.specs.Rows.{numbered_row}
+use Rattle.ug_ruleset.specs.Rows.{numbered_row}
 
 -- the canonical text of the device's rule with its port, or the first fault of its descriptors and
 -- its name

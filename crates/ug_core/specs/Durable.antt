@@ -2,7 +2,7 @@
 use Rattle.std.specs.Prelude.{◌≡◌, ℕ, cond, List, [], ◌∷◌, ◌++◌, Option, Some, None, Result, Ok, Err, ◌⊎◌}
 use Rattle.ug_types.specs.Elements.{Has}
 use Rattle.ug_types.specs.Principals.{Named}
-use Rattle.ug_types.specs.declared.refusal.Refusal.TheVariants as refusal
+use Rattle.ug_refusal.specs.declared.refusal.Refusal.TheVariants as refusal
 use Rattle.ug_types.specs.declared.rule.Rule.{Rule}
 use Rattle.ug_types.specs.declared.saved.Saved.{Saved}
 use Rattle.ug_types.specs.declared.saved.Saved.TheVariants as saved
@@ -22,7 +22,7 @@ use Rattle.ug_core.specs.declared.storing.Stored.{Stored}
 use Rattle.ug_core.specs.declared.storing.Stored.TheVariants as stored
 use Rattle.ug_core.specs.declared.daemon.Event.{Event}
 use Rattle.ug_core.specs.declared.daemon.Event.TheVariants.{Sweep, Order}
-use Rattle.ug_rules.specs.RuleFile.{permanent_rules, permanent_text}
+use Rattle.ug_ruleset.specs.RuleFile.{permanent_rules, permanent_text}
 
 -- each text that a crash may leave is the text of the permanent rules, or one that isn't sure
 abbrev pub IsKept : List RuleEntry → List (List ℕ) → Images → Type 0
@@ -108,7 +108,8 @@ pub record KeepsRules (texts : List (List ℕ)) (tried : Option Saved) (became :
     pub same : ((became ≡ stored.Done) → ⊥)
         → permanent_text e.sweep.judge.rules ≡ permanent_text d.sweep.judge.rules
     pub done : became ≡ stored.Done
-        → Has texts (permanent_text e.sweep.judge.rules) × Has e.sweep.entries (entry.Save saved.Done)
+        → Has texts (permanent_text e.sweep.judge.rules)
+        × Has e.sweep.entries (entry.Save saved.Done)
     pub failed : (count : ℕ) → became ≡ stored.Failed count
         → Has e.sweep.entries (entry.Reply (Err (refusal.StoreFault count)))
 

@@ -2,13 +2,13 @@
 -- the sweep.
 use Rattle.std.specs.Prelude.{◌≡◌, ◌≤◌, ℕ, ◌+◌, ◌-◌, ◌^◌, Bool, true, false, ◌&&◌, nat_le, nat_lt, List, [], ◌∷◌, ◌++◌, length, Option, Some, None}
 use Rattle.rand_core.specs.declared.Rng.{Ghosts}
-use Rattle.ug_types.specs.declared.control.Write.{Write}
+use Rattle.ug_kernel.specs.declared.control.Write.{Write}
 use Rattle.ug_types.specs.declared.saved.Saved.{Saved}
 use Rattle.ug_types.specs.declared.saved.Saved.TheVariants as saved
 use Rattle.ug_types.specs.declared.verdict.Moment.{Moment}
 use Rattle.ug_kernel.specs.Tree.{Prog, Return, then}
 use Rattle.ug_acl.specs.Acls.{Addition}
-use Rattle.ug_audit.specs.Journal.{Told, live_in, members}
+use Rattle.ug_audit.specs.Journal.{AuditorTold, live_in, members}
 use Rattle.ug_audit.specs.Noting.{NotesEntries, without_drops}
 use Rattle.ug_audit.specs.Panels.{Member}
 use Rattle.ug_audit.specs.declared.entry.Entry.{Entry}
@@ -20,7 +20,7 @@ use Rattle.ug_store.specs.Store.{DiskProg, Ended, DiskRoom, then_disk, saving, p
 use Rattle.ug_table.specs.State.{State}
 use Rattle.ug_table.specs.Sweep.{sweeping}
 use Rattle.ug_core.specs.Policy.{Judging, judging_of, context_at, policy_answer, policy_later}
-use Rattle.ug_rules.specs.RuleFile.{permanent_text}
+use Rattle.ug_ruleset.specs.RuleFile.{permanent_text}
 use Rattle.ug_core.specs.declared.daemon.Daemon.{Daemon}
 use Rattle.ug_core.specs.declared.daemon.Event.{Event}
 use Rattle.ug_core.specs.declared.daemon.Event.TheVariants.{Sweep, Order}
@@ -139,7 +139,8 @@ pub record NotesMore (before after : List Entry) (ms ns : List Member) : Type 0 
 -- left it used at most so many, beside one for each member that failed. The event keeps its number,
 -- and the next device and the next event theirs; and there are no more standings than before.
 pub record NotesAtMost {R : Type 0} {g : Ghosts R} {X : Type 0} {F : X → Type 0} (most : ℕ)
-    (told : Told X F) (d : Daemon R g) (panel : Panel X F) (e : Daemon R g) (last : Panel X F)
+    (told : AuditorTold X F) (d : Daemon R g) (panel : Panel X F) (e : Daemon R g)
+    (last : Panel X F)
     : Type 0 where
   pub spare : d.report.entries.spare + live_in last ≤ e.report.entries.spare + most + live_in panel
   pub noted : NotesMore d.report.entries.entries e.report.entries.entries

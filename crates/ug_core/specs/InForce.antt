@@ -2,7 +2,7 @@
 -- before.
 use Rattle.std.specs.Prelude.{◌≡◌, ℕ, ◌+◌, Bool, true, false, cond, List, [], ◌∷◌, ◌++◌, map, Option, Some, None, if◌then◌else◌, nat_eq}
 use Rattle.ug_types.specs.Elements.{Has}
-use Rattle.ug_types.specs.declared.verdict.Held.{Held}
+use Rattle.ug_kernel.specs.declared.control.Held.{Held}
 use Rattle.ug_types.specs.declared.verdict.Target.{Target}
 use Rattle.ug_types.specs.declared.verdict.Cause.{Cause}
 use Rattle.ug_types.specs.declared.verdict.Cause.TheVariants as cause
@@ -59,8 +59,9 @@ abbrev pub in_force : List Standing → List Entry → ℕ → Option Decision
 in_force before es n = or_else (last_judged es n) (standing_decision before n)
 
 -- these standings have the verdicts in force
-abbrev pub Agree : List Standing → List Entry → List Standing → Type 0
-Agree before es ss = (s : Standing) → Has ss s → in_force before es s.number ≡ Some (decision_of s)
+abbrev pub AgreeInForce : List Standing → List Entry → List Standing → Type 0
+AgreeInForce before es ss =
+    (s : Standing) → Has ss s → in_force before es s.number ≡ Some (decision_of s)
 
 -- an administrator ordered it
 abbrev pub is_ordered : Cause → Bool

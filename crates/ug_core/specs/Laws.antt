@@ -2,10 +2,10 @@
 use Rattle.std.specs.Prelude.{◌≡◌, ℕ, ◌+◌, ◌≤◌, length, Bool, true, false, List, [], ◌∷◌, ◌++◌, Option, Some, None, IsSome, Ok, Err, ◌⊎◌}
 use Rattle.ug_types.specs.Elements.{Has, AllDistinct}
 use Rattle.ug_types.specs.Principals.{Named}
-use Rattle.ug_types.specs.Parameters.{parameter_of, value_of, value_word}
-use Rattle.ug_types.specs.declared.parameter.ParameterName.{ParameterName}
-use Rattle.ug_types.specs.declared.refusal.Refusal.{Refusal}
-use Rattle.ug_types.specs.declared.refusal.Refusal.TheVariants as refusal
+use Rattle.ug_parameter.specs.Parameters.{parameter_of, parameter_with, value_word}
+use Rattle.ug_parameter.specs.declared.parameter.ParameterName.{ParameterName}
+use Rattle.ug_refusal.specs.declared.refusal.Refusal.{Refusal}
+use Rattle.ug_refusal.specs.declared.refusal.Refusal.TheVariants as refusal
 use Rattle.ug_types.specs.declared.rule.After.{After}
 use Rattle.ug_types.specs.declared.rule.After.TheVariants as after
 use Rattle.ug_types.specs.declared.rule.Rule.{Rule}
@@ -15,10 +15,10 @@ use Rattle.ug_types.specs.declared.verdict.Target.{Target}
 use Rattle.ug_types.specs.declared.verdict.Target.TheVariants as target
 use Rattle.ug_kernel.specs.declared.calls.Probe.{Probe}
 use Rattle.ug_kernel.specs.declared.calls.Probe.TheVariants as probe
-use Rattle.ug_kernel.specs.Calls.{Call, Names, Ask_alive, Answer, Told}
+use Rattle.ug_kernel.specs.Calls.{Call, Names, Ask_alive, Answer, ToldAnswer}
 use Rattle.ug_kernel.specs.Kernel.{Kernel, IsKernel}
 use Rattle.ug_kernel.specs.Quiet.{Quiet}
-use Rattle.ug_kernel.specs.Along.{Made, answered, Along, failures, AreNumbered, Rises}
+use Rattle.ug_kernel.specs.Along.{Made, made_with, Along, failures, AreNumbered, Rises}
 use Rattle.ug_kernel.specs.Tree.{Runs}
 use Rattle.ug_kernel.specs.declared.sysfs.Sysfs
 use Rattle.ug_audit.specs.declared.entry.Entry.{Entry}
@@ -47,13 +47,13 @@ use Rattle.ug_table.specs.declared.standing.Settled.{Settled}
 use Rattle.ug_table.specs.declared.standing.Standing.{Standing}
 use Rattle.ug_core.specs.Bindings.{BindsJudged}
 use Rattle.ug_core.specs.Answering.{acting, answered_with, asking, deed_after, replying}
-use Rattle.ug_core.specs.Changes.{CanChange, change_asked, change_lines, changed_by, is_saved, lines_of, parameter_at}
+use Rattle.ug_core.specs.Changes.{CanChange, change_asked, change_lines, changed_by, is_saved, change_lines_of, parameter_at}
 use Rattle.ug_core.specs.Storing.{TellsStored, noted_store, refused_by, stored_with, storing, with_changes}
-use Rattle.ug_rules.specs.RuleFile.{FitsFile, IsSaveable}
-use Rattle.ug_rules.specs.RulePlaces.{has_rule}
-use Rattle.ug_rules.specs.declared.edit.Edit.TheVariants.{Insert}
+use Rattle.ug_ruleset.specs.RuleFile.{FitsFile, IsSaveable}
+use Rattle.ug_ruleset.specs.RulePlaces.{has_rule}
+use Rattle.ug_ruleset.specs.declared.edit.Edit.TheVariants.{Insert}
 use Rattle.ug_core.specs.DeviceRows.{device_rows}
-use Rattle.ug_rules.specs.RuleRows.{rule_rows}
+use Rattle.ug_ruleset.specs.RuleRows.{rule_rows}
 use Rattle.ug_core.specs.Policy.{Judging, policy_answer, policy_later}
 use Rattle.ug_core.specs.Privileges.{denied_of, is_granted}
 use Rattle.ug_core.specs.Event.{DaemonState, ready, trying, handling}
@@ -132,7 +132,8 @@ pub data Refuses (d : DaemonState) : Request → Refusal → Type 0 where
   No_setting : (name value : List ℕ) → parameter_of name ≡ None
       → Refuses d (request.SetParameter name value) refusal.BadParameter
   No_value : (name value : List ℕ) (set : ParameterName) → parameter_of name ≡ Some set
-      → value_of set value ≡ None → Refuses d (request.SetParameter name value) refusal.BadValue
+      → parameter_with set value ≡ None
+      → Refuses d (request.SetParameter name value) refusal.BadValue
   Full : (place : After) (permanent : Bool) (text : List ℕ) (rule : Rule) → rule_read text ≡ Ok rule
       → IsThere place d.sweep.judge.rules → 65536 ≤ length d.sweep.judge.rules
       → Refuses d (request.AppendRule place permanent text) refusal.RulesFull
@@ -286,7 +287,7 @@ pub record CarriesOut (who : Named) (line : List ℕ) (k : Kernel) (d : DaemonSt
   pub bears : AllBear standing.name rest
   pub given : numbers_given rest ≡ []
   pub values : LogsValues k l
-  pub state : e ≡ answered_with changed (lines_of change d.sweep.judge.next) (how, kept)
+  pub state : e ≡ answered_with changed (change_lines_of change d.sweep.judge.next) (how, kept)
 
 -- what an order that needs no call of the kernel comes to: the lines of its reply, what it changes,
 -- and whether its user or group is told of what happens from now on
@@ -345,9 +346,10 @@ AnswersEvent (Order moment who line) k d became l e =
 
 -- where a kernel is told behind it, one was told before it; and where that is sound and the
 -- standings are of its devices, this is so
-abbrev pub Answers : {S : Type 0} → (S → Option Kernel) → Event → S → DaemonState → Stored → S
+abbrev pub AnswersInEvent : {S : Type 0} → (S → Option Kernel) → Event → S → DaemonState → Stored
+    → S
     → DaemonState → Type 0
-Answers told event s d became t e =
+AnswersInEvent told event s d became t e =
     (l : Kernel) → told t ≡ Some l
     → (k : Kernel) × (told s ≡ Some k)
     × (IsKernel k → Stand k d.sweep.standings d.sweep.next → AnswersEvent event k d became l e)
@@ -358,8 +360,8 @@ pub record GoesAsRefusal (d : DaemonState) (became : Stored) (made : List Made) 
     Type 0 where
   pub refused : Refusal
   pub calls : (made ≡ [])
-      ⊎ ((x : Standing) × (t : Told Probe) × Has d.sweep.standings x
-      × (made ≡ answered (Ask_alive x.held.0) t ∷ []))
+      ⊎ ((x : Standing) × (t : ToldAnswer Probe) × Has d.sweep.standings x
+      × (made ≡ made_with (Ask_alive x.held.0) t ∷ []))
   pub told : failures made ≡ told_in_reply (Err refused)
   pub state : e ≡ replying (replies.Refused refused) (noted_store became d)
 
@@ -373,7 +375,7 @@ pub record GoesAsVerdict {S : Type 0} (gives : S → (call : Call) → Answer ca
   pub standing : Standing
   pub stands : numbered number d.sweep.standings ≡ Some standing
   pub on : Bool
-  pub found : Told Probe
+  pub found : ToldAnswer Probe
   pub alive : found.answer ≡ probe.Alive on
   pub behind : S
   pub probed : gives s (Ask_alive standing.held.0) found behind
@@ -384,7 +386,7 @@ pub record GoesAsVerdict {S : Type 0} (gives : S → (call : Call) → Answer ca
   pub kept : Kept
   pub goes : GoesAsOrder gives calls faults (with_verdict verdict who standing) on behind
       changed.sweep.entries t kept.standings kept.entries how
-  pub made_is : made ≡ answered (Ask_alive standing.held.0) found ∷ goes.made
+  pub made_is : made ≡ made_with (Ask_alive standing.held.0) found ∷ goes.made
   pub leaves : LeavesVerdict number verdict changed.sweep.standings kept.standings how e.reply
   pub lines : List (List ℕ)
   pub state : e ≡ answered_with changed lines (how, kept)
@@ -422,7 +424,8 @@ RunsAnswer gives keeps (Order moment who line) s o d became t p a =
 -- ---- a whole event
 
 -- The calls of an event, from where it begins, are those of its order and of a sweep in parts, and
--- are numbered from 1. Each that failed, but for the probes of parents' held files, is told with its
+-- are numbered from 1. Each that failed, but for the probes of
+-- parents' held files, is told with its
 -- number and the count of faults after it, and no other is; and both numbers rise from one to the
 -- next.
 pub record TellsEvent {S : Type 0} (gives : S → (call : Call) → Answer call → S → Type 0)
@@ -435,8 +438,8 @@ pub record TellsEvent {S : Type 0} (gives : S → (call : Call) → Answer call 
   pub goes : GoesInParts gives m a.sweep t swept
   pub entries : e.sweep ≡ record swept { entries = swept.entries ++ entry.End a.event ∷ [] }
   pub exact : failures_told e.sweep.entries
-      ≡ failures (order ++ answered Names goes.listed ∷ (goes.shut ++ goes.ending))
-  pub numbered : AreNumbered 0 (order ++ answered Names goes.listed ∷ goes.later)
+      ≡ failures (order ++ made_with Names goes.listed ∷ (goes.shut ++ goes.ending))
+  pub numbered : AreNumbered 0 (order ++ made_with Names goes.listed ∷ goes.later)
   pub rises : Rises 0 (faults s) (failures_told e.sweep.entries)
 
 -- the count that a failed save tells is the disk's, and it rose
@@ -467,7 +470,7 @@ module _ {S T : Type 0} (sysfs : Sysfs.Ghosts S) (disk : RuleDisk.Ghosts T) wher
     pub answered : DaemonState
     pub answers : RunsAnswer gives keeps event start disk_tried (ready event tried d)
         became middle p answered
-    pub answers_law : Answers told event s (ready event tried d) became middle answered
+    pub answers_law : AnswersInEvent told event s (ready event tried d) became middle answered
     pub written : WritesEvent event d became
     pub saveable : IsSaveable d.sweep.judge.rules
     pub saveable_after : IsSaveable e.sweep.judge.rules

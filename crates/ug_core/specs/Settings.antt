@@ -1,7 +1,7 @@
 -- The settings that verdicts go by, and what is written to the default of each root hub.
 use Rattle.std.specs.Prelude.{Option, Some, None}
-use Rattle.ug_types.specs.declared.control.Write.{Write}
-use Rattle.ug_types.specs.declared.control.Write.TheVariants as write
+use Rattle.ug_kernel.specs.declared.control.Write.{Write}
+use Rattle.ug_kernel.specs.declared.control.Write.TheVariants as write
 use Rattle.ug_conf.specs.declared.settings.AuthDefault.{AuthDefault}
 use Rattle.ug_conf.specs.declared.settings.AuthDefault.TheVariants as default
 use Rattle.ug_conf.specs.declared.settings.Settings.{Settings}

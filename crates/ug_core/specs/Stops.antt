@@ -3,7 +3,7 @@
 use Rattle.std.specs.Prelude.{◌≡◌, ℕ, Bool, false, List, [], ◌∷◌, ◌++◌, Option, Some, Result, Ok, Err, ◌⊎◌}
 use Rattle.ug_types.specs.Elements.{Has}
 use Rattle.ug_types.specs.declared.rule.Rule.{Rule}
-use Rattle.ug_types.specs.declared.refusal.Refusal.TheVariants as refusal
+use Rattle.ug_refusal.specs.declared.refusal.Refusal.TheVariants as refusal
 use Rattle.ug_types.specs.declared.saved.Saved.TheVariants as saved
 use Rattle.ug_kernel.specs.Kernel.{Kernel}
 use Rattle.ug_audit.specs.declared.entry.Entry.TheVariants as entry
@@ -12,7 +12,7 @@ use Rattle.ug_policy.specs.declared.entry.RuleEntry.{RuleEntry}
 use Rattle.ug_store.specs.Disk.{Disk, Images, IsImage}
 use Rattle.ug_store.specs.Store.{HasRecovered}
 use Rattle.ug_store.specs.declared.store.RecoverFault.{RecoverFault}
-use Rattle.ug_rules.specs.RuleFile.{IsRuleFile, IsSaveable, permanent_rules}
+use Rattle.ug_ruleset.specs.RuleFile.{IsRuleFile, IsSaveable, permanent_rules}
 use Rattle.ug_core.specs.Chain.{Happened, Chain}
 use Rattle.ug_core.specs.Changes.{changed_by}
 use Rattle.ug_core.specs.Durable.{IsKept, WritesEvent, change_in, if_written, rules_of, unsure_behind, unsure_with}

@@ -1,13 +1,13 @@
 -- How a change is saved before it is in force: the stage of an order that is on the disk.
 use Rattle.std.specs.Prelude.{◌≡◌, ℕ, nat_le, Bool, true, false, List, length, Option, Some, None}
 use Rattle.ug_types.specs.Ends.{Rose}
-use Rattle.ug_types.specs.declared.refusal.Refusal.{Refusal}
-use Rattle.ug_types.specs.declared.refusal.Refusal.TheVariants as refusal
+use Rattle.ug_refusal.specs.declared.refusal.Refusal.{Refusal}
+use Rattle.ug_refusal.specs.declared.refusal.Refusal.TheVariants as refusal
 use Rattle.ug_types.specs.declared.saved.Saved.{Saved}
 use Rattle.ug_types.specs.declared.saved.Saved.TheVariants as saved
 use Rattle.ug_audit.specs.declared.entry.Entry.TheVariants as entry
 use Rattle.ug_print.specs.RuleTexts.{rules_limit}
-use Rattle.ug_rules.specs.RuleFile.{permanent_text}
+use Rattle.ug_ruleset.specs.RuleFile.{permanent_text}
 use Rattle.ug_store.specs.Store.{DiskProg, Ended, DiskRoom, then_disk, saving}
 use Rattle.ug_core.specs.Changes.{ChangeSaves, change_entry, changed_by, is_saved}
 use Rattle.ug_core.specs.Event.{DaemonState, noting}

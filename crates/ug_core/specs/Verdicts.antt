@@ -14,7 +14,7 @@ use Rattle.ug_cond.specs.Words.{behind}
 use Rattle.ug_policy.specs.Kept.{StandsFor}
 use Rattle.ug_policy.specs.Rules.{IsNumbered}
 use Rattle.ug_conf.specs.declared.settings.Present.TheVariants as present
-use Rattle.ug_rules.specs.RuleFile.{as_given}
+use Rattle.ug_ruleset.specs.RuleFile.{as_given}
 use Rattle.ug_core.specs.Policy.{Judging, cause_for, choice_for}
 
 -- The verdict on a device that is or isn't a root hub, was or wasn't there at the start, and is on

@@ -3,12 +3,12 @@ ghost use Rattle.std.specs.Prelude.{◌≡◌, ◌⊎◌, ◌∷◌, [], ℕ, fa
 ghost use Rattle.ug_kernel.specs.Tree.{Room, Runs};
 ghost use Rattle.ug_lines.specs.Splitting.{AreLines, IsLine};
 ghost use Rattle.ug_rule.specs.Rules.{rule_read};
-ghost use Rattle.ug_types.specs.Parameters.{parameter_of};
-ghost use Rattle.ug_core.specs.Answering.{asking, asking_of, by_edit, by_id, by_name, by_request, by_rule, by_setting, by_standing, by_value, if_rule_read, CanDo, CanMake, HasLines, IsChosenForGood, changing, only, refusing, telling};
+ghost use Rattle.ug_parameter.specs.Parameters.{parameter_of};
+ghost use Rattle.ug_core.specs.Answering.{asking, asking_of, by_edit, by_id, by_name, by_request, by_rule, by_setting, by_standing, by_value, if_rule_read, CanDo, CanMake, HasReplyLines, IsChosenForGood, changing, only, refusing, telling};
 ghost use Rattle.ug_core.specs.Changes.{change_lines, ordered_mark, verdict_edit};
 ghost use Rattle.ug_core.specs.DeviceRows.{device_rows};
 ghost use Rattle.ug_core.specs.Event.{daemon_of};
-ghost use Rattle.ug_rules.specs.RuleRows.{rule_rows};
+ghost use Rattle.ug_ruleset.specs.RuleRows.{rule_rows};
 ghost use Rattle.ug_table.specs.Standings.{numbered};
 
 use crate::changes::Change;
@@ -19,15 +19,14 @@ use itoa::Buffer;
 use rand_core::Rng;
 use std::alloc::Global;
 use ug_kernel::{Probe, Sysfs};
+use ug_parameter::{Parameter, ParameterName};
 use ug_policy::Mark;
 use ug_print::print_rule;
 use ug_proto::{Request, RequestFault, parse_request};
+use ug_refusal::Refusal;
 use ug_rule::{RuleFault, parse_rule};
-use ug_rules::Edit;
-use ug_types::{
-    After, DeviceRecord, Judged, List, NoMemory, Parameter, ParameterName, Principal, Refusal,
-    Rule, Target, Text,
-};
+use ug_ruleset::Edit;
+use ug_types::{After, DeviceRecord, Judged, List, NoMemory, Principal, Rule, Target, Text};
 
 /// What is done of an order once its change is in force.
 #[derive(Drop)]
@@ -77,7 +76,7 @@ fn change(change: Change, deed: Deed) -> Choice
 fn tell(rows: Result<List<Text>, NoMemory>) -> Choice
     ensures ok { (lines : List (List ℕ)) → rows ≡ Ok lines → result ≡ only (Deed.Tell lines) }
     ensures err { OnErr rows (result ≡ refusing (Refusal.Memory false)) }
-    ensures lines { IfOk rows (λ lines. AreLines lines) → HasLines result.deed }
+    ensures lines { IfOk rows (λ lines. AreLines lines) → HasReplyLines result.deed }
 {
     match rows {
         Ok(rows) => only(Deed::Tell(rows)),
@@ -87,7 +86,7 @@ fn tell(rows: Result<List<Text>, NoMemory>) -> Choice
 
 fn choose_value(alloc: Global, set: Option<Parameter>) -> Choice
     ensures chosen { result ≡ by_value set }
-    ensures lines { HasLines result.deed }
+    ensures lines { HasReplyLines result.deed }
 {
     match set {
         Some(set) => change(Change::Set(set), Deed::Tell(List::new(alloc))),
@@ -98,7 +97,7 @@ fn choose_value(alloc: Global, set: Option<Parameter>) -> Choice
 // A setting is given a value.
 fn choose_setting(alloc: Global, name: &[u8], value: &[u8]) -> Choice
     ensures chosen { result ≡ by_setting (parameter_of name.now) value.now }
-    ensures lines { HasLines result.deed }
+    ensures lines { HasReplyLines result.deed }
 {
     match ParameterName::named(name) {
         Some(set) => choose_value(alloc, set.with_value(value)),
@@ -160,7 +159,7 @@ impl<'z, R: Rng> Daemon<'z, R> {
         ensures runs { Runs Y.gives sysfs.old (asking (daemon_of self.now) who.now line.now)
             result sysfs.new }
         ensures can_do { CanDo (daemon_of self.now) result.deed }
-        ensures lines { HasLines result.deed }
+        ensures lines { HasReplyLines result.deed }
         ensures can_make { CanMake (daemon_of self.now).sweep.judge.rules result.change }
     {
         match parse_request(alloc, line) {
@@ -178,10 +177,11 @@ impl<'z, R: Rng> Daemon<'z, R> {
         who: &Principal,
         request: &Request,
     ) -> Choice
-        ensures runs { Runs Y.gives sysfs.old (by_request (daemon_of self.now) who.now (Ok request.now))
+        ensures runs { Runs Y.gives sysfs.old
+            (by_request (daemon_of self.now) who.now (Ok request.now))
             result sysfs.new }
         ensures can_do { CanDo (daemon_of self.now) result.deed }
-        ensures lines { HasLines result.deed }
+        ensures lines { HasReplyLines result.deed }
         ensures can_make { CanMake (daemon_of self.now).sweep.judge.rules result.change }
     {
         match denied(&self.acl, who, request) {
@@ -195,7 +195,7 @@ impl<'z, R: Rng> Daemon<'z, R> {
         ensures runs { Runs Y.gives sysfs.old (asking_of (daemon_of self.now) request.now)
             result sysfs.new }
         ensures can_do { CanDo (daemon_of self.now) result.deed }
-        ensures lines { HasLines result.deed }
+        ensures lines { HasReplyLines result.deed }
         ensures can_make { CanMake (daemon_of self.now).sweep.judge.rules result.change }
     {
         match request {
@@ -223,9 +223,10 @@ impl<'z, R: Rng> Daemon<'z, R> {
     // The value of a setting.
     fn choose_parameter<Y: Sysfs>(&self, alloc: Global, sysfs: &Y, name: &[u8]) -> Choice
         ensures runs { Runs Y.gives sysfs.now
-            (by_name (daemon_of self.now).sweep.judge.classes (parameter_of name.now)) result sysfs.now }
+            (by_name (daemon_of self.now).sweep.judge.classes (parameter_of name.now)) result
+            sysfs.now }
         ensures can_do { CanDo (daemon_of self.now) result.deed }
-        ensures lines { HasLines result.deed }
+        ensures lines { HasReplyLines result.deed }
         ensures can_make { CanMake (daemon_of self.now).sweep.judge.rules result.change }
     {
         match ParameterName::named(name) {
@@ -238,7 +239,7 @@ impl<'z, R: Rng> Daemon<'z, R> {
         ensures runs { Runs Y.gives sysfs.now
             (telling (device_rows (daemon_of self.now).sweep.standings)) result sysfs.now }
         ensures can_do { CanDo (daemon_of self.now) result.deed }
-        ensures lines { HasLines result.deed }
+        ensures lines { HasReplyLines result.deed }
         ensures can_make { CanMake (daemon_of self.now).sweep.judge.rules result.change }
     {
         tell(list_devices(alloc, &self.table))
@@ -248,7 +249,7 @@ impl<'z, R: Rng> Daemon<'z, R> {
         ensures runs { Runs Y.gives sysfs.now
             (telling (rule_rows (daemon_of self.now).sweep.judge.rules)) result sysfs.now }
         ensures can_do { CanDo (daemon_of self.now) result.deed }
-        ensures lines { HasLines result.deed }
+        ensures lines { HasReplyLines result.deed }
         ensures can_make { CanMake (daemon_of self.now).sweep.judge.rules result.change }
     {
         tell(self.policy.rule_rows(alloc))
@@ -264,9 +265,10 @@ impl<'z, R: Rng> Daemon<'z, R> {
         text: &[u8],
     ) -> Choice
         ensures runs { Runs Y.gives sysfs.now (Room
-            (if_rule_read (daemon_of self.now).sweep.judge after permanent text.now)) result sysfs.now }
+            (if_rule_read
+            (daemon_of self.now).sweep.judge after permanent text.now)) result sysfs.now }
         ensures can_do { CanDo (daemon_of self.now) result.deed }
-        ensures lines { HasLines result.deed }
+        ensures lines { HasReplyLines result.deed }
         ensures can_make { CanMake (daemon_of self.now).sweep.judge.rules result.change }
     {
         match parse_rule(alloc, text) {
@@ -286,10 +288,11 @@ impl<'z, R: Rng> Daemon<'z, R> {
         rule: Rule,
     ) -> Choice
         requires { rule_read text.now ≡ Ok rule }
-        ensures chosen { (result ≡ by_rule (daemon_of self.now).sweep.judge after permanent (rule_read text.now))
+        ensures chosen { (result
+            ≡ by_rule (daemon_of self.now).sweep.judge after permanent (rule_read text.now))
             ⊎ (result ≡ refusing (Refusal.Memory false)) }
         ensures can_do { CanDo (daemon_of self.now) result.deed }
-        ensures lines { HasLines result.deed }
+        ensures lines { HasReplyLines result.deed }
         ensures can_make { CanMake (daemon_of self.now).sweep.judge.rules result.change }
     {
         if let Some(refusal) = self.policy.refuse_rule(after) {
@@ -314,7 +317,7 @@ impl<'z, R: Rng> Daemon<'z, R> {
     fn choose_removal(&self, alloc: Global, id: u64) -> Choice
         ensures chosen { result ≡ by_id (daemon_of self.now).sweep.judge.rules id }
         ensures can_do { CanDo (daemon_of self.now) result.deed }
-        ensures lines { HasLines result.deed }
+        ensures lines { HasReplyLines result.deed }
         ensures can_make { CanMake (daemon_of self.now).sweep.judge.rules result.change }
     {
         if !self.policy.has_rule(id) {
@@ -339,7 +342,7 @@ impl<'z, R: Rng> Daemon<'z, R> {
             (by_standing (daemon_of self.now).sweep.judge number verdict permanent
             (numbered number (daemon_of self.now).sweep.standings)) result sysfs.new }
         ensures can_do { CanDo (daemon_of self.now) result.deed }
-        ensures lines { HasLines result.deed }
+        ensures lines { HasReplyLines result.deed }
         ensures can_make { CanMake (daemon_of self.now).sweep.judge.rules result.change }
     {
         match self.table.standing(number) {
@@ -365,7 +368,7 @@ impl<'z, R: Rng> Daemon<'z, R> {
             (by_standing (daemon_of self.now).sweep.judge number verdict permanent
             (numbered number (daemon_of self.now).sweep.standings)) result sysfs.new }
         ensures can_do { CanDo (daemon_of self.now) result.deed }
-        ensures lines { HasLines result.deed }
+        ensures lines { HasReplyLines result.deed }
         ensures can_make { CanMake (daemon_of self.now).sweep.judge.rules result.change }
     {
         match self.table.probe(sysfs, number) {
@@ -398,7 +401,7 @@ impl<'z, R: Rng> Daemon<'z, R> {
         ensures chosen { IsChosenForGood (daemon_of self.now).sweep.judge number verdict on
             judged.now result }
         ensures can_do { CanDo (daemon_of self.now) result.deed }
-        ensures lines { HasLines result.deed }
+        ensures lines { HasReplyLines result.deed }
         ensures can_make { CanMake (daemon_of self.now).sweep.judge.rules result.change }
     {
         match judged {
@@ -421,7 +424,7 @@ impl<'z, R: Rng> Daemon<'z, R> {
             (verdict_edit device.now verdict (daemon_of self.now).sweep.judge))
             ⊎ (result ≡ refusing (Refusal.Memory false)) }
         ensures can_do { CanDo (daemon_of self.now) result.deed }
-        ensures lines { HasLines result.deed }
+        ensures lines { HasReplyLines result.deed }
         ensures can_make { CanMake (daemon_of self.now).sweep.judge.rules result.change }
     {
         let Ok(edit) = self.policy.verdict_edit(alloc, device, verdict) else {

@@ -4,7 +4,9 @@ ghost use Rattle.ug_core.specs.Policy as policy;
 ghost use Rattle.ug_core.specs.Settings.{classes_of, hub_default};
 
 use ug_conf::{AuthDefault, Present, Settings};
-use ug_types::{Cause, Inserted, Target, Write};
+use ug_kernel::Write;
+use ug_parameter::Inserted;
+use ug_types::{Cause, Target};
 
 /// The settings that verdicts and the rules made of devices go by: usbguard-daemon.conf(5).
 #[derive(Clone, Copy, Debug, PartialEq, Eq)]

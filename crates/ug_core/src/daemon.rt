@@ -5,9 +5,10 @@ use crate::policy::Policy;
 use crate::report::Report;
 use rand_core::Rng;
 use ug_acl::Acl;
+use ug_kernel::Write;
 use ug_store::Store;
 use ug_table::Table;
-use ug_types::{Moment, Principal, Text, Write};
+use ug_types::{Moment, Principal, Text};
 
 /// What the daemon is to do.
 #[derive(Drop)]

@@ -5,7 +5,7 @@ ghost use Rattle.ug_core.specs.DeviceRows.{IsFirstFrom, device_row, device_rows,
 
 use std::alloc::Global;
 use ug_print::{device_line, malformed_line};
-use ug_rules::print_row;
+use ug_ruleset::print_row;
 use ug_table::{Standing, Table};
 use ug_types::{Judged, List, NoMemory, NodeName, Target, Text};
 

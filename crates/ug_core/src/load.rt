@@ -1,6 +1,6 @@
 // The rules of a disk's rule file.
 ghost use Rattle.std.specs.Prelude.{◌≡◌, false, All, IfOk};
-ghost use Rattle.ug_rules.specs.RuleFile.{IsSaveable, ReadsBack};
+ghost use Rattle.ug_ruleset.specs.RuleFile.{IsSaveable, ReadsBack};
 ghost use Rattle.ug_policy.specs.Rules.{rules_in};
 ghost use Rattle.ug_core.specs.Starting.{Loads};
 

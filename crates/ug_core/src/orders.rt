@@ -7,7 +7,7 @@ ghost use Rattle.ug_store.specs.Store.{DiskRoom, RunsDisk};
 ghost use Rattle.ug_table.specs.Orders.{ordering};
 ghost use Rattle.ug_table.specs.Standings.{numbered};
 ghost use Rattle.ug_table.specs.State.{kept_of};
-ghost use Rattle.ug_core.specs.Answering.{acting, answer_of, CanDo, CanMake, deed_after, HasLines, HasWholeLines, keeping, reply_to, replying};
+ghost use Rattle.ug_core.specs.Answering.{acting, answer_of, CanDo, CanMake, deed_after, HasReplyLines, HasWholeLines, keeping, reply_to, replying};
 ghost use Rattle.ug_core.specs.Changes.{CanChange, ChangeReads, ChangeSaves, HasRoom};
 ghost use Rattle.ug_core.specs.Durable.{WritesEvent, change_ordered};
 ghost use Rattle.ug_core.specs.Event.{daemon_of, NotesAtMost};
@@ -25,9 +25,10 @@ use ug_audit::{Auditor, Entry, Journal, Panel};
 use ug_kernel::Sysfs;
 use ug_print::RulesTextFault;
 use ug_proto::Reply;
+use ug_refusal::Refusal;
 use ug_store::{RuleDisk, Saved};
 use ug_table::Settled;
-use ug_types::{List, Principal, Refusal, Target, Text};
+use ug_types::{List, Principal, Target, Text};
 
 // The reply behind the writes. Where the device has left since, the order is done.
 fn reply_to(lines: List<Text>, settled: Settled) -> Reply
@@ -48,7 +49,7 @@ fn reply_to(lines: List<Text>, settled: Settled) -> Reply
 // What isn't in force is refused.
 fn deed_after(stored: Stored, deed: Deed) -> Deed
     ensures deed { result ≡ deed_after stored deed }
-    ensures lines { HasLines deed → HasLines result }
+    ensures lines { HasReplyLines deed → HasReplyLines result }
 {
     match stored.refusal() {
         Some(refusal) => Deed::Refuse(refusal),
@@ -229,7 +230,7 @@ impl<'z, R: Rng> Daemon<'z, R> {
         panel: &mut Panel,
     ) -> Reply
         requires can { CanDo (daemon_of self.old) deed }
-        requires lines { HasLines deed }
+        requires lines { HasReplyLines deed }
         requires spare { 7 + live_in panel.old ≤ self.old.report.entries.spare }
         ensures whole { HasWholeLines result }
         ensures runs { Runs Y.gives sysfs.old (acting who.now (daemon_of self.old) deed)

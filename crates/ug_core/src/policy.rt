@@ -5,12 +5,12 @@ ghost use Rattle.ug_rule.specs.Files.{file_read};
 ghost use Rattle.ug_table.specs.Allowed.{allowed_records};
 ghost use Rattle.ug_core.specs.Policy.{Judging, asks, by_class, clock_of, context_at, judging_of, policy_answer, policy_later, rules_if, stream_if};
 ghost use Rattle.ug_core.specs.Changes.{CanChange, ChangeReads, ChangeSaves, HasRoom, changed_by, is_saved, parameter_at, text_to_save, verdict_edit};
-ghost use Rattle.ug_rules.specs.RuleEdits.{EditReads, if_room_for};
-ghost use Rattle.ug_rules.specs.RuleFile.{FitsFile, IsSaveable, ReadsBack, permanent_rules, permanent_text};
+ghost use Rattle.ug_ruleset.specs.RuleEdits.{EditReads, if_room_for};
+ghost use Rattle.ug_ruleset.specs.RuleFile.{FitsFile, IsSaveable, ReadsBack, permanent_rules, permanent_text};
 ghost use Rattle.ug_policy.specs.Rules.{rules_in};
-ghost use Rattle.ug_rules.specs.RulePlaces.{has_rule, if_taken};
+ghost use Rattle.ug_ruleset.specs.RulePlaces.{has_rule, if_taken};
 ghost use Rattle.ug_lines.specs.Splitting.{AreLines};
-ghost use Rattle.ug_rules.specs.RuleRows.{rule_rows};
+ghost use Rattle.ug_ruleset.specs.RuleRows.{rule_rows};
 
 use crate::changes::Change;
 use crate::classes::{Class, Classes, cause_for, keep};
@@ -19,14 +19,13 @@ use rand_core::Rng;
 use std::alloc::Global;
 use ug_cond::{Allowed, Context, local_second};
 use ug_conf::Present;
+use ug_parameter::{Parameter, ParameterName};
 use ug_policy::{Mark, RuleList};
 use ug_print::{RulesTextFault, generated_rule};
-use ug_rules::{Edit, KeptRules};
+use ug_refusal::Refusal;
+use ug_ruleset::{Edit, KeptRules};
 use ug_table::{Judge, Table};
-use ug_types::{
-    After, Cause, DeviceRecord, Judged, List, Moment, NoMemory, Parameter, ParameterName, Query,
-    Refusal, Target, Text,
-};
+use ug_types::{After, Cause, DeviceRecord, Judged, List, Moment, NoMemory, Query, Target, Text};
 
 /// The settings for classes of devices, the rules in order, the local time zone, when devices are judged, and the generator of random words.
 #[derive(Drop)]

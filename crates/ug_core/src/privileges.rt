@@ -5,7 +5,8 @@ ghost use Rattle.ug_proto.specs.Privileges.{needs};
 
 use ug_acl::Acl;
 use ug_proto::Request;
-use ug_types::{Principal, Privilege, Refusal, Section};
+use ug_refusal::Refusal;
+use ug_types::{Principal, Privilege, Section};
 
 /// The refusal of a request that the user or group may not make: it names the first of the privileges of which one is needed,
 /// where none of them is held. It takes no memory.

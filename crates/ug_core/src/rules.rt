@@ -2,7 +2,7 @@
 ghost use Rattle.std.specs.Prelude.{◌≡◌, ◌<◌, ◌≤◌, ◌+◌, ◌-◌, ◌^◌, ◌++◌, ◌∷◌, [], false, All, IfOk, IfSome, None, OnErr, OnOk, Some, length};
 ghost use Rattle.ug_policy.specs.Edits.{new_entry};
 ghost use Rattle.ug_policy.specs.Kept.{StandsFor};
-ghost use Rattle.ug_rules.specs.RuleFile.{IsSaveable, ReadsBack};
+ghost use Rattle.ug_ruleset.specs.RuleFile.{IsSaveable, ReadsBack};
 ghost use Rattle.ug_policy.specs.Rules.{rules_in};
 ghost use Rattle.ug_core.specs.Starting.{HoldsJust, IsListOf, StartsWith, one_listed};
 
@@ -12,7 +12,7 @@ use std::marker::Model;
 use ug_lines::{LineReader, read_lines};
 use ug_policy::{Mark, RuleList};
 use ug_rule::parse_line;
-use ug_rules::list_text;
+use ug_ruleset::list_text;
 use ug_types::{After, FileFault, NoMemory, Rule};
 
 /// The most rules that a list has.

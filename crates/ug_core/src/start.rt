@@ -3,7 +3,7 @@ ghost use Rattle.std.specs.Prelude.{◌≡◌, [], false, All, IfErr, IfOk};
 ghost use Rattle.ug_store.specs.Store.{seen_by};
 ghost use Rattle.ug_core.specs.Event.{daemon_of};
 ghost use Rattle.ug_core.specs.Policy.{clock_of};
-ghost use Rattle.ug_rules.specs.RuleFile.{IsSaveable, ReadsBack};
+ghost use Rattle.ug_ruleset.specs.RuleFile.{IsSaveable, ReadsBack};
 ghost use Rattle.ug_policy.specs.Rules.{rules_in};
 ghost use Rattle.ug_core.specs.Settings.{classes_of, hub_default};
 ghost use Rattle.ug_core.specs.Starting.{Starts, StartsWithRules};
@@ -21,10 +21,10 @@ use std::alloc::Global;
 use ug_acl::Acl;
 use ug_audit::Entries;
 use ug_conf::Settings;
+use ug_kernel::Write;
 use ug_policy::RuleList;
 use ug_store::{RuleDisk, Store};
 use ug_table::Table;
-use ug_types::Write;
 
 /// The room of the entries that belong to no standing, and a place for each member of a panel.
 const ROOM: usize = 128;

@@ -3,14 +3,14 @@ use Rattle.std.proofs.Common.{◌≡◌, ℕ, suc, ◌||◌, List, [], ◌∷◌
 use Rattle.std.proofs.lemmas.List.{append-nil}
 use Rattle.ug_descr.specs.declared.descriptors.Config.{Config}
 use Rattle.ug_descr.specs.declared.descriptors.IfaceDescr.{IfaceDescr}
-use Rattle.ug_descr.specs.Reading.{config_of, interface_of, with_interface, with_piece}
+use Rattle.ug_descr.specs.Reading.{config_of, interface_fields, with_interface, with_descriptor}
 use Rattle.ug_descr.specs.Grammar.{configs_of, interfaces_of}
 use Rattle.ug_descr.proofs.Order.{is_config}
 use Rattle.ug_descr.proofs.Steps.{some_config}
 
 abbrev pub add_all : List Config → List (List ℕ) → List Config
 add_all configs [] = configs
-add_all configs (piece ∷ pieces) = add_all (with_piece configs piece) pieces
+add_all configs (piece ∷ pieces) = add_all (with_descriptor configs piece) pieces
 
 abbrev with_more : Config → List IfaceDescr → Config
 with_more c more = record c { items = c.items ++ more }
@@ -46,8 +46,8 @@ extended-new (c ∷ d ∷ configs) piece more = ap (λ (l : List Config). c ∷ 
 grouped_from : (configs : List Config) (pieces : List (List ℕ)) → add_all configs pieces ≡ extended configs (interfaces_of pieces) ++ configs_of pieces
 grouped_from configs [] = sym (append-nil (extended configs []) ∙ extended-nil configs)
 grouped_from configs (piece ∷ pieces) =
-    let h = grouped_from (with_piece configs piece) pieces in
-    let one = extended-one configs (interface_of piece) (interfaces_of pieces) in
+    let h = grouped_from (with_descriptor configs piece) pieces in
+    let one = extended-one configs (interface_fields piece) (interfaces_of pieces) in
     let new = extended-new configs piece (interfaces_of pieces) in
     let nil = extended-nil configs in
     let shift = append_assoc configs (config_of piece (interfaces_of pieces) ∷ []) (configs_of pieces) in
@@ -62,5 +62,5 @@ some_interface (c ∷ []) one = refl
 some_interface (c ∷ d ∷ configs) one = ap (λ (n : ℕ). suc n) (some_interface (d ∷ configs) one)
 
 -- a configuration stands where one stood, or where the piece is one
-pub some_piece : (configs : List Config) (piece : List ℕ) → some_config (with_piece configs piece) ≡ (some_config configs || is_config piece)
-some_piece configs piece = let e = some_interface configs (interface_of piece) in grind (arith, length-append)
+pub some_piece : (configs : List Config) (piece : List ℕ) → some_config (with_descriptor configs piece) ≡ (some_config configs || is_config piece)
+some_piece configs piece = let e = some_interface configs (interface_fields piece) in grind (arith, length-append)

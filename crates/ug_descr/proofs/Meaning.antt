@@ -8,8 +8,8 @@ use Rattle.ug_descr.specs.declared.descriptors.Descr.{Descr}
 use Rattle.std.specs.Prelude.{IfOk, IfErr}
 use Rattle.ug_descr.specs.declared.fault.DescrFault.{DescrFault}
 use Rattle.ug_descr.specs.declared.fault.DescrFault.TheVariants.{Malformed, Memory}
-use Rattle.ug_descr.specs.Reading.{Answers, Fault, decoded, descr_of, fault_at, read_from, under}
-use Rattle.ug_descr.specs.Grammar.{Bad, BadDescriptor, Good, IfMalformed, IsDescriptor, IsDevice, configs_of}
+use Rattle.ug_descr.specs.Reading.{AnswersDescr, PlacedFault, decoded, descr_of, kind_at, configs_from, under}
+use Rattle.ug_descr.specs.Grammar.{IsMalformed, BadDescriptor, IsWellFormed, IfMalformed, IsDescriptor, IsDeviceDescriptor, configs_of}
 use Rattle.ug_descr.proofs.Cut.{Cut, Stopped, Whole, all_read, cut}
 use Rattle.ug_descr.proofs.Faults.{faulty_first, is_faulty, is_least}
 use Rattle.ug_descr.proofs.Grouping.{grouped}
@@ -24,7 +24,7 @@ other_front : (bytes : List ℕ) → 18 ≤ length bytes → ((slice_index bytes
 unfolding decoded
 other_front bytes h n = grind arith
 
-fronted : (bytes : List ℕ) → 18 ≤ length bytes → slice_index bytes 0 ≡ 18 → slice_index bytes 1 ≡ 1 → decoded bytes ≡ under bytes (read_from [] 18 0 (drop 18 bytes))
+fronted : (bytes : List ℕ) → 18 ≤ length bytes → slice_index bytes 0 ≡ 18 → slice_index bytes 1 ≡ 1 → decoded bytes ≡ under bytes (configs_from [] 18 0 (drop 18 bytes))
 unfolding decoded
 fronted bytes h a b = grind arith
 
@@ -55,7 +55,7 @@ descr_front device tail configs h =
     simp (at 4 (omega arith), at 5 (omega arith), at 6 (omega arith), at 8 (omega arith), at 9 (omega arith), at 10 (omega arith), at 11 (omega arith), at 17 (omega arith)) refl
 
 -- a device descriptor and descriptors behind it are read
-pieces_read : (device tail : List ℕ) (others : List (List ℕ)) → IsDevice device → AllByRecursion IsDescriptor others → Ordered false others → decoded (device ++ (concat others ++ tail)) ≡ under (device ++ (concat others ++ tail)) (read_from (configs_of others) (18 + length (concat others)) 0 tail)
+pieces_read : (device tail : List ℕ) (others : List (List ℕ)) → IsDeviceDescriptor device → AllByRecursion IsDescriptor others → Ordered false others → decoded (device ++ (concat others ++ tail)) ≡ under (device ++ (concat others ++ tail)) (configs_from (configs_of others) (18 + length (concat others)) 0 tail)
 pieces_read device tail others d each order =
     let bytes : List ℕ = device ++ (concat others ++ tail) in
     let back : drop 18 bytes ≡ concat others ++ tail = ap (λ (k : ℕ). drop k bytes) (sym d.0) ∙ drop-append_seam device (concat others ++ tail) in
@@ -63,11 +63,11 @@ pieces_read device tail others d each order =
     let b : slice_index bytes 1 ≡ 1 = at_front device (concat others ++ tail) 1 (omega (arith, d.0)) ∙ d.2 in
     let long : 18 ≤ length bytes = omega (arith, d.0, length-append device (concat others ++ tail)) in
     fronted bytes long a b
-    ∙ ap (λ (l : List ℕ). under bytes (read_from [] 18 0 l)) back
+    ∙ ap (λ (l : List ℕ). under bytes (configs_from [] 18 0 l)) back
     ∙ ap (under bytes) (all_read [] 18 others tail each order)
-    ∙ ap (λ (l : List Config). under bytes (read_from l (18 + length (concat others)) 0 tail)) (grouped others)
+    ∙ ap (λ (l : List Config). under bytes (configs_from l (18 + length (concat others)) 0 tail)) (grouped others)
 
-pub good_read : (bytes : List ℕ) (descr : Descr) → Good bytes descr → decoded bytes ≡ Ok descr
+pub good_read : (bytes : List ℕ) (descr : Descr) → IsWellFormed bytes descr → decoded bytes ≡ Ok descr
 good_read bytes descr g =
     let all : List ℕ = g.device ++ (concat g.others ++ []) in
     let same : bytes ≡ all = g.joined ∙ ap (λ (l : List ℕ). g.device ++ l) (sym (append-nil (concat g.others))) in
@@ -76,12 +76,12 @@ good_read bytes descr g =
     ∙ ap (under all) (nothing_left (configs_of g.others) (18 + length (concat g.others)))
     ∙ ap (λ (d : Descr). Ok d) (descr_front g.device (concat g.others ++ []) (configs_of g.others) g.is_device.0 ∙ sym g.says)
 
-stopped_read : (device tail : List ℕ) (others : List (List ℕ)) (kind : ℕ) → IsDevice device → AllByRecursion IsDescriptor others → Ordered false others → 0 < length tail → fault_at (some_config (configs_of others)) tail ≡ Some kind → decoded (device ++ (concat others ++ tail)) ≡ Err (record { kind = kind; place = 18 + length (concat others) })
+stopped_read : (device tail : List ℕ) (others : List (List ℕ)) (kind : ℕ) → IsDeviceDescriptor device → AllByRecursion IsDescriptor others → Ordered false others → 0 < length tail → kind_at (some_config (configs_of others)) tail ≡ Some kind → decoded (device ++ (concat others ++ tail)) ≡ Err (record { kind = kind; place = 18 + length (concat others) })
 stopped_read device tail others kind d each order begins fault =
     pieces_read device tail others d each order
     ∙ ap (under (device ++ (concat others ++ tail))) (stop (configs_of others) (18 + length (concat others)) kind tail begins fault)
 
-pub bad_read : (bytes : List ℕ) (kind place : ℕ) → Bad bytes kind place → decoded bytes ≡ Err (record { kind = kind; place = place })
+pub bad_read : (bytes : List ℕ) (kind place : ℕ) → IsMalformed bytes kind place → decoded bytes ≡ Err (record { kind = kind; place = place })
 bad_read bytes kind place (inl s) = rw (s.0, s.1) (short bytes s.2)
 bad_read bytes kind place (inr (inl o)) = rw (o.0, o.1) (other_front bytes o.2 o.3)
 bad_read bytes kind place (inr (inr b)) =
@@ -93,27 +93,27 @@ bad_read bytes kind place (inr (inr b)) =
     omega (arith, g.is_device.0, length-append g.device (concat g.others), ap length g.joined, length-take-le place bytes (omega (arith, b.begins))) in
     let begins : 0 < length tail = omega (arith, b.begins, length-drop place bytes) in
     let configs : b.before.configs ≡ configs_of g.others = ap (λ (d : Descr). d.configs) g.says in
-    let fault : fault_at (some_config (configs_of g.others)) tail ≡ Some kind =
-    ap (λ (l : List Config). fault_at (some_config l) tail) (sym configs) ∙ faulty_first b.before tail kind b.faulty b.least in
+    let fault : kind_at (some_config (configs_of g.others)) tail ≡ Some kind =
+    ap (λ (l : List Config). kind_at (some_config l) tail) (sym configs) ∙ faulty_first b.before tail kind b.faulty b.least in
     ap decoded same
     ∙ stopped_read g.device tail g.others kind g.is_device g.each (ordered g.others g.in_order) begins fault
     ∙ ap (λ (p : ℕ). Err (record { kind = kind; place = p })) at
 
 -- what the bytes mean, and that it is read
 abbrev Meaning : List ℕ → Type 0
-Meaning bytes = ((descr : Descr) × Good bytes descr × (decoded bytes ≡ Ok descr)) ⊎ ((fault : Fault) × Bad bytes fault.kind fault.place × (decoded bytes ≡ Err fault))
+Meaning bytes = ((descr : Descr) × IsWellFormed bytes descr × (decoded bytes ≡ Ok descr)) ⊎ ((fault : PlacedFault) × IsMalformed bytes fault.kind fault.place × (decoded bytes ≡ Err fault))
 
-is_device : (bytes : List ℕ) → 18 ≤ length bytes → slice_index bytes 0 ≡ 18 → slice_index bytes 1 ≡ 1 → IsDevice (take 18 bytes)
+is_device : (bytes : List ℕ) → 18 ≤ length bytes → slice_index bytes 0 ≡ 18 → slice_index bytes 1 ≡ 1 → IsDeviceDescriptor (take 18 bytes)
 is_device bytes h a b =
     let long : length (take 18 bytes) ≡ 18 = length-take-le 18 bytes h in
     let at : (i : ℕ) → i < 18 → slice_index (take 18 bytes) i ≡ slice_index bytes i =
     λ i l. sym (at_front (take 18 bytes) (drop 18 bytes) i (omega (arith, l, long))) ∙ ap (λ (t : List ℕ). slice_index t i) (take-append-drop 18 bytes) in
     (long, at 0 (omega arith) ∙ a, at 1 (omega arith) ∙ b)
 
-whole_means : (bytes : List ℕ) → IsDevice (take 18 bytes) → Whole [] (drop 18 bytes) → Meaning bytes
+whole_means : (bytes : List ℕ) → IsDeviceDescriptor (take 18 bytes) → Whole [] (drop 18 bytes) → Meaning bytes
 whole_means bytes d w =
     let descr : Descr = descr_of (take 18 bytes) (configs_of w.pieces) in
-    let g : Good bytes descr = record {
+    let g : IsWellFormed bytes descr = record {
       device = take 18 bytes;
       others = w.pieces;
       joined = sym (take-append-drop 18 bytes) ∙ ap (λ (l : List ℕ). take 18 bytes ++ l) w.joined;
@@ -124,7 +124,7 @@ whole_means bytes d w =
     } in
     inl (descr, g, good_read bytes descr g)
 
-stopped_means : (bytes : List ℕ) → IsDevice (take 18 bytes) → Stopped [] (drop 18 bytes) → Meaning bytes
+stopped_means : (bytes : List ℕ) → IsDeviceDescriptor (take 18 bytes) → Stopped [] (drop 18 bytes) → Meaning bytes
 stopped_means bytes d s =
     let front : List ℕ = take 18 bytes ++ concat s.pieces in
     let place : ℕ = 18 + length (concat s.pieces) in
@@ -134,8 +134,8 @@ stopped_means bytes d s =
     let taken : take place bytes ≡ front = ap (λ (n : ℕ). take n bytes) (sym at) ∙ ap (take (length front)) all ∙ take-append_seam front s.tail in
     let left : drop place bytes ≡ s.tail = ap (λ (n : ℕ). drop n bytes) (sym at) ∙ ap (drop (length front)) all ∙ drop-append_seam front s.tail in
     let before : Descr = descr_of (take 18 bytes) (configs_of s.pieces) in
-    let fault : fault_at (some_config before.configs) (drop place bytes) ≡ Some s.kind =
-    ap (fault_at (some_config before.configs)) left ∙ ap (λ (l : List Config). fault_at (some_config l) s.tail) (sym (grouped s.pieces)) ∙ s.fault in
+    let fault : kind_at (some_config before.configs) (drop place bytes) ≡ Some s.kind =
+    ap (kind_at (some_config before.configs)) left ∙ ap (λ (l : List Config). kind_at (some_config l) s.tail) (sym (grouped s.pieces)) ∙ s.fault in
     let b : BadDescriptor bytes s.kind place = record {
       before = before;
       good = record {
@@ -151,7 +151,7 @@ stopped_means bytes d s =
       faulty = is_faulty before (drop place bytes) s.kind fault;
       least = λ lesser l f. is_least before (drop place bytes) s.kind lesser fault l f;
     } in
-    let f : Fault = record { kind = s.kind; place = place } in
+    let f : PlacedFault = record { kind = s.kind; place = place } in
     inr (f, inr (inr b), bad_read bytes s.kind place (inr (inr b)))
 
 pub meaning : (bytes : List ℕ) → Meaning bytes
@@ -159,62 +159,62 @@ meaning bytes =
     let S : Type 0 = length bytes < 18 in
     let O : Type 0 = (18 ≤ length bytes) × ((slice_index bytes 0 ≡ 18) × (slice_index bytes 1 ≡ 1) → ⊥) in
     let F : Type 0 = (18 ≤ length bytes) × (slice_index bytes 0 ≡ 18) × (slice_index bytes 1 ≡ 1) in
-    let behind : IsDevice (take 18 bytes) → Cut [] (drop 18 bytes) → Meaning bytes = λ d c. elim c [ inl w ↦ whole_means bytes d w | inr s ↦ stopped_means bytes d s ] in
+    let behind : IsDeviceDescriptor (take 18 bytes) → Cut [] (drop 18 bytes) → Meaning bytes = λ d c. elim c [ inl w ↦ whole_means bytes d w | inr s ↦ stopped_means bytes d s ] in
     elim (front_cases bytes) [
-      | inl s ↦ let f : Fault = record { kind = 1; place = length bytes } in inr (f, inl (refl, refl, s), short bytes s)
+      | inl s ↦ let f : PlacedFault = record { kind = 1; place = length bytes } in inr (f, inl (refl, refl, s), short bytes s)
       | inr r ↦ elim r [
-        | inl o ↦ let f : Fault = record { kind = 2; place = 0 } in inr (f, inr (inl (refl, refl, o.0, o.1)), other_front bytes o.0 o.1)
+        | inl o ↦ let f : PlacedFault = record { kind = 2; place = 0 } in inr (f, inr (inl (refl, refl, o.0, o.1)), other_front bytes o.0 o.1)
         | inr d ↦ behind (is_device bytes d.0 d.1 d.2) (cut (length (drop 18 bytes)) [] (drop 18 bytes) (omega arith))
       ]
     ]
 
-pub read_good : (bytes : List ℕ) (descr : Descr) → decoded bytes ≡ Ok descr → Good bytes descr
+pub read_good : (bytes : List ℕ) (descr : Descr) → decoded bytes ≡ Ok descr → IsWellFormed bytes descr
 read_good bytes descr e =
     elim (meaning bytes) [
-      | inl m ↦ let same : m.0 ≡ descr = cc in subst (Good bytes) same m.1
+      | inl m ↦ let same : m.0 ≡ descr = cc in subst (IsWellFormed bytes) same m.1
       | inr m ↦ let none : ⊥ = cc in absurd none
     ]
 
-pub read_bad : (bytes : List ℕ) (kind place : ℕ) → decoded bytes ≡ Err (record { kind = kind; place = place }) → Bad bytes kind place
+pub read_bad : (bytes : List ℕ) (kind place : ℕ) → decoded bytes ≡ Err (record { kind = kind; place = place }) → IsMalformed bytes kind place
 read_bad bytes kind place e =
     elim (meaning bytes) [
       | inl m ↦ let none : ⊥ = cc in absurd none
       | inr m ↦
-          let f : Fault = record { kind = kind; place = place } in
+          let f : PlacedFault = record { kind = kind; place = place } in
           let same : m.0 ≡ f = cc in
-          subst (λ (g : Fault). Bad bytes g.kind g.place) same m.1
+          subst (λ (g : PlacedFault). IsMalformed bytes g.kind g.place) same m.1
     ]
 
 -- what an answer says, where it is what was read
-pub answer_good : (bytes : List ℕ) (result : Result Descr DescrFault) → Answers result (decoded bytes) → IfOk result (λ descr. Good bytes descr)
+pub answer_good : (bytes : List ℕ) (result : Result Descr DescrFault) → AnswersDescr result (decoded bytes) → IfOk result (λ descr. IsWellFormed bytes descr)
 answer_good bytes (Ok descr) a = read_good bytes descr a
 answer_good bytes (Err e) a = tt
 
-pub answer_bad : (bytes : List ℕ) (result : Result Descr DescrFault) → Answers result (decoded bytes) → IfErr result (λ e. IfMalformed e (Bad bytes))
+pub answer_bad : (bytes : List ℕ) (result : Result Descr DescrFault) → AnswersDescr result (decoded bytes) → IfErr result (λ e. IfMalformed e (IsMalformed bytes))
 answer_bad bytes (Ok descr) a = tt
 answer_bad bytes (Err (Malformed kind place)) a = read_bad bytes kind place a
 answer_bad bytes (Err Memory) a = tt
 
-pub answer_only_good : (bytes : List ℕ) (result : Result Descr DescrFault) → Answers result (decoded bytes) → (descr : Descr) → Good bytes descr → Answers result (Ok descr)
-answer_only_good bytes result a descr g = subst (λ (read : Result Descr Fault). Answers result read) (good_read bytes descr g) a
+pub answer_only_good : (bytes : List ℕ) (result : Result Descr DescrFault) → AnswersDescr result (decoded bytes) → (descr : Descr) → IsWellFormed bytes descr → AnswersDescr result (Ok descr)
+answer_only_good bytes result a descr g = subst (λ (read : Result Descr PlacedFault). AnswersDescr result read) (good_read bytes descr g) a
 
-pub answer_only_bad : (bytes : List ℕ) (result : Result Descr DescrFault) → Answers result (decoded bytes) → (kind place : ℕ) → Bad bytes kind place → Answers result (Err (record { kind = kind; place = place }))
-answer_only_bad bytes result a kind place b = subst (λ (read : Result Descr Fault). Answers result read) (bad_read bytes kind place b) a
+pub answer_only_bad : (bytes : List ℕ) (result : Result Descr DescrFault) → AnswersDescr result (decoded bytes) → (kind place : ℕ) → IsMalformed bytes kind place → AnswersDescr result (Err (record { kind = kind; place = place }))
+answer_only_bad bytes result a kind place b = subst (λ (read : Result Descr PlacedFault). AnswersDescr result read) (bad_read bytes kind place b) a
 
-pub some_meaning : (bytes : List ℕ) → ((descr : Descr) × Good bytes descr) ⊎ ((kind : ℕ) × (place : ℕ) × Bad bytes kind place)
+pub some_meaning : (bytes : List ℕ) → ((descr : Descr) × IsWellFormed bytes descr) ⊎ ((kind : ℕ) × (place : ℕ) × IsMalformed bytes kind place)
 some_meaning bytes = elim (meaning bytes) [ inl m ↦ inl (m.0, m.1) | inr m ↦ inr (m.0.kind, m.0.place, m.1) ]
 
-pub same_descr : (bytes : List ℕ) (a b : Descr) → Good bytes a → Good bytes b → a ≡ b
+pub same_descr : (bytes : List ℕ) (a b : Descr) → IsWellFormed bytes a → IsWellFormed bytes b → a ≡ b
 same_descr bytes a b g h = let e = good_read bytes a g in let f = good_read bytes b h in cc
 
-pub same_fault : (bytes : List ℕ) (kind place other_kind other_place : ℕ) → Bad bytes kind place → Bad bytes other_kind other_place → (kind ≡ other_kind) × (place ≡ other_place)
+pub same_fault : (bytes : List ℕ) (kind place other_kind other_place : ℕ) → IsMalformed bytes kind place → IsMalformed bytes other_kind other_place → (kind ≡ other_kind) × (place ≡ other_place)
 same_fault bytes kind place other_kind other_place g h =
     let e = bad_read bytes kind place g in
     let f = bad_read bytes other_kind other_place h in
-    let A : Fault = record { kind = kind; place = place } in
-    let B : Fault = record { kind = other_kind; place = other_place } in
+    let A : PlacedFault = record { kind = kind; place = place } in
+    let B : PlacedFault = record { kind = other_kind; place = other_place } in
     let same : A ≡ B = cc in
-    (ap (λ (x : Fault). x.kind) same, ap (λ (x : Fault). x.place) same)
+    (ap (λ (x : PlacedFault). x.kind) same, ap (λ (x : PlacedFault). x.place) same)
 
-pub not_both : (bytes : List ℕ) (descr : Descr) (kind place : ℕ) → Good bytes descr → Bad bytes kind place → ⊥
+pub not_both : (bytes : List ℕ) (descr : Descr) (kind place : ℕ) → IsWellFormed bytes descr → IsMalformed bytes kind place → ⊥
 not_both bytes descr kind place g h = let e = good_read bytes descr g in let f = bad_read bytes kind place h in cc

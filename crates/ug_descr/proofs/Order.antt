@@ -1,6 +1,6 @@
 -- The order of the pieces, from the front.
 use Rattle.std.proofs.Common.{◌≡◌, ℕ, Bool, true, false, ◌||◌, nat_eq, List, [], ◌∷◌, ◌++◌, slice_index, refl, sym, ap, ◌∙◌, arith}
-use Rattle.ug_descr.specs.Grammar.{HasConfiguration, InOrder}
+use Rattle.ug_descr.specs.Grammar.{HasConfiguration, AreConfigured}
 
 abbrev pub is_config : List ℕ → Bool
 is_config piece = nat_eq (slice_index piece 1) 2
@@ -50,7 +50,7 @@ from_splits configured (p ∷ pieces) h = (
       sym (or_assoc configured (is_config p) (has_config front)) ∙ h (p ∷ front) piece rest (ap (λ (l : List (List ℕ)). p ∷ l) s) e),
 )
 
-pub ordered : (pieces : List (List ℕ)) → InOrder pieces → Ordered false pieces
+pub ordered : (pieces : List (List ℕ)) → AreConfigured pieces → Ordered false pieces
 ordered pieces h = from_splits false pieces (λ front piece rest s e. seen front (h front piece rest s e))
 
 to_splits : (configured : Bool) (pieces : List (List ℕ)) → Ordered configured pieces → (front : List (List ℕ)) (piece : List ℕ) (rest : List (List ℕ)) → pieces ≡ front ++ piece ∷ rest → slice_index piece 1 ≡ 4 → (configured || has_config front) ≡ true
@@ -66,5 +66,5 @@ to_splits configured (p ∷ pieces) h (f ∷ front) piece rest s e =
     let t = to_splits (configured || is_config p) pieces h.1 front piece rest tails e in
     ap (λ (q : List ℕ). configured || (is_config q || has_config front)) (sym same) ∙ or_assoc configured (is_config p) (has_config front) ∙ t
 
-pub in_order : (pieces : List (List ℕ)) → Ordered false pieces → InOrder pieces
+pub in_order : (pieces : List (List ℕ)) → Ordered false pieces → AreConfigured pieces
 in_order pieces h = λ front piece rest s e. stands front (to_splits false pieces h front piece rest s e)

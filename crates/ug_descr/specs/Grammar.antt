@@ -6,11 +6,12 @@ use Rattle.ug_descr.specs.declared.descriptors.Config.{Config}
 use Rattle.ug_descr.specs.declared.descriptors.IfaceDescr.{IfaceDescr}
 use Rattle.ug_descr.specs.declared.fault.DescrFault.{DescrFault}
 use Rattle.ug_descr.specs.declared.fault.DescrFault.TheVariants.{Malformed, Memory}
-use Rattle.ug_descr.specs.Reading.{config_of, descr_of, interface_of}
+use Rattle.ug_descr.specs.Reading.{config_of, descr_of, interface_fields}
 
 -- the descriptor of the device
-abbrev pub IsDevice : List ℕ → Type 0
-IsDevice piece = (length piece ≡ 18) × (slice_index piece 0 ≡ 18) × (slice_index piece 1 ≡ 1)
+abbrev pub IsDeviceDescriptor : List ℕ → Type 0
+IsDeviceDescriptor piece =
+    (length piece ≡ 18) × (slice_index piece 0 ≡ 18) × (slice_index piece 1 ≡ 1)
 
 -- another descriptor: its first byte is its length, and a configuration or an interface has at
 -- least 9 bytes
@@ -26,8 +27,8 @@ HasConfiguration pieces =
     × (pieces ≡ front ++ piece ∷ rest) × (slice_index piece 1 ≡ 2)
 
 -- each interface has a configuration before it
-abbrev pub InOrder : List (List ℕ) → Type 0
-InOrder pieces =
+abbrev pub AreConfigured : List (List ℕ) → Type 0
+AreConfigured pieces =
     (front : List (List ℕ)) (piece : List ℕ) (rest : List (List ℕ)) → pieces ≡ front ++ piece ∷ rest
     → slice_index piece 1 ≡ 4 → HasConfiguration front
 
@@ -36,7 +37,7 @@ abbrev pub interfaces_of : List (List ℕ) → List IfaceDescr
 interfaces_of [] = []
 interfaces_of (piece ∷ pieces) =
     if nat_eq (slice_index piece 1) 2 then [] else
-    if nat_eq (slice_index piece 1) 4 then interface_of piece ∷ interfaces_of pieces
+    if nat_eq (slice_index piece 1) 4 then interface_fields piece ∷ interfaces_of pieces
     else interfaces_of pieces
 
 -- each configuration has the interfaces between it and the next one
@@ -47,18 +48,18 @@ configs_of (piece ∷ pieces) =
     then config_of piece (interfaces_of pieces) ∷ configs_of pieces else configs_of pieces
 
 -- the bytes are well formed, and say this
-pub record Good (bytes : List ℕ) (descr : Descr) : Type 0 where
+pub record IsWellFormed (bytes : List ℕ) (descr : Descr) : Type 0 where
   pub device : List ℕ
   pub others : List (List ℕ)
   pub joined : bytes ≡ device ++ concat others
-  pub is_device : IsDevice device
+  pub is_device : IsDeviceDescriptor device
   pub each : AllByRecursion IsDescriptor others
-  pub in_order : InOrder others
+  pub in_order : AreConfigured others
   pub says : descr ≡ descr_of device (configs_of others)
 
 -- the faults at a descriptor, where what stands before it is well formed
-abbrev pub Faulty : Descr → List ℕ → ℕ → Type 0
-Faulty before rest kind =
+abbrev pub FaultyDescriptor : Descr → List ℕ → ℕ → Type 0
+FaultyDescriptor before rest kind =
     ((kind ≡ 3) × (slice_index rest 0 < 2))
     ⊎ (((kind ≡ 4) × (length rest < slice_index rest 0))
     ⊎ (((kind ≡ 5) × (slice_index rest 1 ≡ 2) × (slice_index rest 0 < 9))
@@ -68,13 +69,13 @@ Faulty before rest kind =
 -- the first fault stands at a descriptor, and none of a lesser kind does
 pub record BadDescriptor (bytes : List ℕ) (kind place : ℕ) : Type 0 where
   pub before : Descr
-  pub good : Good (take place bytes) before
+  pub good : IsWellFormed (take place bytes) before
   pub begins : place < length bytes
-  pub faulty : Faulty before (drop place bytes) kind
-  pub least : (lesser : ℕ) → lesser < kind → Faulty before (drop place bytes) lesser → ⊥
+  pub faulty : FaultyDescriptor before (drop place bytes) kind
+  pub least : (lesser : ℕ) → lesser < kind → FaultyDescriptor before (drop place bytes) lesser → ⊥
 
-abbrev pub IsShort : List ℕ → ℕ → ℕ → Type 0
-IsShort bytes kind place = (kind ≡ 1) × (place ≡ length bytes) × (length bytes < 18)
+abbrev pub IsTruncated : List ℕ → ℕ → ℕ → Type 0
+IsTruncated bytes kind place = (kind ≡ 1) × (place ≡ length bytes) × (length bytes < 18)
 
 abbrev pub IsOtherFront : List ℕ → ℕ → ℕ → Type 0
 IsOtherFront bytes kind place =
@@ -82,9 +83,9 @@ IsOtherFront bytes kind place =
     × ((slice_index bytes 0 ≡ 18) × (slice_index bytes 1 ≡ 1) → ⊥)
 
 -- the bytes are malformed, by this kind of fault at this place
-abbrev pub Bad : List ℕ → ℕ → ℕ → Type 0
-Bad bytes kind place =
-    IsShort bytes kind place ⊎ (IsOtherFront bytes kind place ⊎ BadDescriptor bytes kind place)
+abbrev pub IsMalformed : List ℕ → ℕ → ℕ → Type 0
+IsMalformed bytes kind place =
+    IsTruncated bytes kind place ⊎ (IsOtherFront bytes kind place ⊎ BadDescriptor bytes kind place)
 
 abbrev pub IfMalformed : DescrFault → (ℕ → ℕ → Type 0) → Type 0
 IfMalformed (Malformed kind place) P = P kind place

@@ -1,8 +1,8 @@
 // Descriptors read from their bytes.
 ghost use Rattle.std.specs.Prelude.{◌≡◌, ◌<◌, ◌≤◌, [], ◌+◌, length, drop, slice_index, vec_len, OnOk, IfOk, IfErr, ℕ};
 ghost use Rattle.ug_descr.specs.declared.descriptors.Descr.{Descr};
-ghost use Rattle.ug_descr.specs.Grammar.{Good, Bad, IfMalformed};
-ghost use Rattle.ug_descr.specs.Reading.{Answers, decoded, number_at, triple_at, fault_at, interface_of, config_of, with_piece, with_interface, read_from};
+ghost use Rattle.ug_descr.specs.Grammar.{IsWellFormed, IsMalformed, IfMalformed};
+ghost use Rattle.ug_descr.specs.Reading.{AnswersDescr, decoded, two_bytes_at, triple_at, kind_at, interface_fields, config_of, with_descriptor, with_interface, configs_from};
 
 use crate::descriptors::{Config, Descr, IfaceDescr};
 use crate::fault::DescrFault;
@@ -21,19 +21,20 @@ const LEAST_LENGTH: u8 = 9;
 
 /// What the bytes of the file `descriptors` say, or their first fault. Linear in the number of bytes.
 pub fn decode(alloc: Global, bytes: &[u8]) -> Result<Descr, DescrFault>
-    ensures good { IfOk result (λ descr. Good bytes.now descr) }
-    ensures only_good { (descr : Descr) → Good bytes.now descr → Answers result (Ok descr) }
-    ensures bad { IfErr result (λ e. IfMalformed e (Bad bytes.now)) }
-    ensures only_bad { (kind place : ℕ) → Bad bytes.now kind place
-        → Answers result (Err (record { kind = kind; place = place })) }
-    ensures exact { Answers result (decoded bytes.now) }
+    ensures good { IfOk result (λ descr. IsWellFormed bytes.now descr) }
+    ensures only_good { (descr : Descr) → IsWellFormed bytes.now descr
+        → AnswersDescr result (Ok descr) }
+    ensures bad { IfErr result (λ e. IfMalformed e (IsMalformed bytes.now)) }
+    ensures only_bad { (kind place : ℕ) → IsMalformed bytes.now kind place
+        → AnswersDescr result (Err (record { kind = kind; place = place })) }
+    ensures exact { AnswersDescr result (decoded bytes.now) }
 {
     read(alloc, bytes)
 }
 
 #[tactic(auto, unfolding(crate::specs::Reading::decoded))]
 fn read(alloc: Global, bytes: &[u8]) -> Result<Descr, DescrFault>
-    ensures { Answers result (decoded bytes.now) }
+    ensures { AnswersDescr result (decoded bytes.now) }
 {
     if bytes.len() < DEVICE_LENGTH {
         return Err(malformed(1, bytes.len()));
@@ -62,7 +63,7 @@ fn malformed(kind: u8, place: usize) -> DescrFault
 
 fn number_from(bytes: &[u8], at: usize) -> u16
     requires { at + 1 < length bytes.now }
-    ensures { result ≡ number_at bytes.now at }
+    ensures { result ≡ two_bytes_at bytes.now at }
 {
     u16::from_le_bytes([bytes[at], bytes[at + 1]])
 }
@@ -80,7 +81,7 @@ fn triple_from(bytes: &[u8], at: usize) -> Triple
 
 // The descriptors behind that of the device.
 fn configs_of(alloc: Global, bytes: &[u8]) -> Result<List<Config>, DescrFault>
-    ensures { Answers result (read_from [] 18 0 (drop 18 bytes.now)) }
+    ensures { AnswersDescr result (configs_from [] 18 0 (drop 18 bytes.now)) }
 {
     let mut configs = Vec::new(alloc);
     let mut at = DEVICE_LENGTH;
@@ -101,7 +102,7 @@ fn configs_of(alloc: Global, bytes: &[u8]) -> Result<List<Config>, DescrFault>
 // The fault at the descriptor that begins there.
 fn fault_kind(rest: &[u8], configured: bool) -> Option<u8>
     requires { 0 < length rest.now }
-    ensures { result ≡ fault_at configured rest.now }
+    ensures { result ≡ kind_at configured rest.now }
 {
     let length = rest[0];
     if length < 2 {
@@ -123,7 +124,7 @@ fn add_piece(alloc: Global, configs: &mut Vec<Config>, piece: &[u8]) -> Result<(
     requires configuration { slice_index piece.now 1 ≡ 2 → 9 ≤ length piece.now }
     requires interface { slice_index piece.now 1 ≡ 4 → 9 ≤ length piece.now }
     requires configured { slice_index piece.now 1 ≡ 4 → 0 < vec_len configs.old }
-    ensures { OnOk result (configs.new.items ≡ with_piece configs.old.items piece.now) }
+    ensures { OnOk result (configs.new.items ≡ with_descriptor configs.old.items piece.now) }
 {
     match piece[1] {
         CONFIGURATION => {
@@ -158,7 +159,7 @@ fn config_from(alloc: Global, piece: &[u8]) -> Config
 
 fn interface_from(piece: &[u8]) -> IfaceDescr
     requires { 9 ≤ length piece.now }
-    ensures { result ≡ interface_of piece.now }
+    ensures { result ≡ interface_fields piece.now }
 {
     IfaceDescr {
         number: piece[2],

@@ -14,7 +14,7 @@ use Rattle.ug_types.specs.Names.{sweep_cmp}
 use Rattle.ug_types.specs.Sweep.{sweep_total, sweep_exact}
 use Rattle.ug_kernel.specs.Kernel.{Live}
 use Rattle.ug_kernel.specs.declared.device.Device.{Device}
-use Rattle.ug_generate.specs.Policies.{live_at, live_below, place_cmp, places_of, AreInOrder}
+use Rattle.ug_generate.specs.Policies.{live_at, live_below, place_cmp, sorted_live_places, AreLiveInOrder}
 use Rattle.ug_generate.proofs.Members.{permuted}
 use Rattle.ug_generate.proofs.Sorting.{IsExact, sorting_moves, sorting_sorts, sorted_once}
 
@@ -55,11 +55,11 @@ below_is_live ds (suc n) p h = elim (has_cases (live_below ds n) (live_at n (sli
   | inr b ↦ at_is_live ds n p (slice_get ds n) refl b
 ]
 
-pub has_place : (ds : List Device) (places : List (List ℕ × ℕ)) (i : ℕ) (d : Device) → AreInOrder ds places → Live ds i d → Has places (d.name, i)
+pub has_place : (ds : List Device) (places : List (List ℕ × ℕ)) (i : ℕ) (d : Device) → AreLiveInOrder ds places → Live ds i d → Has places (d.name, i)
 has_place ds places i d o live =
     permuted (live_below ds (length ds)) places (d.name, i) o.all (has_below ds (length ds) i d (slice_get_within ds i d live.at) live)
 
-pub place_is_live : (ds : List Device) (places : List (List ℕ × ℕ)) (p : List ℕ × ℕ) → AreInOrder ds places → Has places p → (d : Device) × Live ds p.1 d
+pub place_is_live : (ds : List Device) (places : List (List ℕ × ℕ)) (p : List ℕ × ℕ) → AreLiveInOrder ds places → Has places p → (d : Device) × Live ds p.1 d
 place_is_live ds places p o h =
     below_is_live ds (length ds) p (permuted places (live_below ds (length ds)) p (IsPermutation-sym (live_below ds (length ds)) places o.all) h)
 
@@ -71,8 +71,8 @@ place_total = then_total (on_total (λ (p : List ℕ × ℕ). p.0) sweep_total) 
 place_exact : IsExact place_cmp
 place_exact = record { total = place_total; exact = exact_pairs sweep_cmp nat_cmp sweep_exact exact_unsigned }
 
-pub one_order : (ds : List Device) (places : List (List ℕ × ℕ)) → AreInOrder ds places → places ≡ places_of ds
+pub one_order : (ds : List Device) (places : List (List ℕ × ℕ)) → AreLiveInOrder ds places → places ≡ sorted_live_places ds
 one_order ds places o = sorted_once place_cmp place_exact (live_below ds (length ds)) places o.all o.order
 
-pub places_in_order : (ds : List Device) → AreInOrder ds (places_of ds)
+pub places_in_order : (ds : List Device) → AreLiveInOrder ds (sorted_live_places ds)
 places_in_order ds = record { all = sorting_moves place_cmp (live_below ds (length ds)); order = sorting_sorts place_cmp place_total (live_below ds (length ds)) }

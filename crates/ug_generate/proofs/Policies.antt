@@ -18,7 +18,7 @@ use Rattle.ug_record.specs.Records.{judged_of}
 use Rattle.ug_match.specs.Queries.{query_matches}
 use Rattle.ug_print.specs.Generated.{generated_of}
 use Rattle.ug_print.proofs.Alike.{itself}
-use Rattle.ug_generate.specs.Policies.{judged_in, rules_for, rules_at, first_match, parent_files, places_of, policy_rules, Admits, IsMadeOf, IsPolicy}
+use Rattle.ug_generate.specs.Policies.{judged_in, rules_for, rules_at, first_match, parent_files, sorted_live_places, policy_rules, Admits, IsMadeOf, IsPolicy}
 use Rattle.ug_generate.proofs.Members.{has_flat, flat_has}
 use Rattle.ug_generate.proofs.LivePlaces.{has_place, place_is_live, one_order, places_in_order}
 
@@ -37,7 +37,7 @@ one_policy ds with_port rules p =
     p.rules ∙ ap (λ (places : List (List ℕ × ℕ)). flat_map (λ (q : List ℕ × ℕ). rules_at ds with_port (slice_get ds q.1)) places) (one_order ds p.places p.order)
 
 pub is_policy : (ds : List Device) (with_port : Bool) → IsPolicy ds with_port (policy_rules ds with_port)
-is_policy ds with_port = record { places = places_of ds; order = places_in_order ds; rules = refl }
+is_policy ds with_port = record { places = sorted_live_places ds; order = places_in_order ds; rules = refl }
 
 pub only_policy : (ds : List Device) (with_port : Bool) (rules : List Rule) → (rules ≡ policy_rules ds with_port) ↔ IsPolicy ds with_port rules
 only_policy ds with_port rules = (λ e. subst (IsPolicy ds with_port) (sym e) (is_policy ds with_port), one_policy ds with_port rules)

@@ -44,11 +44,11 @@ abbrev pub sorted_by : {X : Type 0} → (X → X → Ordering) → List X → Li
 sorted_by cmp [] = []
 sorted_by cmp (x ∷ xs) = insert_by cmp x (sorted_by cmp xs)
 
-abbrev pub places_of : List Device → List (List ℕ × ℕ)
-places_of ds = sorted_by place_cmp (live_below ds (length ds))
+abbrev pub sorted_live_places : List Device → List (List ℕ × ℕ)
+sorted_live_places ds = sorted_by place_cmp (live_below ds (length ds))
 
 -- these are the live devices, each once, in the order of a sweep
-pub record AreInOrder (ds : List Device) (places : List (List ℕ × ℕ)) : Type 0 where
+pub record AreLiveInOrder (ds : List Device) (places : List (List ℕ × ℕ)) : Type 0 where
   pub all : IsPermutation (live_below ds (length ds)) places
   pub order : IsSorted place_cmp places
 
@@ -72,12 +72,13 @@ rules_at ds with_port (Some d) = rules_for with_port (judged_in ds d)
 
 -- the rules of the live devices in the order of a sweep
 abbrev pub policy_rules : List Device → Bool → List Rule
-policy_rules ds with_port = flat_map (λ p. rules_at ds with_port (slice_get ds p.1)) (places_of ds)
+policy_rules ds with_port =
+    flat_map (λ p. rules_at ds with_port (slice_get ds p.1)) (sorted_live_places ds)
 
 -- a rule for each live device of good record, in the order of a sweep
 pub record IsPolicy (ds : List Device) (with_port : Bool) (made : List Rule) : Type 0 where
   pub places : List (List ℕ × ℕ)
-  pub order : AreInOrder ds places
+  pub order : AreLiveInOrder ds places
   pub rules : made ≡ flat_map (λ p. rules_at ds with_port (slice_get ds p.1)) places
 
 -- ---- what they do

@@ -1,7 +1,7 @@
 // What is known of a device that is held in memory.
 ghost use Rattle.std.specs.Prelude.{◌≡◌, IfOk};
-ghost use Rattle.ug_kernel.specs.Called.{text_within, within};
-ghost use Rattle.ug_node.specs.Bound.{attrs_of, bytes_of, is_too_long, parent_attrs_of};
+ghost use Rattle.ug_kernel.specs.Called.{text_within, within_limit};
+ghost use Rattle.ug_node.specs.Bound.{attrs_of, file_bytes, is_too_long, parent_attrs_of};
 ghost use Rattle.ug_generate.specs.Policies.{judged_in as judged_there, parent_files as files_above};
 
 use std::alloc::Global;
@@ -17,9 +17,9 @@ struct FileRead {
 }
 
 fn read_within(alloc: Global, bytes: &[u8], limit: usize) -> Result<FileRead, NoMemory>
-    ensures bytes { IfOk result (λ file. file.bytes ≡ bytes_of (within limit bytes.now)) }
+    ensures bytes { IfOk result (λ file. file.bytes ≡ file_bytes (within_limit limit bytes.now)) }
     ensures too_long { IfOk result (λ file. file.too_long
-        ≡ is_too_long (within limit bytes.now)) }
+        ≡ is_too_long (within_limit limit bytes.now)) }
 {
     if bytes.len() > limit {
         return Ok(FileRead {
@@ -34,15 +34,15 @@ fn read_within(alloc: Global, bytes: &[u8], limit: usize) -> Result<FileRead, No
 }
 
 fn read_descriptors(alloc: Global, bytes: &[u8]) -> Result<FileRead, NoMemory>
-    ensures bytes { IfOk result (λ file. file.bytes ≡ bytes_of (within 131072 bytes.now)) }
+    ensures bytes { IfOk result (λ file. file.bytes ≡ file_bytes (within_limit 131072 bytes.now)) }
     ensures too_long { IfOk result (λ file. file.too_long
-        ≡ is_too_long (within 131072 bytes.now)) }
+        ≡ is_too_long (within_limit 131072 bytes.now)) }
 {
     read_within(alloc, bytes, 131_072)
 }
 
 fn read_text(alloc: Global, text: &Option<Text>) -> Result<FileRead, NoMemory>
-    ensures bytes { IfOk result (λ file. file.bytes ≡ bytes_of (text_within text.now)) }
+    ensures bytes { IfOk result (λ file. file.bytes ≡ file_bytes (text_within text.now)) }
     ensures too_long { IfOk result (λ file. file.too_long
         ≡ is_too_long (text_within text.now)) }
 {

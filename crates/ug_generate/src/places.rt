@@ -1,6 +1,6 @@
 // Where the live devices stand.
 ghost use Rattle.std.specs.Prelude.{◌≡◌, ◌++◌, length, IfOk, OnOk, Some};
-ghost use Rattle.ug_generate.specs.Policies.{live_at, live_below, AreInOrder};
+ghost use Rattle.ug_generate.specs.Policies.{live_at, live_below, AreLiveInOrder};
 
 use std::alloc::Global;
 use ug_kernel::Device;
@@ -37,7 +37,7 @@ pub fn places_in_order(
     alloc: Global,
     devices: &[Device],
 ) -> Result<Vec<(NodeName, usize)>, NoMemory>
-    ensures { IfOk result (λ places. AreInOrder devices.now places.items) }
+    ensures { IfOk result (λ places. AreLiveInOrder devices.now places.items) }
 {
     let mut places = live_places(alloc, devices)?;
     places.sort_unstable();

@@ -1,6 +1,6 @@
 -- The hash of a device.
 use Rattle.std.specs.Prelude.{ℕ, List, ◌++◌}
-use Rattle.ug_hex.specs.Digits.{hex_four}
+use Rattle.ug_numerals.specs.Digits.{hex_four}
 use Rattle.sha2.specs.Sha256.{sha256}
 use Rattle.base64.specs.Engines.{standard}
 use Rattle.base64.specs.GeneralPurpose.{encode_of}

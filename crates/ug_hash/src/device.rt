@@ -4,7 +4,7 @@ ghost use Rattle.ug_hash.specs.Hash.{hash_of};
 
 use base64::engine::general_purpose::STANDARD;
 use sha2::{Digest, Sha256};
-use ug_hex::four_digits;
+use ug_numerals::four_digits;
 
 /// The SHA-256 digest (FIPS 180-4) of the name, the vendor and the product as four hexadecimal digits each, the
 /// serial number and the descriptors, in base64 (RFC 4648, section 4) with padding.

@@ -4,10 +4,10 @@ use Rattle.ug_host.specs.declared.file.Content.{Content}
 use Rattle.ug_host.specs.declared.file.Content.TheVariants as content
 
 -- no more bytes than the limit
-abbrev pub Fits : ℕ → Content → Type 0
-Fits limit (content.Whole text) = length text ≤ limit
-Fits limit content.TooLong = Unit {0}
+abbrev pub FitsContent : ℕ → Content → Type 0
+FitsContent limit (content.Whole text) = length text ≤ limit
+FitsContent limit content.TooLong = Unit {0}
 
 abbrev pub FitsIfThere : Option Content → Type 0
 FitsIfThere None = Unit {0}
-FitsIfThere (Some content) = Fits 67108864 content
+FitsIfThere (Some content) = FitsContent 67108864 content

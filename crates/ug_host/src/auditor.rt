@@ -2,7 +2,7 @@
 ghost use Rattle.std.specs.Prelude.{◌≡◌, ◌∷◌, [], None};
 ghost use Rattle.std.specs.Option.{option_copied};
 ghost use Rattle.ug_types.specs.Ends.{IsCounted, Rose, Puts};
-ghost use Rattle.ug_audit.specs.Auditors.{TakesLine};
+ghost use Rattle.ug_audit.specs.Auditors.{TakesEntryLine};
 
 use std::io::Write;
 use ug_audit::{Auditor, Noted};
@@ -52,7 +52,7 @@ fn end_line<W: Write>(writer: &mut W) -> Put
 // Writes a line and a newline, and flushes them.
 #[tactic(auto, using(crate::proofs::Written::line_ended, crate::proofs::Written::line_cut))]
 fn write_line<W: Write>(writer: &mut W, line: &[u8]) -> Noted
-    ensures { TakesLine (W.contents writer.old) (W.contents writer.new) line.now result }
+    ensures { TakesEntryLine (W.contents writer.old) (W.contents writer.new) line.now result }
 {
     match put_all(writer, line) {
         Put::Done => match end_line(writer) {

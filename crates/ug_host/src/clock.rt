@@ -4,7 +4,8 @@ ghost use Rattle.ug_host.specs.Untold.{untold};
 
 use std::io;
 use std::time::{self, SystemTime};
-use ug_types::{Clock, Moment};
+use ug_links::Clock;
+use ug_types::Moment;
 
 /// The last moment that there is.
 const LAST: u64 = 250_000_000_000;

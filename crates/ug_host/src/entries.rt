@@ -2,7 +2,7 @@
 ghost use Rattle.std.specs.Prelude.{◌≡◌, nat_eq, IfOk, OnOk};
 ghost use Rattle.std.specs.List.{list_any};
 ghost use Rattle.ug_conf.specs.Files.{FitsFolder, pointwise};
-ghost use Rattle.ug_host.specs.Names.{AreNames, AreNamesIfThere};
+ghost use Rattle.ug_host.specs.Names.{AreFewNames, AreNamesIfThere};
 
 use crate::file::{FileFault, plain};
 use std::alloc::Global;
@@ -22,8 +22,8 @@ fn has_name(names: &[Text], name: &[u8]) -> bool
 
 // A name more. One that stands there already is a failure.
 fn add_name(names: &mut List<Text>, name: Text) -> Result<(), FileFault>
-    requires { AreNames names.old }
-    ensures { OnOk result (AreNames names.new) }
+    requires { AreFewNames names.old }
+    ensures { OnOk result (AreFewNames names.new) }
 {
     let known = names.as_slice();
     if known.len() >= MOST || has_name(known, name.bytes()) {

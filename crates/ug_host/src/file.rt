@@ -1,6 +1,6 @@
 // Files below a folder, and why one can't be had.
 ghost use Rattle.std.specs.Prelude.{◌≡◌, ◌≤◌, length, IfOk};
-ghost use Rattle.ug_host.specs.Content.{Fits};
+ghost use Rattle.ug_host.specs.Content.{FitsContent};
 
 use std::alloc::{AllocError, Global};
 use std::fs::OpenOptions;
@@ -117,7 +117,7 @@ pub fn read_content<F: Read>(
     file: &mut F,
     limit: usize,
 ) -> Result<Content, FileFault>
-    ensures { IfOk result (Fits limit) }
+    ensures { IfOk result (FitsContent limit) }
 {
     let mut bytes = Vec::new(alloc);
     let mut piece = [0u8; 4096];

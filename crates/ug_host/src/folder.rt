@@ -11,8 +11,8 @@ use crate::port::read_connect_type;
 use std::alloc::Global;
 use std::collections::BTreeMap;
 use std::rt::Files;
-use ug_kernel::{Listing, Opened, Probe, ReadOut, Wrote};
-use ug_types::{Attr, Control, Held, NodeName, Write};
+use ug_kernel::{Attr, Control, Held, Listing, Opened, Probe, ReadOut, Write, Wrote};
+use ug_types::NodeName;
 
 /// A control of a device that is held open, and the file that tells the device's number on its bus.
 #[derive(Drop)]

@@ -1,8 +1,8 @@
 // What was read of the hubs that are held open.
 use std::alloc::Global;
 use std::collections::BTreeMap;
-use ug_kernel::ReadOut;
-use ug_types::{Attr, NodeName, Text};
+use ug_kernel::{Attr, ReadOut};
+use ug_types::{NodeName, Text};
 
 /// The class of a hub, which its device descriptor has in its fifth byte (USB 2.0, 9.6.1 and 11.23.1).
 const HUB_CLASS: u8 = 9;

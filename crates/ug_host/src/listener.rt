@@ -3,7 +3,7 @@ ghost use Rattle.std.specs.Prelude.{◌≡◌, ◌++◌, nat_eq, codes, IfOk, If
 ghost use Rattle.std.specs.List.{find};
 ghost use Rattle.ug_conf.specs.Files.{pointwise};
 ghost use Rattle.ug_types.specs.Principals.{principal_text};
-ghost use Rattle.ug_host.specs.Sockets.{has_number, socket_path};
+ghost use Rattle.ug_host.specs.Sockets.{has_listener_number, socket_path};
 
 use crate::file::FileFault;
 use crate::listening::{listen_at, make_folder};
@@ -16,7 +16,8 @@ use std::io::{self, ErrorKind};
 use std::net::Net;
 use std::rt::Files;
 use std::str;
-use ug_types::{Principal, Ready};
+use ug_links::Ready;
+use ug_types::Principal;
 
 #[derive(Drop)]
 pub struct Listener {
@@ -79,7 +80,8 @@ impl Listener {
 
     /// The next client that waits there.
     pub fn accept(&self) -> Result<Option<Arrival>, FileFault>
-        ensures { IfOk result (λ found. IfSome found (λ arrival. arrival.listener ≡ self.now.number)) }
+        ensures { IfOk result (λ found.
+            IfSome found (λ arrival. arrival.listener ≡ self.now.number)) }
     {
         match self.socket.accept() {
             Ok((stream, _)) => Ok(Some(Arrival {
@@ -94,7 +96,7 @@ impl Listener {
 
 /// The listener of that number.
 pub fn find_listener(listeners: &[Listener], number: u32) -> Option<&Listener>
-    ensures { option_copied result ≡ find (has_number number) listeners.now }
+    ensures { option_copied result ≡ find (has_listener_number number) listeners.now }
 {
     listeners.iter().find(|listener| listener.number == number)
 }

@@ -2,7 +2,7 @@
 ghost use Rattle.std.specs.Prelude.{◌≡◌, ◌↔◌, ◌<◌, ◌≤◌, length, IfOk, IsErrAnd};
 ghost use Rattle.std.specs.IoError.{error_kind};
 ghost use Rattle.ug_links.specs.Steps.{FitsRead, FitsWrite};
-ghost use Rattle.ug_host.specs.Sockets.{is_open};
+ghost use Rattle.ug_host.specs.Sockets.{is_session_open};
 
 use crate::file::{FileFault, read_piece};
 use crate::listener::Arrival;
@@ -16,8 +16,7 @@ use std::io::{self, ErrorKind, Write};
 use std::net::Shutdown;
 use std::os::fd::AsRawFd;
 use std::rt::Files;
-use ug_links::{LinkRead, LinkWrote};
-use ug_types::{LinkId, Ready};
+use ug_links::{LinkId, LinkRead, LinkWrote, Ready};
 
 /// A client's session, over the daemon's end of its stream.
 ///
@@ -41,7 +40,8 @@ fn read_answer(read: io::Result<usize>, room: usize) -> LinkRead
     ensures size { FitsRead room result }
     ensures took { IfOk read (λ n. 0 < n → result ≡ LinkRead.Took n) }
     ensures ended { IfOk read (λ n. n ≡ 0 → result ≡ LinkRead.End) }
-    ensures waits { (result ≡ LinkRead.NotYet) ↔ IsErrAnd read (λ e. error_kind e ≡ ErrorKind.WouldBlock) }
+    ensures waits { (result ≡ LinkRead.NotYet)
+        ↔ IsErrAnd read (λ e. error_kind e ≡ ErrorKind.WouldBlock) }
 {
     match read {
         Ok(0) => LinkRead::End,
@@ -57,7 +57,8 @@ fn write_answer(written: io::Result<usize>, size: usize) -> LinkWrote
     ensures size { FitsWrite size result }
     ensures sent { IfOk written (λ n. 0 < n → result ≡ LinkWrote.Sent n) }
     ensures none { IfOk written (λ n. n ≡ 0 → result ≡ LinkWrote.Failed) }
-    ensures waits { (result ≡ LinkWrote.NotYet) ↔ IsErrAnd written (λ e. error_kind e ≡ ErrorKind.WouldBlock) }
+    ensures waits { (result ≡ LinkWrote.NotYet)
+        ↔ IsErrAnd written (λ e. error_kind e ≡ ErrorKind.WouldBlock) }
 {
     match written {
         Ok(0) => LinkWrote::Failed,
@@ -84,7 +85,7 @@ impl Peer {
 
     /// Whether it is the session of that id, and isn't over.
     pub fn is_open(&self, id: LinkId) -> bool
-        ensures { result ≡ is_open id self.now }
+        ensures { result ≡ is_session_open id self.now }
     {
         self.id.0 == id.0 && !self.over
     }

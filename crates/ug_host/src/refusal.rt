@@ -2,7 +2,7 @@
 ghost use Rattle.std.specs.Prelude.{◌≡◌, None};
 ghost use Rattle.std.specs.Option.{option_copied};
 ghost use Rattle.ug_types.specs.Ends.{IsCounted, Rose};
-ghost use Rattle.ug_audit.specs.Auditors.{TakesLine};
+ghost use Rattle.ug_audit.specs.Auditors.{TakesEntryLine};
 
 use std::cell::Cell;
 use std::rc::Rc;

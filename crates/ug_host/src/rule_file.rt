@@ -1,8 +1,8 @@
 // The rule file on this machine.
 ghost use Rattle.std.specs.Prelude.{◌≡◌, ◌≤◌, ◌<◌, ◌+◌, ◌-◌, ◌^◌, true, None};
 ghost use Rattle.ug_types.specs.Ends.{IsCounted, Rose};
-ghost use Rattle.ug_store.specs.DiskCalls.{CountsOnDisk, FitsFile, NeedsNoMemory, failed_load, failed_answer};
-ghost use Rattle.ug_host.specs.RuleFiles.{CallsAt, moved};
+ghost use Rattle.ug_store.specs.DiskCalls.{CountsOnDisk, FitsLoaded, NeedsNoMemory, failed_load, failed_answer};
+ghost use Rattle.ug_host.specs.RuleFiles.{CallsAt, same_path};
 ghost use Rattle.ug_host.specs.Untold.{untold};
 
 use crate::at_once::tell;
@@ -74,7 +74,7 @@ where
     }
 
     fn read(&self, alloc: Global) -> Loaded
-        ensures { FitsFile result }
+        ensures { FitsLoaded result }
     {
         let path = match text_of(self.path.bytes()) {
             Ok(path) => path,
@@ -279,7 +279,8 @@ where
 
     ghost counted = { λ s call answer t keeps. keeps.counts };
 
-    ghost stays = { λ s call answer t path keeps aimed. moved s.path t.path path keeps.same aimed };
+    ghost stays = { λ s call answer t path keeps aimed.
+        same_path s.path t.path path keeps.same aimed };
 
     fn aim(&mut self, alloc: Global, path: &[u8]) -> Result<(), NoMemory> {
         self.path = Text::of(alloc, path)?;

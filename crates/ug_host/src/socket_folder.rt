@@ -2,7 +2,7 @@
 ghost use Rattle.std.specs.Prelude.{◌≡◌, ◌<◌, ◌≤◌, ◌+◌, ◌-◌, ◌^◌, ◌++◌, ◌∷◌, [], length, map, position, true, None, IfOk, IfSome};
 ghost use Rattle.ug_types.specs.Ends.{IsCounted, Rose};
 ghost use Rattle.ug_links.specs.Steps.{FitsRead, FitsWrite};
-ghost use Rattle.ug_host.specs.Sockets.{is_open};
+ghost use Rattle.ug_host.specs.Sockets.{is_session_open};
 ghost use Rattle.ug_host.specs.Untold.{untold};
 
 use crate::file::FileFault;
@@ -15,8 +15,8 @@ use std::alloc::Global;
 use std::io;
 use std::net::Net;
 use std::rt::Files;
-use ug_links::{Accepted, LinkRead, LinkWrote, Links, Listening};
-use ug_types::{LinkId, Principal};
+use ug_links::{Accepted, LinkId, LinkRead, LinkWrote, Links, Listening};
+use ug_types::Principal;
 
 /// The most sessions of one listener, and of all but root's.
 const MOST_OF_ONE: usize = 16;
@@ -206,7 +206,7 @@ impl<R: Files + Net> SocketFolder<R> {
 
 // The place of a session that isn't over.
 fn place_of(peers: &[Peer], id: LinkId) -> Option<usize>
-    ensures { result ≡ position (is_open id) peers.now }
+    ensures { result ≡ position (is_session_open id) peers.now }
 {
     peers.iter().position(|peer| peer.is_open(id))
 }
@@ -214,7 +214,7 @@ fn place_of(peers: &[Peer], id: LinkId) -> Option<usize>
 // A session that isn't over.
 #[tactic(auto, using(crate::proofs::Looked::open_at))]
 fn open_peer(peers: &mut [Peer], id: LinkId) -> Option<&mut Peer>
-    ensures { IfSome result (λ peer. is_open id peer.now ≡ true) }
+    ensures { IfSome result (λ peer. is_session_open id peer.now ≡ true) }
 {
     match place_of(peers, id) {
         Some(i) => Some(&mut peers[i]),

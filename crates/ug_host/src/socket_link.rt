@@ -9,7 +9,8 @@ use crate::reached::{Reached, refused};
 use std::alloc::Global;
 use std::net::Net;
 use std::os::unix::net::UnixStream;
-use ug_types::{Dialled, Link, Put, Taken, Text};
+use ug_links::{Dialled, Link};
+use ug_types::{Put, Taken, Text};
 
 /// A Unix stream, whose calls wait for the daemon. What comes is told by the machine alone.
 #[derive(Drop)]

@@ -1,6 +1,6 @@
 // A waiter for sockets, which looks for what the kernel announces too.
 ghost use Rattle.std.specs.Prelude.{◌≡◌, length, None};
-ghost use Rattle.ug_types.specs.Waits.{FitsWait};
+ghost use Rattle.ug_links.specs.Waits.{FitsWait};
 ghost use Rattle.ug_host.specs.Untold.{untold};
 
 use crate::announced::Announced;
@@ -12,7 +12,7 @@ use std::io;
 use std::net::Net;
 use std::rt::Files;
 use std::time::Duration;
-use ug_types::{Ready, Waiter, Woken};
+use ug_links::{Ready, Waiter, Woken};
 
 /// The most tokens of a wait.
 const TOKENS: usize = 256;

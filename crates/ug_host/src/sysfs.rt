@@ -1,14 +1,14 @@
 // The files of USB devices on this machine.
 ghost use Rattle.std.specs.Prelude.{◌≡◌, ◌≤◌, ◌<◌, ◌+◌, ◌-◌, ◌^◌, true, [], None, refl};
-ghost use Rattle.ug_kernel.specs.Calls.{Counts, raised, failed_listing, failed_open, failed_read, failed_probe, failed_put};
+ghost use Rattle.ug_kernel.specs.Calls.{Counts, raised, failed_listing, failed_open, failed_read, is_probe_failed, failed_put};
 ghost use Rattle.ug_kernel.specs.Few.{HasFew, AreDistinct};
 ghost use Rattle.ug_host.specs.Untold.{untold};
 
 use crate::folder::Folder;
 use std::alloc::Global;
 use std::rt::Files;
-use ug_kernel::{Listing, Opened, Probe, ReadOut, Sysfs, Wrote};
-use ug_types::{Attr, Control, Held, NodeName, Write};
+use ug_kernel::{Attr, Control, Held, Listing, Opened, Probe, ReadOut, Sysfs, Write, Wrote};
+use ug_types::NodeName;
 
 /// The folder in which sysfs lists the USB devices, `/sys/bus/usb/devices` (sysfs-bus-usb), or one like it. What it answers is told
 /// by the machine alone. A held file is taken for one of a device that is gone where reading it answers ENODEV; and where it answers
@@ -39,7 +39,8 @@ impl<R: Files + AllocGlobal + Clone + Drop> SysfsFolder<R> {
         ensures calls { self.new.calls ≡ raised self.old.calls }
         ensures never_falls { self.old.faults ≤ self.new.faults }
         ensures by_one { self.new.faults ≤ self.old.faults + 1 }
-        ensures rises { failed ≡ true → self.old.faults < 2 ^ 64 - 1 → self.old.faults < self.new.faults }
+        ensures rises { failed ≡ true → self.old.faults < 2 ^ 64 - 1
+            → self.old.faults < self.new.faults }
     {
         self.calls = self.calls.saturating_add(1);
         if failed {
@@ -67,7 +68,7 @@ fn is_failed_read(answer: &ReadOut) -> bool
 }
 
 fn is_failed_probe(answer: Probe) -> bool
-    ensures { result ≡ failed_probe answer }
+    ensures { result ≡ is_probe_failed answer }
 {
     matches!(answer, Probe::Failed)
 }

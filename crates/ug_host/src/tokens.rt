@@ -3,7 +3,7 @@ ghost use Rattle.std.specs.Prelude.{◌≡◌, ◌<◌, ◌≤◌, ◌^◌, leng
 ghost use Rattle.ug_host.specs.Tokens.{token_number};
 
 use mio::{Events, Token};
-use ug_types::{LinkId, Ready};
+use ug_links::{LinkId, Ready};
 
 /// Sessions are numbered from here, and below it are the listeners' numbers.
 pub const FIRST_SESSION: u64 = 4_294_967_296;

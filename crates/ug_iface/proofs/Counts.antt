@@ -4,7 +4,7 @@ use Rattle.std.proofs.lemmas.List.{append-nil, append_assoc}
 use Rattle.std.specs.declared.cmp.Ordering.{Ordering}
 use Rattle.ug_types.specs.declared.record.Triple.{Triple}
 use Rattle.ug_kernel.specs.Along.{IsAbove}
-use Rattle.ug_kernel.specs.Calls.{Told, Counted}
+use Rattle.ug_kernel.specs.Calls.{ToldAnswer, Counted}
 use Rattle.ug_kernel.specs.declared.calls.Probe.{Probe}
 use Rattle.ug_kernel.specs.declared.calls.Probe.TheVariants as probe
 use Rattle.ug_kernel.specs.declared.calls.Wrote.{Wrote}
@@ -67,7 +67,7 @@ rises_then a b c (entry.Wrote number name out ∷ es) fs h k = rises_then a b c 
 rises_then a b c (entry.Fault number name count ∷ es) fs h k = (h.0, rises_then count b c es fs h.1 k)
 rises_then a b c (entry.Memory number name ∷ es) fs h k = rises_then a b c es fs h k
 
-above_of : {X : Type 0} (failed : X → Bool) (told : Told X) (a f d g : ℕ) → Counted failed told a f d g → failed told.answer ≡ true → IsAbove f told.count × (told.count ≤ g)
+above_of : {X : Type 0} (failed : X → Bool) (told : ToldAnswer X) (a f d g : ℕ) → Counted failed told a f d g → failed told.answer ≡ true → IsAbove f told.count × (told.count ≤ g)
 above_of failed told a f d g h e =
     let r = h.rises e in
     ((omega (arith, h.count, h.never_falls), λ low. omega (arith, h.count, r low)), omega (arith, h.count))

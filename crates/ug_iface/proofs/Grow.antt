@@ -4,7 +4,7 @@ use Rattle.ug_kernel.specs.Kernel.{Kernel, Live}
 use Rattle.ug_kernel.specs.Quiet.{Quiet}
 use Rattle.ug_kernel.proofs.Quiet.{get_left, quiet_refl, quiet_trans, moves_quiet}
 use Rattle.ug_kernel.proofs.Grow.{some_same, quiet_grows}
-use Rattle.ug_kernel.proofs.Held.{live_before}
+use Rattle.ug_kernel.proofs.HeldFiles.{live_before}
 use Rattle.ug_iface.specs.declared.interface.Interface.{Interface}
 use Rattle.ug_iface.specs.declared.name.IfaceName.{IfaceName}
 use Rattle.ug_iface.specs.declared.calls.IfaceOpened.{IfaceOpened}

@@ -8,7 +8,7 @@ use Rattle.std.specs.declared.cmp.Ordering.{Ordering}
 use Rattle.ug_types.specs.Elements.{Has, AllDistinct}
 use Rattle.ug_types.specs.declared.record.Triple.{Triple}
 use Rattle.ug_kernel.proofs.Grow.{quiet_grows}
-use Rattle.ug_kernel.proofs.Held.{live_before}
+use Rattle.ug_kernel.proofs.HeldFiles.{live_before}
 use Rattle.ug_iface.specs.declared.name.IfaceName.{IfaceName}
 use Rattle.ug_iface.specs.declared.calls.IfaceListing.{IfaceListing}
 use Rattle.ug_iface.specs.declared.calls.IfaceListing.TheVariants as listing

@@ -4,9 +4,9 @@ use Rattle.std.proofs.lemmas.List.{append-nil, append_assoc}
 use Rattle.ug_types.specs.Elements.{Has}
 use Rattle.ug_types.proofs.Elements.{has_left, has_right}
 use Rattle.ug_types.specs.declared.record.Triple.{Triple}
-use Rattle.ug_types.specs.declared.control.Control.TheVariants.{Authorized}
+use Rattle.ug_kernel.specs.declared.control.Control.TheVariants.{Authorized}
 use Rattle.ug_kernel.proofs.Grow.{quiet_grows}
-use Rattle.ug_kernel.proofs.Held.{live_before}
+use Rattle.ug_kernel.proofs.HeldFiles.{live_before}
 use Rattle.ug_iface.specs.declared.name.IfaceName.{IfaceName}
 use Rattle.ug_iface.specs.declared.settle.IfaceEntry.{IfaceEntry}
 use Rattle.ug_iface.specs.declared.settle.Passed.{Passed}

@@ -1,7 +1,7 @@
 -- The calls of the interfaces' files, and what each may be answered.
 use Rattle.std.specs.Prelude.{◌≡◌, ℕ, ◌≤◌, Bool, true, false, List, length}
 use Rattle.ug_types.specs.Elements.{Has, AllDistinct}
-use Rattle.ug_kernel.specs.Calls.{Told, Closing, Counted, failed_probe, failed_put}
+use Rattle.ug_kernel.specs.Calls.{ToldAnswer, Closing, Counted, is_probe_failed, failed_put}
 use Rattle.ug_kernel.specs.declared.calls.Probe.{Probe}
 use Rattle.ug_kernel.specs.declared.calls.Wrote.{Wrote}
 use Rattle.ug_iface.specs.declared.name.IfaceName.{IfaceName}
@@ -25,12 +25,12 @@ pub data IfaceCall : Type 0 where
   Close : (held : ℕ) → IfaceCall
 
 abbrev pub IfaceAnswer : IfaceCall → Type 0
-IfaceAnswer (Names_of name) = Told IfaceListing
-IfaceAnswer (Open name) = Told IfaceOpened
-IfaceAnswer (Read name) = Told IfaceRead
-IfaceAnswer (Ask_device held) = Told Probe
-IfaceAnswer (Ask held) = Told Probe
-IfaceAnswer (Put_off held) = Told Wrote
+IfaceAnswer (Names_of name) = ToldAnswer IfaceListing
+IfaceAnswer (Open name) = ToldAnswer IfaceOpened
+IfaceAnswer (Read name) = ToldAnswer IfaceRead
+IfaceAnswer (Ask_device held) = ToldAnswer Probe
+IfaceAnswer (Ask held) = ToldAnswer Probe
+IfaceAnswer (Put_off held) = ToldAnswer Wrote
 IfaceAnswer (Close held) = Closing
 
 abbrev pub failed_iface_listing : IfaceListing → Bool
@@ -50,8 +50,8 @@ abbrev pub CountsIface : (call : IfaceCall) → IfaceAnswer call → ℕ → ℕ
 CountsIface (Names_of name) a c f d g = Counted failed_iface_listing a c f d g
 CountsIface (Open name) a c f d g = Counted failed_iface_open a c f d g
 CountsIface (Read name) a c f d g = Counted failed_iface_read a c f d g
-CountsIface (Ask_device held) a c f d g = Counted failed_probe a c f d g
-CountsIface (Ask held) a c f d g = Counted failed_probe a c f d g
+CountsIface (Ask_device held) a c f d g = Counted is_probe_failed a c f d g
+CountsIface (Ask held) a c f d g = Counted is_probe_failed a c f d g
 CountsIface (Put_off held) a c f d g = Counted failed_put a c f d g
 CountsIface (Close held) a c f d g = (d ≡ c) × (g ≡ f)
 

@@ -1,7 +1,7 @@
 -- What a pass says of devices and interfaces: who was switched off, and who is off.
 use Rattle.std.specs.Prelude.{◌<◌, ◌-◌, ◌^◌, ◌≡◌, ℕ, true, false, ◌⊎◌, List, [], ◌∷◌, ◌++◌, Some, slice_get, Option}
 use Rattle.ug_types.specs.Elements.{Has, AllDistinct}
-use Rattle.ug_types.specs.declared.control.Control.TheVariants.{Authorized}
+use Rattle.ug_kernel.specs.declared.control.Control.TheVariants.{Authorized}
 use Rattle.ug_kernel.specs.declared.device.Device.{Device}
 use Rattle.ug_kernel.specs.Kernel.{Kernel, Live}
 use Rattle.ug_iface.specs.declared.interface.Interface.{Interface}

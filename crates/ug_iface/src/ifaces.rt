@@ -8,8 +8,8 @@ ghost use Rattle.ug_kernel.specs.Calls.{Answer, Call, Closed};
 use crate::calls::{IfaceHeld, IfaceListing, IfaceOpened, IfaceRead};
 use crate::name::IfaceName;
 use std::alloc::Global;
-use ug_kernel::{Probe, Sysfs, Wrote};
-use ug_types::{Held, NodeName};
+use ug_kernel::{Held, Probe, Sysfs, Wrote};
+use ug_types::NodeName;
 
 /// The files of the interfaces of USB devices (sysfs-bus-usb). An interface can come or go, and its device with it, at
 /// any moment, and each call can fail. The calls are numbered, and their failures counted, together with those of the

@@ -7,8 +7,8 @@ use crate::calls::{IfaceHeld, IfaceOpened, IfaceRead};
 use crate::ifaces::Ifaces;
 use crate::name::IfaceName;
 use std::alloc::Global;
-use ug_kernel::Probe;
-use ug_types::{Held, Triple};
+use ug_kernel::{Held, Probe};
+use ug_types::Triple;
 
 /// What was found of an interface. Its file is closed on each answer but `Here`.
 #[derive(Clone, Copy, Debug, PartialEq, Eq)]

@@ -14,9 +14,9 @@ use crate::look::{Look, look_at};
 use crate::name::IfaceName;
 use crate::rules::IfaceRule;
 use std::alloc::Global;
-use ug_kernel::Wrote;
+use ug_kernel::{Held, Wrote};
 use ug_match::matches;
-use ug_types::{DeviceRecord, Held, Iface, List, NodeName, Triple};
+use ug_types::{DeviceRecord, Iface, List, NodeName, Triple};
 
 /// What is told of an interface, with the number of its device's standing.
 #[derive(Clone, Copy, Debug, PartialEq, Eq)]

@@ -5,19 +5,19 @@ use Rattle.std.specs.List.{All, insert, remove}
 use Rattle.std.proofs.lemmas.List.{length-take-le, take-append-drop}
 use Rattle.std.proofs.lemmas.List.Edits.{length-insert, length-remove}
 use Rattle.ug_index.specs.declared.reach.Reach.{Reach}
-use Rattle.ug_index.specs.Lists.{AreKept, ArePutIn, AreTakenOut, HasRoom, IsIndex, IsKept, IsPutIn, IsTakenOut}
+use Rattle.ug_index.specs.Lists.{AreKept, ArePutIn, AreTakenOut, HasRoomForPlace, IsIndex, IsKeptList, IsPutIn, IsTakenOut}
 use Rattle.ug_index.specs.Places.{count_before, places_by, put_in, reaches_to, taken_out}
 use Rattle.ug_index.proofs.Exact.{all_below, places_below, put_exact, taken_exact, taken_there}
 
 -- one list
-pub has_room : (test : Reach → Bool) (places : Vec ℕ) (xs : List Reach) (spare : ℕ) → IsKept test places xs spare → length xs < 65536 → 0 < spare → HasRoom places
+pub has_room : (test : Reach → Bool) (places : Vec ℕ) (xs : List Reach) (spare : ℕ) → IsKeptList test places xs spare → length xs < 65536 → 0 < spare → HasRoomForPlace places
 has_room test places xs spare k few some = record {
   room = omega (arith, k.room);
   low = subst (λ (ps : List ℕ). All (λ p. p < 2 ^ 32 - 1) ps) (sym k.items)
       (all_below (length xs) (2 ^ 32 - 1) (places_by test xs) (omega arith) (places_below test 0 (length xs) xs (omega arith)));
 }
 
-pub kept_put : (test : Reach → Bool) (places new : Vec ℕ) (xs : List Reach) (spare at : ℕ) (x : Reach) → IsKept test places xs spare → IsPutIn (test x) at places new → at ≤ length xs → 0 < spare → IsKept test new (insert xs at x) (spare - 1)
+pub kept_put : (test : Reach → Bool) (places new : Vec ℕ) (xs : List Reach) (spare at : ℕ) (x : Reach) → IsKeptList test places xs spare → IsPutIn (test x) at places new → at ≤ length xs → 0 < spare → IsKeptList test new (insert xs at x) (spare - 1)
 kept_put test places new xs spare at x k put within some = record {
   items =
       put.items
@@ -32,14 +32,14 @@ split_there [] at x lt e = absurd (omega arith)
 split_there (y ∷ xs) zero x lt e = ap (λ (v : Reach). v ∷ xs) (sym e)
 split_there (y ∷ xs) (suc at) x lt e = ap (λ (v : List Reach). y ∷ v) (split_there xs at x (omega arith) e)
 
-pub kept_there : (test : Reach → Bool) (places : Vec ℕ) (xs : List Reach) (spare at : ℕ) (x : Reach) → IsKept test places xs spare → at < length xs → x ≡ get_or xs at x → test x ≡ true → 0 < count_before (suc at) places.items
+pub kept_there : (test : Reach → Bool) (places : Vec ℕ) (xs : List Reach) (spare at : ℕ) (x : Reach) → IsKeptList test places xs spare → at < length xs → x ≡ get_or xs at x → test x ≡ true → 0 < count_before (suc at) places.items
 kept_there test places xs spare at x k within there passes =
     let counted : count_before (suc at) places.items ≡ length (places_by test (take at xs)) + 1 =
     ap (λ (ps : List ℕ). count_before (suc at) ps) (k.items ∙ ap (λ (ys : List Reach). places_by test ys) (split_there xs at x within there))
     ∙ taken_there test at (take at xs) (drop (suc at) xs) x (sym (length-take-le at xs (omega arith))) passes in
     omega (arith, counted)
 
-pub kept_taken : (test : Reach → Bool) (places new : Vec ℕ) (xs : List Reach) (spare at : ℕ) (x : Reach) → IsKept test places xs spare → IsTakenOut (test x) at places new → at < length xs → x ≡ get_or xs at x → IsKept test new (remove xs at) spare
+pub kept_taken : (test : Reach → Bool) (places new : Vec ℕ) (xs : List Reach) (spare at : ℕ) (x : Reach) → IsKeptList test places xs spare → IsTakenOut (test x) at places new → at < length xs → x ≡ get_or xs at x → IsKeptList test new (remove xs at) spare
 kept_taken test places new xs spare at x k taken within there = record {
   items =
       taken.items

@@ -12,13 +12,17 @@ pub record Indexed : Type 0 where
   pub spare : ℕ
 
 -- an index stands for a list of queries
-abbrev pub StandsFor : Indexed → List Query → Type 0
-StandsFor index queries = index.reaches ≡ map reach_of queries
+abbrev pub StandsForQueries : Indexed → List Query → Type 0
+StandsForQueries index queries = index.reaches ≡ map reach_of queries
 
--- the places of the queries that can match an id, and perhaps of others, but of no narrow query of another remainder
-pub record AreCandidates (queries : List Query) (vendor product : ℕ) (places : List ℕ) : Type 0 where
+-- the places of the queries that can match an id, and perhaps of others, but of no
+-- narrow query of another remainder
+pub record AreCandidates (queries : List Query) (vendor product : ℕ)
+    (places : List ℕ) : Type 0 where
   pub rise : IsStrictlyIncreasing places
   pub below : (k : ℕ) → Has places k → k < length queries
-  pub complete : (k : ℕ) (query : Query) → slice_get queries k ≡ Some query → IsTrue (can_match query vendor product) → Has places k
-  pub apart : (k own_vendor own_product : ℕ) (query : Query) → slice_get queries k ≡ Some query → IsNarrow query own_vendor own_product
+  pub complete : (k : ℕ) (query : Query) → slice_get queries k ≡ Some query
+      → IsTrue (can_match query vendor product) → Has places k
+  pub apart : (k own_vendor own_product : ℕ) (query : Query) → slice_get queries k ≡ Some query
+      → IsNarrow query own_vendor own_product
       → remainder own_vendor own_product ≢ remainder vendor product → ¬ Has places k

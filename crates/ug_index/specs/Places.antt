@@ -12,7 +12,8 @@ reaches_to r reach.Wide = true
 -- the places, counted from `at`, of the rules whose reach passes a test
 abbrev pub places_from : (Reach → Bool) → ℕ → List Reach → List ℕ
 places_from kept at [] = []
-places_from kept at (x ∷ xs) = if kept x then at ∷ places_from kept (suc at) xs else places_from kept (suc at) xs
+places_from kept at (x ∷ xs) =
+    if kept x then at ∷ places_from kept (suc at) xs else places_from kept (suc at) xs
 
 abbrev pub places_by : (Reach → Bool) → List Reach → List ℕ
 places_by kept xs = places_from kept 0 xs
@@ -31,16 +32,19 @@ count_before at [] = 0
 count_before at (p ∷ ps) = if all_from at (p ∷ ps) then 0 else suc (count_before at ps)
 
 -- the places behind are one later, or one earlier
-abbrev pub raised : ℕ → List ℕ → List ℕ
-raised at ps = take (count_before at ps) ps ++ map suc (drop (count_before at ps) ps)
+abbrev pub places_raised : ℕ → List ℕ → List ℕ
+places_raised at ps = take (count_before at ps) ps ++ map suc (drop (count_before at ps) ps)
 
 abbrev pub lowered : ℕ → List ℕ → List ℕ
 lowered at ps = take (count_before at ps) ps ++ map pred (drop (count_before at ps) ps)
 
 -- the places where a rule is put in at `at`, which gets a place here or doesn't
 abbrev pub put_in : Bool → ℕ → List ℕ → List ℕ
-put_in here at ps = if here then insert (raised at ps) (count_before at ps) at else raised at ps
+put_in here at ps =
+    if here then insert (places_raised at ps) (count_before at ps) at else places_raised at ps
 
 -- and where the rule at `at` is taken out
 abbrev pub taken_out : Bool → ℕ → List ℕ → List ℕ
-taken_out here at ps = if here then remove (lowered (suc at) ps) (count_before (suc at) ps - 1) else lowered (suc at) ps
+taken_out here at ps =
+    if here then remove (lowered (suc at) ps) (count_before (suc at) ps - 1) else
+    lowered (suc at) ps

@@ -12,7 +12,8 @@ use Rattle.ug_index.specs.declared.reach.Reach.TheVariants as reach
 
 -- a rule can match an id where it has no `id` attribute, or where its values hold of that one
 abbrev pub can_match : Query → ℕ → ℕ → Bool
-can_match query vendor product = attribute covers_id query.id (record { vendor = vendor; product = product } ∷ [])
+can_match query vendor product =
+    attribute covers_id query.id (record { vendor = vendor; product = product } ∷ [])
 
 abbrev pub remainder : ℕ → ℕ → ℕ
 remainder vendor product = (vendor + product) % 64
@@ -43,7 +44,8 @@ reach_of_attribute (Some values) = reach_of_values values.op values.items
 abbrev pub reach_of : Query → Reach
 reach_of query = reach_of_attribute query.id
 
--- a query is narrow where its `id` is one item with both numbers, under another operator than `none-of`
+-- a query is narrow where its `id` is one item with both numbers, under
+-- another operator than `none-of`
 pub record IsNarrow (query : Query) (vendor product : ℕ) : Type 0 where
   pub values : Values Id
   pub id : Id

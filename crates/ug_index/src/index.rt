@@ -2,7 +2,7 @@
 ghost use Rattle.std.specs.Prelude.{◌≡◌, ◌≤◌, ◌<◌, ◌+◌, ℕ, List, [], OnOk, OnErr, insert, remove, length, get_or, vec_len, vec_capacity};
 ghost use Rattle.std.specs.Global.{Vec as Held};
 ghost use Rattle.ug_types.specs.declared.rule.Query as rule;
-ghost use Rattle.ug_index.specs.Candidates.{AreCandidates, StandsFor};
+ghost use Rattle.ug_index.specs.Candidates.{AreCandidates, StandsForQueries};
 ghost use Rattle.ug_index.specs.Places.{places_of};
 ghost use Rattle.ug_index.specs.Reaches as spec;
 
@@ -53,7 +53,7 @@ impl Index {
     /// The index of no rules. It takes no memory.
     pub fn new(alloc: Global) -> Index
         ensures reaches { result.reaches ≡ [] }
-        ensures stands { StandsFor result [] }
+        ensures stands { StandsForQueries result [] }
     {
         Index {
             lists: no_lists(alloc),
@@ -97,8 +97,8 @@ impl Index {
         requires spare { 0 < self.old.spare }
         ensures reaches { self.new.reaches ≡ insert self.old.reaches at (spec.reach_of query.now) }
         ensures spare { self.new.spare + 1 ≡ self.old.spare }
-        ensures stands { (queries : List rule.Query) → StandsFor self.old queries
-            → StandsFor self.new (insert queries at query.now) }
+        ensures stands { (queries : List rule.Query) → StandsForQueries self.old queries
+            → StandsForQueries self.new (insert queries at query.now) }
     {
         let reach = reach_of(query);
         put_reach(&mut self.reaches, at, reach);
@@ -111,8 +111,8 @@ impl Index {
         requires place { at < length self.old.reaches }
         ensures reaches { self.new.reaches ≡ remove self.old.reaches at }
         ensures spare { self.new.spare ≡ self.old.spare }
-        ensures stands { (queries : List rule.Query) → StandsFor self.old queries
-            → StandsFor self.new (remove queries at) }
+        ensures stands { (queries : List rule.Query) → StandsForQueries self.old queries
+            → StandsForQueries self.new (remove queries at) }
     {
         let reach = self.reaches.remove(at);
         take_out_each(&mut self.lists, at as u32, reach);
@@ -121,7 +121,7 @@ impl Index {
     /// The places of the rules that can match the id, in order. It takes no memory.
     pub fn candidates(&self, vendor: u16, product: u16) -> &[u32]
         ensures places { result.now ≡ places_of (spec.remainder vendor product) self.now.reaches }
-        ensures candidates { (queries : List rule.Query) → StandsFor self.now queries
+        ensures candidates { (queries : List rule.Query) → StandsForQueries self.now queries
             → AreCandidates queries vendor product result.now }
     {
         self.lists[remainder(vendor, product) as usize].as_slice()

@@ -15,9 +15,11 @@ pub fn index_law()
     ensures narrow { (query : Query) (vendor product : ℕ) → IsNarrow query vendor product
         → reach_of query ≡ Reach.Narrow (remainder vendor product) }
     ensures only { (query : Query) (r : ℕ) → reach_of query ≡ Reach.Narrow r
-        → (vendor : ℕ) × (product : ℕ) × IsNarrow query vendor product × (r ≡ remainder vendor product) }
+        → (vendor : ℕ) × (product : ℕ) × IsNarrow query vendor product
+        × (r ≡ remainder vendor product) }
     ensures matches { (query : Query) (device : DeviceRecord) → IsTrue (query_matches query device)
         → IsTrue (can_match query device.vendor device.product) }
     ensures candidates { (queries : List Query) (vendor product : ℕ)
-        → AreCandidates queries vendor product (places_of (remainder vendor product) (map reach_of queries)) }
+        → AreCandidates queries vendor product
+        (places_of (remainder vendor product) (map reach_of queries)) }
 {}

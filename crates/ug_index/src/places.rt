@@ -2,7 +2,7 @@
 ghost use Rattle.std.specs.Prelude.{◌≡◌, ◌≤◌, ◌<◌, ◌+◌, ◌-◌, ◌^◌, ℕ, suc, All, IsTrue, OnOk, length, get_or, vec_len, vec_capacity};
 ghost use Rattle.std.specs.Global.{Vec as Held};
 ghost use Rattle.ug_index.specs.Places as spec;
-ghost use Rattle.ug_index.specs.Lists.{ArePutIn, AreTakenOut, HasRoom, HaveRoom, IsPutIn, IsTakenOut};
+ghost use Rattle.ug_index.specs.Lists.{ArePutIn, AreTakenOut, HasRoomForPlace, HaveRoom, IsPutIn, IsTakenOut};
 
 use crate::reach::Reach;
 use ug_types::NoMemory;
@@ -22,7 +22,7 @@ fn raise(places: &mut [u32], at: u32) -> usize
     requires { All (λ p. p < 2 ^ 32 - 1) places.old }
     ensures before { result ≡ spec.count_before at places.old }
     ensures within { result ≤ length places.old }
-    ensures places { places.new ≡ spec.raised at places.old }
+    ensures places { places.new ≡ spec.places_raised at places.old }
     ensures len { length places.new ≡ length places.old }
 {
     let mut before = places.len();
@@ -51,7 +51,7 @@ fn lower(places: &mut [u32], at: u32) -> usize
 
 // A rule is put in at `at`, which gets a place here or doesn't.
 pub fn put_in(places: &mut Vec<u32>, at: u32, here: bool)
-    requires { HasRoom places.old }
+    requires { HasRoomForPlace places.old }
     ensures { IsPutIn here at places.old places.new }
 {
     let before = raise(places.as_mut_slice(), at);

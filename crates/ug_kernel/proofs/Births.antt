@@ -2,7 +2,7 @@
 use Rattle.std.proofs.Common.{◌≡◌, ℕ, ◌<◌, ◌≤◌, length, Option, Some, None, refl, sym, ◌∙◌, ap, subst, arith, inl, inr, ◌⊎◌}
 use Rattle.std.specs.List.{slice_get}
 use Rattle.ug_kernel.specs.declared.device.Device.{Device}
-use Rattle.ug_kernel.specs.Kernel.{Kernel, Moved, Moves, StartsUnder, Starts, default_in, is_off}
+use Rattle.ug_kernel.specs.Kernel.{Kernel, Moved, Moves, StartsUnder, StartsUnset, default_in, is_off}
 use Rattle.ug_kernel.proofs.Stayed.{back_at, begins_then}
 use Rattle.ug_kernel.proofs.Defaults.{moves_default}
 
@@ -12,7 +12,7 @@ under_later k l d e (Some r) b m h =
     let same : default_in (slice_get l.devices r) ≡ default_in (slice_get k.devices r) = moves_default k l b r (slice_get k.devices r) refl (slice_get l.devices r) refl in
     record { born_off = m.stays.born_off ∙ h.born_off ∙ ap is_off (sym same); on = λ v a. m.on ∙ h.on v (sym same ∙ a) }
 
-pub starts_later : (k l : Kernel) (d e : Device) → Moves k l → Moved d e → Starts k.devices d → Starts l.devices e
+pub starts_later : (k l : Kernel) (d e : Device) → Moves k l → Moved d e → StartsUnset k.devices d → StartsUnset l.devices e
 starts_later k l d e b m h = (m.default ∙ h.0, subst (λ (o : Option ℕ). StartsUnder l.devices e o) (sym m.stays.controller) (under_later k l d e d.controller b m h.1))
 
 -- some moves, and then others

@@ -5,17 +5,17 @@ use Rattle.std.proofs.lemmas.Option.{same_Some, none-some}
 use Rattle.std.specs.List.{slice_get}
 use Rattle.ug_types.specs.Elements.{Has}
 use Rattle.ug_types.proofs.Elements.{has_left, has_right}
-use Rattle.ug_types.specs.declared.control.Write.{Write}
+use Rattle.ug_kernel.specs.declared.control.Write.{Write}
 use Rattle.ug_kernel.specs.declared.device.Device.{Device}
 use Rattle.ug_kernel.specs.declared.device.Effect.{Effect}
 use Rattle.ug_kernel.specs.declared.calls.Opened.{Opened}
 use Rattle.ug_kernel.specs.declared.calls.Opened.TheVariants as opened
 use Rattle.ug_kernel.specs.declared.calls.Wrote.{Wrote}
 use Rattle.ug_kernel.specs.declared.calls.Wrote.TheVariants as wrote
-use Rattle.ug_types.specs.declared.control.Control.TheVariants.{Default}
+use Rattle.ug_kernel.specs.declared.control.Control.TheVariants.{Default}
 use Rattle.ug_kernel.specs.Calls.{control_of, Call, Names, Open, Read, Ask_alive, Put, Close, Answer}
 use Rattle.ug_kernel.specs.Kernel.{Kernel, Moves, StartsUnder, is_off, default_in}
-use Rattle.ug_kernel.specs.Called.{value_after, default_after, written_to, does_open, does_put, Does, IsWritten, Called}
+use Rattle.ug_kernel.specs.Called.{value_after, default_after, written_to, does_open, does_put, DoesCall, IsWritten, Called}
 use Rattle.ug_kernel.specs.Along.{Made, Along}
 use Rattle.ug_kernel.specs.Tree.{calls}
 use Rattle.ug_kernel.specs.Defaults.{HasOnEntries, set_by, default_by, default_at, Logs}
@@ -81,7 +81,7 @@ does_put_on_entries held what wrote.Failed k l (inr h) g = written_on_entries he
 does_open_on_entries : (name : List ℕ) (answer : Opened) (k l : Kernel) (h : (l.devices ≡ k.devices) × (l.log ≡ k.log)) → HasOnEntries k → HasOnEntries l
 does_open_on_entries name answer k l h g i e at born_off on = subst (λ (v : List Effect). Has v (record { device = i; write = Write.On })) (sym h.1) (g i e (ap (λ (v : List Device). slice_get v i) (sym h.0) ∙ at) born_off on)
 
-does_on_entries : (call : Call) (answer : Answer call) (k l : Kernel) → Does call answer k l → HasOnEntries k → HasOnEntries l
+does_on_entries : (call : Call) (answer : Answer call) (k l : Kernel) → DoesCall call answer k l → HasOnEntries k → HasOnEntries l
 does_on_entries Names answer k l h g = same_on_entries k l h g
 does_on_entries (Open name control) answer k l h g = opening answer.answer h
   where
@@ -161,7 +161,7 @@ does_put_logs held what wrote.Gone k l h = same_logs k l h
 does_put_logs held what wrote.Failed k l (inl h) = same_logs k l h
 does_put_logs held what wrote.Failed k l (inr h) = written_logs held what k l h
 
-does_logs : (call : Call) (answer : Answer call) (k l : Kernel) → Does call answer k l → Logs k l
+does_logs : (call : Call) (answer : Answer call) (k l : Kernel) → DoesCall call answer k l → Logs k l
 does_logs Names answer k l h = same_logs k l h
 does_logs (Open name control) answer k l h = opening answer.answer h
   where

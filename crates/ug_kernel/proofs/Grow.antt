@@ -1,12 +1,12 @@
 -- What each call leaves as it was.
 use Rattle.std.proofs.Common.{◌≡◌, ℕ, Bool, true, false, ◌==◌, Option, Some, slice_get, inl, inr, refl, sym, ◌∙◌, subst, arith, List}
 use Rattle.ug_kernel.specs.declared.device.Device.{Device}
-use Rattle.ug_types.specs.declared.control.Write.{Write}
+use Rattle.ug_kernel.specs.declared.control.Write.{Write}
 use Rattle.ug_kernel.specs.declared.calls.Wrote.{Wrote}
 use Rattle.ug_kernel.specs.declared.calls.Wrote.TheVariants as wrote
 use Rattle.ug_kernel.specs.Calls.{Call, Names, Open, Read, Ask_alive, Put, Close, Answer}
 use Rattle.ug_kernel.specs.Kernel.{Kernel, Stays}
-use Rattle.ug_kernel.specs.Called.{written_to, does_put, Does, IsWritten, Called}
+use Rattle.ug_kernel.specs.Called.{written_to, does_put, DoesCall, IsWritten, Called}
 use Rattle.ug_kernel.specs.Quiet.{Quiet, Grows}
 use Rattle.ug_kernel.proofs.Quiet.{stays_refl, stays_trans, moves_quiet, does_quiet}
 use Rattle.ug_types.specs.Elements.{Has}
@@ -55,7 +55,7 @@ does_put_grows held write wrote.Gone k l h = same_grows k l h
 does_put_grows held write wrote.Failed k l (inl h) = same_grows k l h
 does_put_grows held write wrote.Failed k l (inr h) = written_grows held write k l h
 
-pub does_grow : (call : Call) (answer : Answer call) (k l : Kernel) → Does call answer k l → Grows k l
+pub does_grow : (call : Call) (answer : Answer call) (k l : Kernel) → DoesCall call answer k l → Grows k l
 does_grow Names answer k l h = same_grows k l h
 does_grow (Open name control) answer k l h = quiet_grows k l (does_quiet (Open name control) answer k l tt h)
 does_grow (Read name attr) answer k l h = same_grows k l h

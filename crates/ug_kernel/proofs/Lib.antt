@@ -1,6 +1,6 @@
 pub mod Grow
 pub mod Quiet
-pub mod Held
+pub mod HeldFiles
 pub mod Places
 pub mod Sounds
 pub mod Stayed

@@ -1,12 +1,12 @@
 -- Calls that write nothing are quiet.
 use Rattle.std.proofs.Common.{◌≡◌, ℕ, zero, suc, List, [], ◌∷◌, ◌++◌, Some, length, slice_get, refl, sym, ◌∙◌, subst}
 use Rattle.ug_kernel.specs.declared.device.Device.{Device}
-use Rattle.ug_types.specs.declared.control.Control.{Control}
+use Rattle.ug_kernel.specs.declared.control.Control.{Control}
 use Rattle.ug_kernel.specs.declared.calls.Opened.{Opened}
 use Rattle.ug_kernel.specs.declared.calls.Opened.TheVariants as opened
 use Rattle.ug_kernel.specs.Calls.{Call, Names, Open, Read, Ask_alive, Put, Close, Answer}
-use Rattle.ug_kernel.specs.Kernel.{Kernel, Stays, Moved, Begins, Moves}
-use Rattle.ug_kernel.specs.Called.{does_open, Does, IsOpened, Called}
+use Rattle.ug_kernel.specs.Kernel.{Kernel, Stays, Moved, BeginsWith, Moves}
+use Rattle.ug_kernel.specs.Called.{does_open, DoesCall, IsOpened, Called}
 use Rattle.ug_kernel.specs.Quiet.{Quiet}
 
 pub get_left : {X : Type 0} (xs ys : List X) (i : ℕ) (x : X) → slice_get xs i ≡ Some x → slice_get (xs ++ ys) i ≡ Some x
@@ -50,7 +50,7 @@ quiet_trans k l m h j = record {
   log = j.log ∙ h.log;
 }
 
-begins_get : (ds es : List Device) → Begins ds es → (i : ℕ) (d : Device) → slice_get ds i ≡ Some d → (e : Device) × (slice_get es i ≡ Some e) × Moved d e
+begins_get : (ds es : List Device) → BeginsWith ds es → (i : ℕ) (d : Device) → slice_get ds i ≡ Some d → (e : Device) × (slice_get es i ≡ Some e) × Moved d e
 begins_get [] es h i d e = absurd (let none : ⊥ = cc in none)
 begins_get (x ∷ ds) [] h i d e = absurd h
 begins_get (x ∷ ds) (y ∷ es) h zero d e = let same : x ≡ d = cc in (y, refl, subst (λ v. Moved v y) same h.0)
@@ -86,7 +86,7 @@ WritesNothing (Ask_alive held) = Unit {0}
 WritesNothing (Put held write) = ⊥
 WritesNothing (Close held) = Unit {0}
 
-pub does_quiet : (call : Call) (answer : Answer call) (k l : Kernel) → WritesNothing call → Does call answer k l → Quiet k l
+pub does_quiet : (call : Call) (answer : Answer call) (k l : Kernel) → WritesNothing call → DoesCall call answer k l → Quiet k l
 does_quiet Names answer k l w h = same_quiet k l h
 does_quiet (Open name control) answer k l w h = does_open_quiet name control answer.answer k l h
 does_quiet (Read name attr) answer k l w h = same_quiet k l h

@@ -1,6 +1,6 @@
 -- The numbers of calls and of failures rise along a run.
 use Rattle.std.proofs.Common.{◌≡◌, ℕ, ◌-◌, ◌^◌, ◌<◌, ◌≤◌, Bool, true, false, cond, List, [], ◌∷◌, ◌++◌, refl, sym, subst, ◌∙◌, arith}
-use Rattle.ug_kernel.specs.Calls.{Call, Names, Open, Read, Ask_alive, Put, Close, Told, Answer, Counted, Counts, failed_listing, failed_open, failed_read, failed_probe, failed_put}
+use Rattle.ug_kernel.specs.Calls.{Call, Names, Open, Read, Ask_alive, Put, Close, ToldAnswer, Answer, Counted, Counts, failed_listing, failed_open, failed_read, is_probe_failed, failed_put}
 use Rattle.ug_kernel.specs.declared.calls.FailedCall.{FailedCall}
 use Rattle.ug_kernel.specs.Along.{Made, Along, failure_if, failure, failures, number_after, IsNext, AreNumbered, IsAbove, Rises}
 
@@ -41,14 +41,14 @@ rises_by true number count c f d g fs n k low up falls rises h = (
 )
 rises_by false number count c f d g fs n k low up falls rises h = from_lower c d f g fs up.0 falls h
 
-rises_counted : {X : Type 0} (failed : X → Bool) (told : Told X) (c f d g : ℕ) (fs : List FailedCall) → c < 2 ^ 64 → Counted failed told c f d g → Rises d g fs → Rises c f (failure_if failed told ++ fs)
+rises_counted : {X : Type 0} (failed : X → Bool) (told : ToldAnswer X) (c f d g : ℕ) (fs : List FailedCall) → c < 2 ^ 64 → Counted failed told c f d g → Rises d g fs → Rises c f (failure_if failed told ++ fs)
 rises_counted failed told c f d g fs low h r = rises_by (failed told.answer) told.number told.count c f d g fs h.number h.count low (omega (arith, h.call), λ l. omega (arith, h.call)) h.never_falls h.rises r
 
 rises_one : (call : Call) (answer : Answer call) (c f d g : ℕ) (fs : List FailedCall) → c < 2 ^ 64 → Counts call answer c f d g → Rises d g fs → Rises c f (failure call answer ++ fs)
 rises_one Names answer c f d g fs low h r = rises_counted failed_listing answer c f d g fs low h r
 rises_one (Open name control) answer c f d g fs low h r = rises_counted failed_open answer c f d g fs low h r
 rises_one (Read name attr) answer c f d g fs low h r = rises_counted failed_read answer c f d g fs low h r
-rises_one (Ask_alive held) answer c f d g fs low h r = rises_counted failed_probe answer c f d g fs low h r
+rises_one (Ask_alive held) answer c f d g fs low h r = rises_counted is_probe_failed answer c f d g fs low h r
 rises_one (Put held write) answer c f d g fs low h r = rises_counted failed_put answer c f d g fs low h r
 rises_one (Close held) answer c f d g fs low h r = subst (λ (v : ℕ). Rises v f fs) h.0 (subst (λ (v : ℕ). Rises d v fs) h.1 r)
 

@@ -6,11 +6,11 @@ use Rattle.std.specs.List.{slice_get}
 use Rattle.ug_types.specs.Names.{parent_of}
 use Rattle.ug_kernel.specs.declared.device.Device.{Device}
 use Rattle.ug_kernel.specs.declared.device.HeldFile.{HeldFile}
-use Rattle.ug_types.specs.declared.control.Write.{Write}
+use Rattle.ug_kernel.specs.declared.control.Write.{Write}
 use Rattle.ug_kernel.specs.Called.{written_to}
-use Rattle.ug_types.specs.declared.control.Control.{Control}
-use Rattle.ug_types.specs.declared.control.Control.TheVariants.{Authorized, Remove, Default}
-use Rattle.ug_kernel.specs.Kernel.{Kernel, Live, live_count, hub_of, has_file, IsOpenable, IsSound, IsKernel, Begins, Moves}
+use Rattle.ug_kernel.specs.declared.control.Control.{Control}
+use Rattle.ug_kernel.specs.declared.control.Control.TheVariants.{Authorized, Remove, Default}
+use Rattle.ug_kernel.specs.Kernel.{Kernel, Live, live_count, hub_of, has_file, IsOpenable, IsSound, IsKernel, BeginsWith, Moves}
 use Rattle.ug_kernel.proofs.Places.{at_push, at_longer, at_set_same, at_set_other}
 use Rattle.ug_kernel.proofs.Stayed.{stays_at, back_at, live_back, live_count_begins, length_begins}
 
@@ -106,7 +106,7 @@ pub record Kept (fs : List Device) : Type 0 where
   pub none : (i p : ℕ) (e f : Device) → Live fs i e → e.parent ≡ Some p → p < i → slice_get fs p ≡ Some f → f.gone ≡ false
 
 -- devices go, and no child stays without its parent
-pub sound_fewer : (ds fs : List Device) → IsSound ds → Begins ds fs → length fs ≡ length ds → Kept fs → IsSound fs
+pub sound_fewer : (ds fs : List Device) → IsSound ds → BeginsWith ds fs → length fs ≡ length ds → Kept fs → IsSound fs
 sound_fewer ds fs s b n k = record { names = names; below = below; parents = parents; named = named; roots = roots; hubs = hubs; controllers = controllers; few = omega (arith, live_count_begins ds fs b n, s.few) }
   where
     names : (i j : ℕ) (d e : Device) → Live fs i d → Live fs j e → d.name ≡ e.name → i ≡ j

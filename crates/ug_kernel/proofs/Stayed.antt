@@ -4,7 +4,7 @@ use Rattle.std.proofs.lemmas.Bool.{both_ways}
 use Rattle.std.proofs.lemmas.Option.{slice_get_within, same_Some}
 use Rattle.std.specs.List.{slice_get}
 use Rattle.ug_kernel.specs.declared.device.Device.{Device}
-use Rattle.ug_kernel.specs.Kernel.{Kernel, Live, live_count, Stays, Moved, Begins, Moves}
+use Rattle.ug_kernel.specs.Kernel.{Kernel, Live, live_count, Stays, Moved, BeginsWith, Moves}
 use Rattle.ug_kernel.specs.Called.{Lived}
 
 pub stays : (d : Device) → Stays d d
@@ -29,40 +29,40 @@ unmoved d = record { stays = stays d; on = refl; default = refl }
 pub moved_then : (d e f : Device) → Moved d e → Moved e f → Moved d f
 moved_then d e f s t = record { stays = stays_then d e f s.stays t.stays; on = t.on ∙ s.on; default = t.default ∙ s.default }
 
-pub begins : (ds : List Device) → Begins ds ds
+pub begins : (ds : List Device) → BeginsWith ds ds
 begins [] = tt
 begins (d ∷ ds) = (unmoved d, begins ds)
 
-pub begins_then : (ds es fs : List Device) → Begins ds es → Begins es fs → Begins ds fs
+pub begins_then : (ds es fs : List Device) → BeginsWith ds es → BeginsWith es fs → BeginsWith ds fs
 begins_then [] es fs a b = tt
 begins_then (d ∷ ds) [] fs a b = absurd a
 begins_then (d ∷ ds) (e ∷ es) [] a b = absurd b
 begins_then (d ∷ ds) (e ∷ es) (f ∷ fs) a b = (moved_then d e f a.0 b.0, begins_then ds es fs a.1 b.1)
 
 -- more at the end
-pub begins_more : (ds es : List Device) → Begins ds (ds ++ es)
+pub begins_more : (ds es : List Device) → BeginsWith ds (ds ++ es)
 begins_more [] es = tt
 begins_more (d ∷ ds) es = (unmoved d, begins_more ds es)
 
 -- one device changes
-pub begins_at : (bs : List Device) (d e : Device) (ds : List Device) → Moved d e → Begins (bs ++ d ∷ ds) (bs ++ e ∷ ds)
+pub begins_at : (bs : List Device) (d e : Device) (ds : List Device) → Moved d e → BeginsWith (bs ++ d ∷ ds) (bs ++ e ∷ ds)
 begins_at [] d e ds s = (s, begins ds)
 begins_at (b ∷ bs) d e ds s = (unmoved b, begins_at bs d e ds s)
 
-pub length_begins : (ds es : List Device) → Begins ds es → length ds ≤ length es
+pub length_begins : (ds es : List Device) → BeginsWith ds es → length ds ≤ length es
 length_begins [] es b = omega arith
 length_begins (d ∷ ds) [] b = absurd b
 length_begins (d ∷ ds) (e ∷ es) b = omega (arith, length_begins ds es b.1)
 
 -- a device that was there is there still
-pub stays_at : (ds es : List Device) (i : ℕ) (d : Device) → Begins ds es → slice_get ds i ≡ Some d → (e : Device) × (slice_get es i ≡ Some e) × Moved d e
+pub stays_at : (ds es : List Device) (i : ℕ) (d : Device) → BeginsWith ds es → slice_get ds i ≡ Some d → (e : Device) × (slice_get es i ≡ Some e) × Moved d e
 stays_at [] es i d b h = absurd cc
 stays_at (d ∷ ds) [] i d' b h = absurd b
 stays_at (d ∷ ds) (e ∷ es) zero d' b h = (e, refl, subst (λ x. Moved x e) (let p : d ≡ d' = cc in p) b.0)
 stays_at (d ∷ ds) (e ∷ es) (suc i) d' b h = stays_at ds es i d' b.1 h
 
 -- what is there now was there before
-pub back_at : (ds es : List Device) → Begins ds es → (i : ℕ) (e : Device) → slice_get es i ≡ Some e → i < length ds → (d : Device) × (slice_get ds i ≡ Some d) × Moved d e
+pub back_at : (ds es : List Device) → BeginsWith ds es → (i : ℕ) (e : Device) → slice_get es i ≡ Some e → i < length ds → (d : Device) × (slice_get ds i ≡ Some d) × Moved d e
 back_at [] es b i e h lt = absurd (omega arith)
 back_at (d ∷ ds) [] b i e h lt = absurd b
 back_at (d ∷ ds) (f ∷ es) b zero e h lt = (d, refl, subst (λ x. Moved d x) (let p : f ≡ e = cc in p) b.0)
@@ -77,13 +77,13 @@ stayed_here d e s h = pick d.gone refl
     pick false g = g
 
 -- a live device was live before, with the same facts
-pub live_back : (ds es : List Device) → Begins ds es → (i : ℕ) (e : Device) → Live es i e → i < length ds → (d : Device) × Live ds i d × Moved d e
+pub live_back : (ds es : List Device) → BeginsWith ds es → (i : ℕ) (e : Device) → Live es i e → i < length ds → (d : Device) × Live ds i d × Moved d e
 live_back ds es b i e l lt =
     let p = back_at ds es b i e l.at lt in
     (p.0, record { at = p.1; here = stayed_here p.0 e p.2.stays l.here }, p.2)
 
 -- a device that lived through a call is live at its effect
-pub lived_at : (ds es fs : List Device) (i : ℕ) (d : Device) → Begins ds es → Begins es fs → Lived ds fs i d → (e : Device) × Live es i e × Stays d e
+pub lived_at : (ds es fs : List Device) (i : ℕ) (d : Device) → BeginsWith ds es → BeginsWith es fs → Lived ds fs i d → (e : Device) × Live es i e × Stays d e
 lived_at ds es fs i d a b l =
     let p = stays_at ds es i d a l.entry.at in
     let q = live_back es fs b i l.exit.0 l.exit.1 (slice_get_within es i p.0 p.1) in
@@ -98,7 +98,7 @@ count_one d e s = pick e.gone d.gone refl refl
     pick false true g h = absurd (both_ways e.gone g (s.gone h))
 
 -- where none is born, no more are live
-pub live_count_begins : (ds es : List Device) → Begins ds es → length es ≡ length ds → live_count es ≤ live_count ds
+pub live_count_begins : (ds es : List Device) → BeginsWith ds es → length es ≡ length ds → live_count es ≤ live_count ds
 live_count_begins [] [] b n = omega arith
 live_count_begins [] (e ∷ es) b n = absurd (omega arith)
 live_count_begins (d ∷ ds) [] b n = absurd b

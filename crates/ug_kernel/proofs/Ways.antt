@@ -7,12 +7,12 @@ use Rattle.ug_kernel.proofs.Quiet.{WritesNothing, quiet_refl, quiet_trans, calle
 use Rattle.ug_kernel.proofs.Grow.{grows_refl, grows_trans, called_grows}
 use Rattle.ug_kernel.specs.Tree.{Prog, Return, Ask, Room, Runs, then, calls}
 use Rattle.ug_kernel.specs.declared.calls.FailedCall.{FailedCall}
-use Rattle.ug_kernel.specs.Along.{Made, answered, Along, failure, failures}
+use Rattle.ug_kernel.specs.Along.{Made, made_with, Along, failure, failures}
 
 -- each way has P of its room, its calls and its end
 abbrev pub Ways : {R : Type 0} → Prog R → (Bool → List Made → R → Type 0) → Type 0
 Ways (Return value) P = P true [] value
-Ways (Ask call next) P = (a : Answer call) → Ways (next a) (λ ok ms r. P ok (answered call a ∷ ms) r)
+Ways (Ask call next) P = (a : Answer call) → Ways (next a) (λ ok ms r. P ok (made_with call a ∷ ms) r)
 Ways (Room next) P = (b : Bool) → Ways (next b) (λ ok ms r. P (b && ok) ms r)
 
 -- no room was refused on it, and it has P
@@ -22,18 +22,18 @@ Sure P ok ms r = (ok ≡ true) × P ms r
 -- these calls are one
 abbrev pub Way : {R : Type 0} → Prog R → List Made → R → Type 0
 Way (Return value) ms r = (ms ≡ []) × (r ≡ value)
-Way (Ask call next) ms r = (a : Answer call) × (later : List Made) × (ms ≡ answered call a ∷ later) × Way (next a) later r
+Way (Ask call next) ms r = (a : Answer call) × (later : List Made) × (ms ≡ made_with call a ∷ later) × Way (next a) later r
 Way (Room next) ms r = (b : Bool) × Way (next b) ms r
 
 pub ways_more : {R : Type 0} (P Q : Bool → List Made → R → Type 0) (p : Prog R) → ((ok : Bool) (ms : List Made) (r : R) → P ok ms r → Q ok ms r) → Ways p P → Ways p Q
 ways_more P Q (Return value) f w = f true [] value w
-ways_more P Q (Ask call next) f w = λ a. ways_more (λ ok ms r. P ok (answered call a ∷ ms) r) (λ ok ms r. Q ok (answered call a ∷ ms) r) (next a) (λ ok ms r. f ok (answered call a ∷ ms) r) (w a)
+ways_more P Q (Ask call next) f w = λ a. ways_more (λ ok ms r. P ok (made_with call a ∷ ms) r) (λ ok ms r. Q ok (made_with call a ∷ ms) r) (next a) (λ ok ms r. f ok (made_with call a ∷ ms) r) (w a)
 ways_more P Q (Room next) f w = λ b. ways_more (λ ok ms r. P (b && ok) ms r) (λ ok ms r. Q (b && ok) ms r) (next b) (λ ok ms r. f (b && ok) ms r) (w b)
 
 -- one tree, and then what each of its ways leads to
 pub ways_then : {A B : Type 0} (P : Bool → List Made → B → Type 0) (p : Prog A) (f : A → Prog B) → Ways p (λ ok ms a. Ways (f a) (λ more ns r. P (ok && more) (ms ++ ns) r)) → Ways (then p f) P
 ways_then P (Return value) f w = w
-ways_then P (Ask call next) f w = λ a. ways_then (λ ok ms r. P ok (answered call a ∷ ms) r) (next a) f (w a)
+ways_then P (Ask call next) f w = λ a. ways_then (λ ok ms r. P ok (made_with call a ∷ ms) r) (next a) f (w a)
 ways_then P (Room next) f w = λ b. ways_then (λ ok ms r. P (b && ok) ms r) (next b) f
     (ways_more (λ ok ms a. Ways (f a) (λ more ns r. P ((b && ok) && more) (ms ++ ns) r)) (λ ok ms a. Ways (f a) (λ more ns r. P (b && (ok && more)) (ms ++ ns) r)) (next b)
     (λ ok ms a k. ways_more (λ more ns r. P ((b && ok) && more) (ms ++ ns) r) (λ more ns r. P (b && (ok && more)) (ms ++ ns) r) (f a) (λ more ns r x. back b ok more ms ns r x) k) (w b))
@@ -64,17 +64,17 @@ sure_last P Q p f g e w k = behind_sure P Q p f w (λ ms a h. subst (λ v. Ways 
 -- each way is one
 pub ways_all : {R : Type 0} (p : Prog R) → Ways p (λ ok ms r. Way p ms r)
 ways_all (Return value) = (refl, refl)
-ways_all (Ask call next) = λ a. ways_more (λ ok ms r. Way (next a) ms r) (λ ok ms r. Way (Ask call next) (answered call a ∷ ms) r) (next a) (λ ok ms r h. (a, ms, refl, h)) (ways_all (next a))
+ways_all (Ask call next) = λ a. ways_more (λ ok ms r. Way (next a) ms r) (λ ok ms r. Way (Ask call next) (made_with call a ∷ ms) r) (next a) (λ ok ms r h. (a, ms, refl, h)) (ways_all (next a))
 ways_all (Room next) = λ b. ways_more (λ ok ms r. Way (next b) ms r) (λ ok ms r. Way (Room next) ms r) (next b) (λ ok ms r h. (b, h)) (ways_all (next b))
 
 pub ways_of : {R : Type 0} (P : List Made → R → Type 0) (p : Prog R) (ms : List Made) (r : R) → Ways p (λ ok ns x. P ns x) → Way p ms r → P ms r
 ways_of P (Return value) ms r w h = subst (λ v. P v r) (sym h.0) (subst (λ v. P [] v) (sym h.1) w)
-ways_of P (Ask call next) ms r w h = subst (λ v. P v r) (sym h.2) (ways_of (λ ns x. P (answered call h.0 ∷ ns) x) (next h.0) h.1 r (w h.0) h.3)
+ways_of P (Ask call next) ms r w h = subst (λ v. P v r) (sym h.2) (ways_of (λ ns x. P (made_with call h.0 ∷ ns) x) (next h.0) h.1 r (w h.0) h.3)
 ways_of P (Room next) ms r w h = ways_of P (next h.0) ms r (w h.0) h.1
 
 pub ways_both : {R : Type 0} (P Q : Bool → List Made → R → Type 0) (p : Prog R) → Ways p P → Ways p Q → Ways p (λ ok ms r. P ok ms r × Q ok ms r)
 ways_both P Q (Return value) a b = (a, b)
-ways_both P Q (Ask call next) a b = λ x. ways_both (λ ok ms r. P ok (answered call x ∷ ms) r) (λ ok ms r. Q ok (answered call x ∷ ms) r) (next x) (a x) (b x)
+ways_both P Q (Ask call next) a b = λ x. ways_both (λ ok ms r. P ok (made_with call x ∷ ms) r) (λ ok ms r. Q ok (made_with call x ∷ ms) r) (next x) (a x) (b x)
 ways_both P Q (Room next) a b = λ x. ways_both (λ ok ms r. P (x && ok) ms r) (λ ok ms r. Q (x && ok) ms r) (next x) (a x) (b x)
 
 -- of a tree that asks for no room, each way is one on which none was refused
@@ -91,8 +91,8 @@ pub record Went {S R : Type 0} (gives : S → (call : Call) → Answer call → 
 pub ways_run : {S R : Type 0} (gives : S → (call : Call) → Answer call → S → Type 0) (P : Bool → List Made → R → Type 0) (p : Prog R) (s : S) (r : R) (t : S) → Ways p P → Runs gives s p r t → Went gives P s r t
 ways_run gives P (Return value) s r t w h = record { granted = true; made = []; along = h.1; so = subst (λ v. P true [] v) (sym h.0) w }
 ways_run gives P (Ask call next) s r t w h =
-    let k = ways_run gives (λ ok ms x. P ok (answered call h.0 ∷ ms) x) (next h.0) h.1 r t (w h.0) h.3 in
-    record { granted = k.granted; made = answered call h.0 ∷ k.made; along = (h.1, h.2, k.along); so = k.so }
+    let k = ways_run gives (λ ok ms x. P ok (made_with call h.0 ∷ ms) x) (next h.0) h.1 r t (w h.0) h.3 in
+    record { granted = k.granted; made = made_with call h.0 ∷ k.made; along = (h.1, h.2, k.along); so = k.so }
 ways_run gives P (Room next) s r t w h =
     let k = ways_run gives (λ ok ms x. P (h.0 && ok) ms x) (next h.0) s r t (w h.0) h.1 in
     record { granted = h.0 && k.granted; made = k.made; along = k.along; so = k.so }

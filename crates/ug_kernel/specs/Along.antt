@@ -1,15 +1,15 @@
 -- A run as the list of its calls, each with its answer.
 use Rattle.std.specs.Prelude.{◌≡◌, ℕ, ◌+◌, ◌-◌, ◌^◌, ◌<◌, ◌≤◌, Bool, if◌then◌else◌, List, [], ◌∷◌, ◌++◌}
 use Rattle.ug_kernel.specs.declared.calls.FailedCall.{FailedCall}
-use Rattle.ug_kernel.specs.Calls.{Call, Names, Open, Read, Ask_alive, Put, Close, Told, Answer, failed_listing, failed_open, failed_read, failed_probe, failed_put, raised}
+use Rattle.ug_kernel.specs.Calls.{Call, Names, Open, Read, Ask_alive, Put, Close, ToldAnswer, Answer, failed_listing, failed_open, failed_read, is_probe_failed, failed_put, raised}
 
 -- a call that was made, and what it was answered
 pub record Made : Type 0 where
   pub call : Call
   pub answer : Answer call
 
-abbrev pub answered : (call : Call) → Answer call → Made
-answered call answer = record { call = call; answer = answer }
+abbrev pub made_with : (call : Call) → Answer call → Made
+made_with call answer = record { call = call; answer = answer }
 
 -- these calls lead from one state to the other
 abbrev pub Along : {S : Type 0} → (S → (call : Call) → Answer call → S → Type 0) → S → List Made → S
@@ -31,10 +31,10 @@ count_calls [] = 0
 count_calls (m ∷ ms) = counts_as m.call + count_calls ms
 
 -- a call that failed, as its answer tells it
-abbrev pub failure_of : {X : Type 0} → Told X → FailedCall
+abbrev pub failure_of : {X : Type 0} → ToldAnswer X → FailedCall
 failure_of told = record { call = told.number; count = told.count }
 
-abbrev pub failure_if : {X : Type 0} → (X → Bool) → Told X → List FailedCall
+abbrev pub failure_if : {X : Type 0} → (X → Bool) → ToldAnswer X → List FailedCall
 failure_if failed told = if failed told.answer then failure_of told ∷ [] else []
 
 -- the failure of a call, if it failed; closing never does
@@ -42,7 +42,7 @@ abbrev pub failure : (call : Call) → Answer call → List FailedCall
 failure Names answer = failure_if failed_listing answer
 failure (Open name control) answer = failure_if failed_open answer
 failure (Read name attr) answer = failure_if failed_read answer
-failure (Ask_alive held) answer = failure_if failed_probe answer
+failure (Ask_alive held) answer = failure_if is_probe_failed answer
 failure (Put held write) answer = failure_if failed_put answer
 failure (Close held) answer = []
 

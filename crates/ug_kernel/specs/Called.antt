@@ -3,11 +3,11 @@ use Rattle.std.specs.Prelude.{◌≡◌, ℕ, nat_le, Bool, true, false, if◌th
 use Rattle.ug_types.specs.Elements.{Has, AllDistinct}
 use Rattle.ug_kernel.specs.declared.device.Device.{Device}
 use Rattle.ug_kernel.specs.declared.device.HeldFile.{HeldFile}
-use Rattle.ug_types.specs.declared.control.Control.{Control}
-use Rattle.ug_types.specs.declared.control.Attr.{Attr}
-use Rattle.ug_types.specs.declared.control.Attr.TheVariants as attr
-use Rattle.ug_types.specs.declared.control.Write.{Write}
-use Rattle.ug_types.specs.declared.control.Write.TheVariants as write
+use Rattle.ug_kernel.specs.declared.control.Control.{Control}
+use Rattle.ug_kernel.specs.declared.control.Attr.{Attr}
+use Rattle.ug_kernel.specs.declared.control.Attr.TheVariants as attr
+use Rattle.ug_kernel.specs.declared.control.Write.{Write}
+use Rattle.ug_kernel.specs.declared.control.Write.TheVariants as write
 use Rattle.ug_kernel.specs.declared.calls.Listing.{Listing}
 use Rattle.ug_kernel.specs.declared.calls.Listing.TheVariants as listing
 use Rattle.ug_kernel.specs.declared.calls.Opened.{Opened}
@@ -37,15 +37,15 @@ abbrev pub NoneLived : List ℕ → Kernel → Kernel → Type 0
 NoneLived name k l = (i : ℕ) (d : Device) → Lived k.devices l.devices i d → d.name ≡ name → ⊥
 
 -- what reading a file gives: its bytes, unless it is absent or over its limit
-abbrev pub within : ℕ → List ℕ → ReadOut
-within limit bytes = if nat_le (length bytes) limit then out.Bytes bytes else out.TooLong
+abbrev pub within_limit : ℕ → List ℕ → ReadOut
+within_limit limit bytes = if nat_le (length bytes) limit then out.Bytes bytes else out.TooLong
 
 abbrev pub text_within : Option (List ℕ) → ReadOut
 text_within None = out.Absent
-text_within (Some bytes) = within 4096 bytes
+text_within (Some bytes) = within_limit 4096 bytes
 
 abbrev pub read_of : Attr → Device → ReadOut
-read_of attr.Descriptors d = within 131072 d.descriptors
+read_of attr.Descriptors d = within_limit 131072 d.descriptors
 read_of attr.Product d = text_within d.product
 read_of attr.Serial d = text_within d.serial
 read_of attr.Connect d = text_within d.connect
@@ -114,13 +114,13 @@ does_put held write wrote.Gone k l = l ≡ k
 does_put held write wrote.Failed k l = (l ≡ k) ⊎ IsWritten held write k l
 
 -- the effect of a call, by its answer
-abbrev pub Does : (call : Call) → Answer call → Kernel → Kernel → Type 0
-Does (Open name control) answer k l = does_open name control answer.answer k l
-Does (Put held write) answer k l = does_put held write answer.answer k l
-Does Names answer k l = l ≡ k
-Does (Read name attr) answer k l = l ≡ k
-Does (Ask_alive held) answer k l = l ≡ k
-Does (Close held) answer k l = l ≡ k
+abbrev pub DoesCall : (call : Call) → Answer call → Kernel → Kernel → Type 0
+DoesCall (Open name control) answer k l = does_open name control answer.answer k l
+DoesCall (Put held write) answer k l = does_put held write answer.answer k l
+DoesCall Names answer k l = l ≡ k
+DoesCall (Read name attr) answer k l = l ≡ k
+DoesCall (Ask_alive held) answer k l = l ≡ k
+DoesCall (Close held) answer k l = l ≡ k
 
 -- the device of a held file is gone
 abbrev pub IsGoneAt : ℕ → Kernel → Type 0
@@ -167,22 +167,22 @@ says_put held wrote.Gone k l = IsGoneAt held l
 says_put held wrote.Failed k l = Unit {0}
 
 -- what an answer says of the kernel at the call's start and at its end
-abbrev pub Says : (call : Call) → Answer call → Kernel → Kernel → Type 0
-Says Names answer k l = says_listing answer.answer k l
-Says (Open name control) answer k l = says_open control name answer.answer k l
-Says (Read name attr) answer k l = says_read name attr answer.answer k l
-Says (Ask_alive held) answer k l = says_probe held answer.answer k l
-Says (Put held write) answer k l = says_put held answer.answer k l
-Says (Close held) answer k l = Unit {0}
+abbrev pub SaysAnswer : (call : Call) → Answer call → Kernel → Kernel → Type 0
+SaysAnswer Names answer k l = says_listing answer.answer k l
+SaysAnswer (Open name control) answer k l = says_open control name answer.answer k l
+SaysAnswer (Read name attr) answer k l = says_read name attr answer.answer k l
+SaysAnswer (Ask_alive held) answer k l = says_probe held answer.answer k l
+SaysAnswer (Put held write) answer k l = says_put held answer.answer k l
+SaysAnswer (Close held) answer k l = Unit {0}
 
 -- a call: moves, its effect, and moves
 pub record Called (call : Call) (answer : Answer call) (k l : Kernel) : Type 0 where
   pub before : Kernel
   pub after : Kernel
   pub moves_before : Moves k before
-  pub effect : Does call answer before after
+  pub effect : DoesCall call answer before after
   pub moves_after : Moves after l
-  pub says : Says call answer k l
+  pub says : SaysAnswer call answer k l
   pub sound_before : IsKernel before
   pub sound_after : IsKernel after
   pub sound : IsKernel l

@@ -1,10 +1,10 @@
 -- The calls of the kernel's files, and what each may be answered.
 use Rattle.std.specs.Prelude.{◌≡◌, ℕ, ◌+◌, ◌-◌, ◌^◌, ◌<◌, ◌≤◌, min, Bool, true, false, List}
-use Rattle.ug_types.specs.declared.control.Control.{Control}
-use Rattle.ug_types.specs.declared.control.Attr.{Attr}
-use Rattle.ug_types.specs.declared.control.Control.TheVariants.{Authorized, Remove, Default}
-use Rattle.ug_types.specs.declared.control.Write.{Write}
-use Rattle.ug_types.specs.declared.control.Write.TheVariants as write
+use Rattle.ug_kernel.specs.declared.control.Control.{Control}
+use Rattle.ug_kernel.specs.declared.control.Attr.{Attr}
+use Rattle.ug_kernel.specs.declared.control.Control.TheVariants.{Authorized, Remove, Default}
+use Rattle.ug_kernel.specs.declared.control.Write.{Write}
+use Rattle.ug_kernel.specs.declared.control.Write.TheVariants as write
 use Rattle.ug_kernel.specs.declared.calls.Listing.{Listing}
 use Rattle.ug_kernel.specs.declared.calls.Listing.TheVariants as listing
 use Rattle.ug_kernel.specs.declared.calls.Opened.{Opened}
@@ -35,7 +35,7 @@ pub data Call : Type 0 where
   Close : (held : ℕ) → Call
 
 -- an answer, with the number of its call in the event, and the count of faults after it
-pub record Told (X : Type 0) : Type 0 where
+pub record ToldAnswer (X : Type 0) : Type 0 where
   pub answer : X
   pub number : ℕ
   pub count : ℕ
@@ -44,11 +44,11 @@ pub data Closing : Type 0 where
   Closed : Closing
 
 abbrev pub Answer : Call → Type 0
-Answer Names = Told Listing
-Answer (Open name control) = Told Opened
-Answer (Read name attr) = Told ReadOut
-Answer (Ask_alive held) = Told Probe
-Answer (Put held write) = Told Wrote
+Answer Names = ToldAnswer Listing
+Answer (Open name control) = ToldAnswer Opened
+Answer (Read name attr) = ToldAnswer ReadOut
+Answer (Ask_alive held) = ToldAnswer Probe
+Answer (Put held write) = ToldAnswer Wrote
 Answer (Close held) = Closing
 
 -- one more, up to the greatest number of 64 bits
@@ -67,9 +67,9 @@ abbrev pub failed_read : ReadOut → Bool
 failed_read out.Failed = true
 failed_read answer = false
 
-abbrev pub failed_probe : Probe → Bool
-failed_probe probe.Failed = true
-failed_probe answer = false
+abbrev pub is_probe_failed : Probe → Bool
+is_probe_failed probe.Failed = true
+is_probe_failed answer = false
 
 abbrev pub failed_put : Wrote → Bool
 failed_put wrote.Failed = true
@@ -77,7 +77,7 @@ failed_put answer = false
 
 -- an answer tells the number of calls and the count of faults after it; each call raises the one,
 -- and a failure the other
-pub record Counted {X : Type 0} (failed : X → Bool) (told : Told X)
+pub record Counted {X : Type 0} (failed : X → Bool) (told : ToldAnswer X)
     (calls faults calls_after faults_after : ℕ) : Type 0 where
   pub number : told.number ≡ calls_after
   pub count : told.count ≡ faults_after
@@ -91,6 +91,6 @@ abbrev pub Counts : (call : Call) → Answer call → ℕ → ℕ → ℕ → �
 Counts Names a c f d g = Counted failed_listing a c f d g
 Counts (Open name control) a c f d g = Counted failed_open a c f d g
 Counts (Read name attr) a c f d g = Counted failed_read a c f d g
-Counts (Ask_alive held) a c f d g = Counted failed_probe a c f d g
+Counts (Ask_alive held) a c f d g = Counted is_probe_failed a c f d g
 Counts (Put held write) a c f d g = Counted failed_put a c f d g
 Counts (Close held) a c f d g = (d ≡ c) × (g ≡ f)

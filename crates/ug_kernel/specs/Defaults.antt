@@ -1,8 +1,8 @@
 -- What the log says of devices that are born off, and of the defaults of root hubs.
 use Rattle.std.specs.Prelude.{◌≡◌, ℕ, Bool, true, cond, nat_eq, List, [], ◌∷◌, ◌++◌, Option, Some, None, slice_get}
 use Rattle.ug_types.specs.Elements.{Has}
-use Rattle.ug_types.specs.declared.control.Write.{Write}
-use Rattle.ug_types.specs.declared.control.Write.TheVariants.{On}
+use Rattle.ug_kernel.specs.declared.control.Write.{Write}
+use Rattle.ug_kernel.specs.declared.control.Write.TheVariants.{On}
 use Rattle.ug_kernel.specs.declared.device.Device.{Device}
 use Rattle.ug_kernel.specs.declared.device.Effect.{Effect}
 use Rattle.ug_kernel.specs.Kernel.{Kernel, default_in}

@@ -1,8 +1,8 @@
 -- The kernel as plain data: devices, held files and the log of effects. And what it does by itself.
 use Rattle.std.specs.Prelude.{◌≡◌, ℕ, ◌+◌, ◌<◌, ◌≤◌, Bool, true, false, Option, if◌then◌else◌, List, [], ◌∷◌, length, Some, None, is_none, slice_get}
 use Rattle.ug_types.specs.Names.{parent_of}
-use Rattle.ug_types.specs.declared.control.Control.{Control}
-use Rattle.ug_types.specs.declared.control.Control.TheVariants.{Authorized, Remove, Default}
+use Rattle.ug_kernel.specs.declared.control.Control.{Control}
+use Rattle.ug_kernel.specs.declared.control.Control.TheVariants.{Authorized, Remove, Default}
 use Rattle.ug_kernel.specs.declared.device.Device.{Device}
 use Rattle.ug_kernel.specs.declared.device.HeldFile.{HeldFile}
 use Rattle.ug_kernel.specs.declared.device.Effect.{Effect}
@@ -85,10 +85,10 @@ pub record Moved (d e : Device) : Type 0 where
   pub default : e.default ≡ d.default
 
 -- the devices es begin with the devices ds, as moves left them
-abbrev pub Begins : List Device → List Device → Type 0
-Begins [] es = Unit {0}
-Begins (d ∷ ds) [] = ⊥
-Begins (d ∷ ds) (e ∷ es) = Moved d e × Begins ds es
+abbrev pub BeginsWith : List Device → List Device → Type 0
+BeginsWith [] es = Unit {0}
+BeginsWith (d ∷ ds) [] = ⊥
+BeginsWith (d ∷ ds) (e ∷ es) = Moved d e × BeginsWith ds es
 
 abbrev pub is_off : Option Bool → Bool
 is_off None = false
@@ -112,13 +112,13 @@ StartsUnder ds d None = d.born_off ≡ false
 StartsUnder ds d (Some r) = StartsBelow (default_in (slice_get ds r)) d
 
 -- and its own default is unset
-abbrev pub Starts : List Device → Device → Type 0
-Starts ds d = (d.default ≡ None) × StartsUnder ds d d.controller
+abbrev pub StartsUnset : List Device → Device → Type 0
+StartsUnset ds d = (d.default ≡ None) × StartsUnder ds d d.controller
 
 -- what the kernel does by itself: devices are born and go
 pub record Moves (k l : Kernel) : Type 0 where
-  pub devices : Begins k.devices l.devices
+  pub devices : BeginsWith k.devices l.devices
   pub born : (i : ℕ) (d : Device) → slice_get l.devices i ≡ Some d → length k.devices ≤ i
-      → Starts l.devices d
+      → StartsUnset l.devices d
   pub held : l.held ≡ k.held
   pub log : l.log ≡ k.log

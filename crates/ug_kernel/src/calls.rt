@@ -1,5 +1,6 @@
 // The calls of a device's files, and what they answer.
-use ug_types::{Held, List, NodeName, Text};
+use crate::control::Held;
+use ug_types::{List, NodeName, Text};
 
 /// The answer to a listing.
 #[derive(Drop)]

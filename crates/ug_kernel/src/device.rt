@@ -1,5 +1,6 @@
 // What the kernel keeps.
-use ug_types::{Control, NodeName, Text, Write};
+use crate::control::{Control, Write};
+use ug_types::{NodeName, Text};
 
 /// A device that was born. Its place in the kernel's list is its identity, and is never used again.
 #[derive(Drop)]

@@ -2,12 +2,13 @@
 #![tactic(auto)]
 
 mod calls;
+mod control;
 mod device;
 mod record;
 mod sysfs;
 
 pub use calls::{FailedCall, Listing, Opened, Probe, ReadOut, Wrote};
+pub use control::{Attr, Control, Held, Write};
 pub use device::{Device, Effect, HeldFile};
 pub use record::{Asked, CallRecord, Kind};
 pub use sysfs::Sysfs;
-pub use ug_types::{Attr, Control, Write};

@@ -1,5 +1,6 @@
 // The calls of an event, as they are recorded.
-use ug_types::{Attr, Control, Held, NodeName, Write};
+use crate::control::{Attr, Control, Held, Write};
+use ug_types::NodeName;
 
 /// A call, with what it was given.
 #[derive(Clone, Copy)]

@@ -8,8 +8,9 @@ ghost use Rattle.ug_kernel.specs.Entries.{entry_of};
 ghost use Rattle.ug_kernel.specs.Few.{HasFew, AreDistinct};
 
 use crate::calls::{Listing, Opened, Probe, ReadOut, Wrote};
+use crate::control::{Attr, Control, Held, Write};
 use std::alloc::Global;
-use ug_types::{Attr, Control, Held, NodeName, Write};
+use ug_types::NodeName;
 
 /// The files of USB devices in sysfs (sysfs-bus-usb). A device can come or go, or be replaced by another
 /// of the same name, at any moment, and each call can fail.

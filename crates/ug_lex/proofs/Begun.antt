@@ -6,7 +6,7 @@ use Rattle.ug_lex.specs.declared.pieces.Front.{Front}
 use Rattle.ug_lex.specs.declared.pieces.Front.TheVariants.{Blank, Comment, Piece}
 use Rattle.ug_lex.specs.declared.token.TokenKind.{TokenKind}
 use Rattle.ug_lex.specs.declared.token.TokenKind.TheVariants as kind
-use Rattle.ug_lex.specs.Lexing.{Fault, BadByte, front_of, is_blank, is_word_byte, mark_at, mark_of, quoted_from, string_of}
+use Rattle.ug_lex.specs.Lexing.{Fault, BadByte, front_of, is_blank, is_word_byte, mark_at, mark_token, quoted_from, string_of}
 use Rattle.ug_lex.specs.Grammar.{IsWordByte, goes_on}
 
 pub blank_front : (at b : ℕ) (bytes : List ℕ) → is_blank b ≡ true → front_of at (b ∷ bytes) ≡ Ok Blank
@@ -24,8 +24,8 @@ string_front at bytes = refl
 apart : (b n : ℕ) → is_word_byte b ≡ true → is_word_byte n ≡ false → b ≢ n
 apart b n h f = λ e. let no : true ≡ false = sym h ∙ ap is_word_byte e ∙ f in let none : ⊥ = cc in absurd none
 
-unmarked : (b n : ℕ) (mark : TokenKind) → mark_of b ≡ Some mark → mark_of n ≡ None → b ≢ n
-unmarked b n mark h f = λ e. let no : Some mark ≡ None = sym h ∙ ap mark_of e ∙ f in let none : ⊥ = cc in absurd none
+unmarked : (b n : ℕ) (mark : TokenKind) → mark_token b ≡ Some mark → mark_token n ≡ None → b ≢ n
+unmarked b n mark h f = λ e. let no : Some mark ≡ None = sym h ∙ ap mark_token e ∙ f in let none : ⊥ = cc in absurd none
 
 solid : (b : ℕ) → b ≢ 32 → b ≢ 9 → b ≢ 13 → is_blank b ≡ false
 solid b space tab return = grind arith
@@ -39,14 +39,14 @@ other_number b n h = λ e. grind arith
 not_eq : (b n : ℕ) → b ≢ n → nat_eq b n ≡ false
 not_eq b n h = grind arith
 
-unlisted : (b : ℕ) → b ≢ 123 → b ≢ 125 → b ≢ 40 → b ≢ 41 → b ≢ 33 → mark_of b ≡ None
+unlisted : (b : ℕ) → b ≢ 123 → b ≢ 125 → b ≢ 40 → b ≢ 41 → b ≢ 33 → mark_token b ≡ None
 unlisted b a c d e f = grind arith
 
 -- a byte that is no blank, comment or quote
-other_front : (at b : ℕ) (bytes : List ℕ) → is_blank b ≡ false → b ≢ 35 → b ≢ 34 → front_of at (b ∷ bytes) ≡ (if is_word_byte b then Ok (Piece kind.Word (prefix_len is_word_byte bytes)) else mark_at at (mark_of b))
+other_front : (at b : ℕ) (bytes : List ℕ) → is_blank b ≡ false → b ≢ 35 → b ≢ 34 → front_of at (b ∷ bytes) ≡ (if is_word_byte b then Ok (Piece kind.Word (prefix_len is_word_byte bytes)) else mark_at at (mark_token b))
 unfolding front_of
 other_front at b bytes blank hash quote =
-    let word : Result Front Fault = if is_word_byte b then Ok (Piece kind.Word (prefix_len is_word_byte bytes)) else mark_at at (mark_of b) in
+    let word : Result Front Fault = if is_word_byte b then Ok (Piece kind.Word (prefix_len is_word_byte bytes)) else mark_at at (mark_token b) in
     let string : Result Front Fault = string_of (quoted_from at (at + 1) 0 bytes) in
     ap (λ (v : Bool). if v then Ok Blank else if nat_eq b 35 then Ok Comment else if nat_eq b 34 then string else word) blank
     ∙ ap (λ (v : Bool). if v then Ok Comment else if nat_eq b 34 then string else word) (not_eq b 35 hash)
@@ -55,9 +55,9 @@ other_front at b bytes blank hash quote =
 pub word_front : (at b : ℕ) (bytes : List ℕ) → is_word_byte b ≡ true → front_of at (b ∷ bytes) ≡ Ok (Piece kind.Word (prefix_len is_word_byte bytes))
 word_front at b bytes h =
     other_front at b bytes (solid b (apart b 32 h refl) (apart b 9 h refl) (apart b 13 h refl)) (apart b 35 h refl) (apart b 34 h refl)
-    ∙ ap (λ (v : Bool). if v then Ok (Piece kind.Word (prefix_len is_word_byte bytes)) else mark_at at (mark_of b)) h
+    ∙ ap (λ (v : Bool). if v then Ok (Piece kind.Word (prefix_len is_word_byte bytes)) else mark_at at (mark_token b)) h
 
-no_mark : (b : ℕ) → is_word_byte b ≡ true → mark_of b ≡ None
+no_mark : (b : ℕ) → is_word_byte b ≡ true → mark_token b ≡ None
 no_mark b h =
     let open_ : b ≢ 123 = apart b 123 h refl in
     let close : b ≢ 125 = apart b 125 h refl in
@@ -66,7 +66,7 @@ no_mark b h =
     let bang : b ≢ 33 = apart b 33 h refl in
     unlisted b open_ close paren end_ bang
 
-mark_no_word : (b : ℕ) (mark : TokenKind) → mark_of b ≡ Some mark → is_word_byte b ≡ false
+mark_no_word : (b : ℕ) (mark : TokenKind) → mark_token b ≡ Some mark → is_word_byte b ≡ false
 mark_no_word b mark h =
     let T : Bool → Type 0 = λ v. is_word_byte b ≡ v → is_word_byte b ≡ false in
     let f : (v : Bool) → T v = λ v. elim v as T [
@@ -75,13 +75,13 @@ mark_no_word b mark h =
     ] in
     f (is_word_byte b) refl
 
-pub mark_front : (at b : ℕ) (bytes : List ℕ) (mark : TokenKind) → mark_of b ≡ Some mark → front_of at (b ∷ bytes) ≡ Ok (Piece mark 0)
+pub mark_front : (at b : ℕ) (bytes : List ℕ) (mark : TokenKind) → mark_token b ≡ Some mark → front_of at (b ∷ bytes) ≡ Ok (Piece mark 0)
 mark_front at b bytes mark h =
     other_front at b bytes (solid b (unmarked b 32 mark h refl) (unmarked b 9 mark h refl) (unmarked b 13 mark h refl)) (unmarked b 35 mark h refl) (unmarked b 34 mark h refl)
-    ∙ ap (λ (v : Bool). if v then Ok (Piece kind.Word (prefix_len is_word_byte bytes)) else mark_at at (mark_of b)) (mark_no_word b mark h)
+    ∙ ap (λ (v : Bool). if v then Ok (Piece kind.Word (prefix_len is_word_byte bytes)) else mark_at at (mark_token b)) (mark_no_word b mark h)
     ∙ ap (mark_at at) h
 
-pub strange_front : (at b : ℕ) (bytes : List ℕ) → is_blank b ≡ false → is_word_byte b ≡ false → mark_of b ≡ None → b ≢ 34 → b ≢ 35 → front_of at (b ∷ bytes) ≡ Err (BadByte at)
+pub strange_front : (at b : ℕ) (bytes : List ℕ) → is_blank b ≡ false → is_word_byte b ≡ false → mark_token b ≡ None → b ≢ 34 → b ≢ 35 → front_of at (b ∷ bytes) ≡ Err (BadByte at)
 unfolding front_of
 strange_front at b bytes blank word mark quote hash = grind arith
 

@@ -8,20 +8,20 @@ use Rattle.ug_lex.specs.declared.pieces.Front.TheVariants as front
 use Rattle.ug_lex.specs.declared.token.Token.{Token}
 use Rattle.ug_lex.specs.declared.token.TokenKind.{TokenKind}
 use Rattle.ug_lex.specs.declared.token.TokenKind.TheVariants as kinds
-use Rattle.ug_lex.specs.Lexing.{Fault, BadEscape, OpenString, BadByte, Lexed, before, front_of, is_blank, is_word_byte, led_by, mark_of, passed_by, quoted_from, string_of, tokens_from}
-use Rattle.ug_lex.specs.Grammar.{AllStand, Faulty, Strange, Unclosed, Misspelled, IsComment, Part, Spells, Stands, Blank, Mark, Word, String, joined, placed, token_at, width}
+use Rattle.ug_lex.specs.Lexing.{Fault, BadEscape, OpenString, BadByte, Lexed, before_rest, front_of, is_blank, is_word_byte, led_by, mark_token, passed_by, quoted_from, string_of, tokens_from}
+use Rattle.ug_lex.specs.Grammar.{AllStand, Faulty, Strange, Unclosed, Misspelled, IsComment, LinePart, Spells, StandsInLine, Blank, Mark, Word, String, parts_text, tokens_placed, token_at, width}
 use Rattle.ug_lex.proofs.Begun.{Run, blank_front, comment_front, mark_front, other_number, run_length, run_of, same_number, strange_front, string_front, word_front}
 use Rattle.ug_lex.proofs.Spelling.{closed_read, cut_string, ended_read, misspelled_read, spelled_read}
 use Rattle.ug_lex.proofs.Steps.{behind, grown, line_step}
 
 -- what stands at the front is read
-step_read : (at : ℕ) (bytes rest : List ℕ) (front : Result Front Fault) → length bytes ≡ 1 + passed_by front → front_of at (bytes ++ rest) ≡ front → tokens_from at 0 (bytes ++ rest) ≡ before at front (tokens_from (at + length bytes) 0 rest)
+step_read : (at : ℕ) (bytes rest : List ℕ) (front : Result Front Fault) → length bytes ≡ 1 + passed_by front → front_of at (bytes ++ rest) ≡ front → tokens_from at 0 (bytes ++ rest) ≡ before_rest at front (tokens_from (at + length bytes) 0 rest)
 step_read at bytes rest front long e =
     let back : drop (1 + passed_by front) (bytes ++ rest) ≡ rest = ap (λ (k : ℕ). drop k (bytes ++ rest)) (sym long) ∙ drop-append_seam bytes rest in
     let sum : at + 1 + passed_by front ≡ at + length bytes = omega arith in
     line_step at front (bytes ++ rest) (omega (arith, long, length-append bytes rest)) e (omega (arith, long, length-append bytes rest))
-    ∙ ap (λ (d : List ℕ). before at front (tokens_from (at + 1 + passed_by front) 0 d)) back
-    ∙ ap (λ (p : ℕ). before at front (tokens_from p 0 rest)) sum
+    ∙ ap (λ (d : List ℕ). before_rest at front (tokens_from (at + 1 + passed_by front) 0 d)) back
+    ∙ ap (λ (p : ℕ). before_rest at front (tokens_from p 0 rest)) sum
 
 behind-nil : (rest : Lexed) → behind [] rest ≡ rest
 behind-nil (Ok tokens) = refl
@@ -51,7 +51,7 @@ string_read at inside text tail s =
     ∙ ap (λ (t : List ℕ). Ok (front.Piece (kinds.Str t) (length inside + 1))) (append-nil text)
 
 -- a blank or a token is read
-part_read : (at : ℕ) (bytes : List ℕ) (kind : Option TokenKind) (rest : List ℕ) → Stands bytes kind rest → tokens_from at 0 (bytes ++ rest) ≡ behind (token_at at bytes kind) (tokens_from (at + length bytes) 0 rest)
+part_read : (at : ℕ) (bytes : List ℕ) (kind : Option TokenKind) (rest : List ℕ) → StandsInLine bytes kind rest → tokens_from at 0 (bytes ++ rest) ≡ behind (token_at at bytes kind) (tokens_from (at + length bytes) 0 rest)
 part_read at bytes kind rest (Blank b r h) =
     step_read at (b ∷ []) r (Ok front.Blank) (omega arith) (blank_front at b r h) ∙ sym (behind-nil (tokens_from (at + 1) 0 r))
 part_read at bytes kind rest (Mark b mark r h) = token_read at (b ∷ []) r mark 0 (omega arith) (mark_front at b r mark h)
@@ -62,13 +62,13 @@ part_read at bytes kind rest (String inside text r s) =
     token_read at (34 ∷ (inside ++ 34 ∷ [])) r (kinds.Str text) (length inside + 1) (omega (arith, length-append inside (34 ∷ []))) (ap (front_of at) same ∙ string_read at inside text r s)
 
 -- all parts are read
-pub all_read : (at : ℕ) (parts : List Part) (rest : List ℕ) → AllStand parts rest → tokens_from at 0 (joined parts rest) ≡ behind (placed at parts) (tokens_from (at + width parts) 0 rest)
+pub all_read : (at : ℕ) (parts : List LinePart) (rest : List ℕ) → AllStand parts rest → tokens_from at 0 (parts_text parts rest) ≡ behind (tokens_placed at parts) (tokens_from (at + width parts) 0 rest)
 all_read at [] rest stand = sym (behind-nil (tokens_from (at + 0) 0 rest) ∙ ap (λ (p : ℕ). tokens_from p 0 rest) (add-zero at))
 all_read at (part ∷ parts) rest stand =
     let sum : at + length part.bytes + width parts ≡ at + (length part.bytes + width parts) = omega arith in
     let here : List Token = token_at at part.bytes part.kind in
-    let more : List Token = placed (at + length part.bytes) parts in
-    part_read at part.bytes part.kind (joined parts rest) stand.0
+    let more : List Token = tokens_placed (at + length part.bytes) parts in
+    part_read at part.bytes part.kind (parts_text parts rest) stand.0
     ∙ ap (behind here) (all_read (at + length part.bytes) parts rest stand.1)
     ∙ behind-behind here more (tokens_from (at + length part.bytes + width parts) 0 rest)
     ∙ ap (λ (p : ℕ). behind (here ++ more) (tokens_from p 0 rest)) sum
@@ -100,7 +100,7 @@ record Next (xs : List ℕ) : Type 0 where
   rest : List ℕ
   all : xs ≡ bytes ++ rest
   some : 0 < length bytes
-  stands : Stands bytes kind rest
+  stands : StandsInLine bytes kind rest
 
 abbrev NextOrFault : ℕ → List ℕ → Type 0
 NextOrFault at xs = Next xs ⊎ ((fault : Fault) × Faulty at xs fault)
@@ -135,12 +135,12 @@ next_word b bytes h =
 
 next_other : (at b : ℕ) (bytes : List ℕ) → is_blank b ≡ false → is_word_byte b ≡ false → b ≢ 34 → b ≢ 35 → NextOrFault at (b ∷ bytes)
 next_other at b bytes blank word quote hash =
-    let T : Option TokenKind → Type 0 = λ o. mark_of b ≡ o → NextOrFault at (b ∷ bytes) in
+    let T : Option TokenKind → Type 0 = λ o. mark_token b ≡ o → NextOrFault at (b ∷ bytes) in
     let f : (o : Option TokenKind) → T o = λ o. elim o as T [
       | Some mark ↦ λ e. inl (record { bytes = b ∷ []; kind = Some mark; rest = bytes; all = refl; some = omega arith; stands = Mark b mark bytes e })
       | None ↦ λ e. inr (BadByte at, Strange b bytes blank word e quote hash)
     ] in
-    f (mark_of b) refl
+    f (mark_token b) refl
 
 next_solid : (at b : ℕ) (bytes : List ℕ) → is_blank b ≡ false → b ≢ 35 → NextOrFault at (b ∷ bytes)
 next_solid at b bytes blank hash =
@@ -166,17 +166,17 @@ next at b bytes =
 
 -- what a cut of a line finds
 pub record Whole (xs : List ℕ) : Type 0 where
-  pub parts : List Part
+  pub parts : List LinePart
   pub rest : List ℕ
-  pub all : xs ≡ joined parts rest
+  pub all : xs ≡ parts_text parts rest
   pub stand : AllStand parts rest
   pub ends : IsComment rest
 
 pub record Stopped (at : ℕ) (xs : List ℕ) : Type 0 where
-  pub parts : List Part
+  pub parts : List LinePart
   pub rest : List ℕ
   pub fault : Fault
-  pub all : xs ≡ joined parts rest
+  pub all : xs ≡ parts_text parts rest
   pub stand : AllStand parts rest
   pub faulty : Faulty (at + width parts) rest fault
 
@@ -185,23 +185,23 @@ Cut at xs = Whole xs ⊎ Stopped at xs
 
 with_next : (at : ℕ) (xs : List ℕ) (n : Next xs) → Cut (at + length n.bytes) n.rest → Cut at xs
 with_next at xs n (inl w) =
-    let part : Part = record { bytes = n.bytes; kind = n.kind } in
+    let part : LinePart = record { bytes = n.bytes; kind = n.kind } in
     inl (record {
       parts = part ∷ w.parts;
       rest = w.rest;
       all = n.all ∙ ap (λ (l : List ℕ). n.bytes ++ l) w.all;
-      stand = (subst (Stands n.bytes n.kind) w.all n.stands, w.stand);
+      stand = (subst (StandsInLine n.bytes n.kind) w.all n.stands, w.stand);
       ends = w.ends;
     })
 with_next at xs n (inr s) =
-    let part : Part = record { bytes = n.bytes; kind = n.kind } in
+    let part : LinePart = record { bytes = n.bytes; kind = n.kind } in
     let sum : at + length n.bytes + width s.parts ≡ at + (length n.bytes + width s.parts) = omega arith in
     inr (record {
       parts = part ∷ s.parts;
       rest = s.rest;
       fault = s.fault;
       all = n.all ∙ ap (λ (l : List ℕ). n.bytes ++ l) s.all;
-      stand = (subst (Stands n.bytes n.kind) s.all n.stands, s.stand);
+      stand = (subst (StandsInLine n.bytes n.kind) s.all n.stands, s.stand);
       faulty = subst (λ (p : ℕ). Faulty p s.rest s.fault) sum s.faulty;
     })
 

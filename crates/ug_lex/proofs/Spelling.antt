@@ -4,7 +4,7 @@ use Rattle.std.specs.Prelude.{◌≢◌}
 use Rattle.std.proofs.Math.Seq.{drop-append_seam}
 use Rattle.ug_lex.specs.declared.pieces.Inner.TheVariants.{Stray, Byte}
 use Rattle.ug_lex.specs.declared.pieces.Quoted.{Quoted}
-use Rattle.ug_lex.specs.Lexing.{Fault, BadEscape, OpenString, digit_of, digits_of, escape_of, inner_of, pair_of, quoted_from, spelled}
+use Rattle.ug_lex.specs.Lexing.{Fault, BadEscape, OpenString, digit_of, hex_escape, escape_of, inner_of, pair_of, quoted_from, spelled}
 use Rattle.ug_lex.specs.Grammar.{BeginsEscape, Plain, Digits, IsLineEnd, Spells, Empty, Itself, Escaped, Coded}
 use Rattle.ug_lex.proofs.Steps.{grown, string_step}
 
@@ -12,7 +12,7 @@ escape_plain : (b : ℕ) (rest : List ℕ) → (b ≡ 34) ⊎ (b ≡ 92) → esc
 escape_plain b rest (inl e) = rw e refl
 escape_plain b rest (inr e) = rw e refl
 
-digits_read : (high low h l : ℕ) (rest : List ℕ) → digit_of high ≡ Some h → digit_of low ≡ Some l → digits_of (high ∷ low ∷ rest) ≡ Byte (h * 16 + l) 3
+digits_read : (high low h l : ℕ) (rest : List ℕ) → digit_of high ≡ Some h → digit_of low ≡ Some l → hex_escape (high ∷ low ∷ rest) ≡ Byte (h * 16 + l) 3
 digits_read high low h l rest d e = ap (λ (o : Option ℕ). pair_of o (digit_of low)) d ∙ ap (pair_of (Some h)) e
 
 itself_read : (b : ℕ) (rest : List ℕ) → b ≢ 34 → b ≢ 92 → b ≢ 10 → inner_of (b ∷ rest) ≡ Byte b 0
@@ -76,7 +76,7 @@ pair_cases (Some x) (Some y) = inl (x, y, refl, refl)
 pair_cases (Some x) None = inr refl
 pair_cases None b = inr refl
 
-digits_cases : (bytes : List ℕ) → BeginsEscape (120 ∷ bytes) ⊎ (digits_of bytes ≡ Stray)
+digits_cases : (bytes : List ℕ) → BeginsEscape (120 ∷ bytes) ⊎ (hex_escape bytes ≡ Stray)
 digits_cases [] = inr refl
 digits_cases (high ∷ []) = inr refl
 digits_cases (high ∷ low ∷ bytes) = elim (pair_cases (digit_of high) (digit_of low)) [

@@ -9,7 +9,7 @@ use Rattle.ug_lex.specs.declared.fault.LexFault.{LexFault}
 use Rattle.ug_lex.specs.declared.fault.LexFault.TheVariants as lex
 use Rattle.ug_lex.specs.declared.token.Token.{Token}
 use Rattle.ug_lex.specs.declared.token.TokenKind.{TokenKind}
-use Rattle.ug_lex.specs.Lexing.{Fault, BadEscape, OpenString, BadByte, Answers, Lexed, before, front_of, inner_of, led_by, more_of, passed_by, quoted_from, spelled, tokens_from, within}
+use Rattle.ug_lex.specs.Lexing.{Fault, BadEscape, OpenString, BadByte, AnswersTokens, Lexed, before_rest, front_of, inner_of, led_by, more_of, passed_by, quoted_from, spelled, tokens_from, within_string}
 
 abbrev pub rest_at : ℕ → List ℕ → List ℕ
 rest_at at bytes = take (length bytes - at) (drop at bytes)
@@ -24,7 +24,7 @@ one_more : (k b : ℕ) (bytes : List ℕ) → drop k bytes ≡ drop (1 + k) (b �
 one_more k b bytes = let e : suc k ≡ 1 + k = omega arith in ap (λ (n : ℕ). drop n (b ∷ bytes)) e
 
 -- a fault is handed on
-pub handed_on : {X Y : Type 0} (e : LexFault) (read : Result X Fault) (whole : Result Y Fault) → ((fault : Fault) → read ≡ Err fault → whole ≡ Err fault) → Answers {X = X} (Err e) read → Answers {X = Y} (Err e) whole
+pub handed_on : {X Y : Type 0} (e : LexFault) (read : Result X Fault) (whole : Result Y Fault) → ((fault : Fault) → read ≡ Err fault → whole ≡ Err fault) → AnswersTokens {X = X} (Err e) read → AnswersTokens {X = Y} (Err e) whole
 handed_on (lex.BadEscape place) read whole h a = h (BadEscape place) a
 handed_on (lex.OpenString place) read whole h a = h (OpenString place) a
 handed_on (lex.BadByte place) read whole h a = h (BadByte place) a
@@ -44,19 +44,19 @@ string_passed opening at (suc k) (b ∷ bytes) h =
     string_passed opening (at + 1) k bytes (omega (arith, h)) ∙ ap (λ (p : ℕ). quoted_from opening p 0 (drop k bytes)) e
 
 -- what stands at the front of a string's rest decides
-pub string_step : (opening at : ℕ) (inner : Inner) (xs : List ℕ) → 0 < length xs → inner_of xs ≡ inner → more_of inner < length xs → quoted_from opening at 0 xs ≡ within opening at inner (quoted_from opening (at + 1 + more_of inner) 0 (drop (1 + more_of inner) xs))
+pub string_step : (opening at : ℕ) (inner : Inner) (xs : List ℕ) → 0 < length xs → inner_of xs ≡ inner → more_of inner < length xs → quoted_from opening at 0 xs ≡ within_string opening at inner (quoted_from opening (at + 1 + more_of inner) 0 (drop (1 + more_of inner) xs))
 unfolding quoted_from
 string_step opening at inner [] h e m = absurd (omega (arith, h))
 string_step opening at inner (b ∷ bytes) h e m =
-    ap (λ (i : Inner). within opening at i (quoted_from opening (at + 1) (more_of i) bytes)) e
-    ∙ ap (within opening at inner) (string_passed opening (at + 1) (more_of inner) bytes (omega (arith, m)) ∙ ap (λ (d : List ℕ). quoted_from opening (at + 1 + more_of inner) 0 d) (one_more (more_of inner) b bytes))
+    ap (λ (i : Inner). within_string opening at i (quoted_from opening (at + 1) (more_of i) bytes)) e
+    ∙ ap (within_string opening at inner) (string_passed opening (at + 1) (more_of inner) bytes (omega (arith, m)) ∙ ap (λ (d : List ℕ). quoted_from opening (at + 1 + more_of inner) 0 d) (one_more (more_of inner) b bytes))
 
-pub string_at : (opening at : ℕ) (inner : Inner) (line : List ℕ) → at < length line → inner_of (drop at line) ≡ inner → at + more_of inner < length line → quoted_from opening at 0 (drop at line) ≡ within opening at inner (quoted_from opening (at + (1 + more_of inner)) 0 (drop (at + (1 + more_of inner)) line))
+pub string_at : (opening at : ℕ) (inner : Inner) (line : List ℕ) → at < length line → inner_of (drop at line) ≡ inner → at + more_of inner < length line → quoted_from opening at 0 (drop at line) ≡ within_string opening at inner (quoted_from opening (at + (1 + more_of inner)) 0 (drop (at + (1 + more_of inner)) line))
 string_at opening at inner line h e m =
     let sum : at + 1 + more_of inner ≡ at + (1 + more_of inner) = omega arith in
     string_step opening at inner (drop at line) (omega (arith, length-drop at line)) e (omega (arith, length-drop at line))
-    ∙ ap (λ (d : List ℕ). within opening at inner (quoted_from opening (at + 1 + more_of inner) 0 d)) (drop-drop (1 + more_of inner) at line)
-    ∙ ap (λ (p : ℕ). within opening at inner (quoted_from opening p 0 (drop (at + (1 + more_of inner)) line))) sum
+    ∙ ap (λ (d : List ℕ). within_string opening at inner (quoted_from opening (at + 1 + more_of inner) 0 d)) (drop-drop (1 + more_of inner) at line)
+    ∙ ap (λ (p : ℕ). within_string opening at inner (quoted_from opening p 0 (drop (at + (1 + more_of inner)) line))) sum
 
 pub string_end : (opening at : ℕ) (line : List ℕ) → length line ≤ at → quoted_from opening at 0 (drop at line) ≡ Err (OpenString opening)
 unfolding quoted_from
@@ -67,15 +67,15 @@ abbrev pub grown : List ℕ → ℕ → Result Quoted Fault → Result Quoted Fa
 grown text more (Ok quoted) = Ok (record { text = text ++ quoted.text; more = more + quoted.more })
 grown text more (Err fault) = Err fault
 
-pub grown-spelled : (text : List ℕ) (before value more : ℕ) (rest : Result Quoted Fault) → grown text before (spelled value more rest) ≡ grown (text ++ value ∷ []) (before + (1 + more)) rest
-grown-spelled text before value more (Ok quoted) =
-    let sum : before + (1 + more + quoted.more) ≡ before + (1 + more) + quoted.more = omega arith in
+pub grown-spelled : (text : List ℕ) (before_rest value more : ℕ) (rest : Result Quoted Fault) → grown text before_rest (spelled value more rest) ≡ grown (text ++ value ∷ []) (before_rest + (1 + more)) rest
+grown-spelled text before_rest value more (Ok quoted) =
+    let sum : before_rest + (1 + more + quoted.more) ≡ before_rest + (1 + more) + quoted.more = omega arith in
     let all : text ++ value ∷ quoted.text ≡ (text ++ value ∷ []) ++ quoted.text = sym (append_assoc text (value ∷ []) quoted.text) in
     λ i. Ok (record { text = all i; more = sum i })
-grown-spelled text before value more (Err fault) = refl
+grown-spelled text before_rest value more (Err fault) = refl
 
 -- the string, by what stands at the front of what is left of it
-pub string_turn : (line : List ℕ) (opening at : ℕ) (text : List ℕ) (inner : Inner) (whole : Result Quoted Fault) → at < length line → grown text (at - (opening + 1)) (quoted_from opening at 0 (drop at line)) ≡ whole → inner ≡ inner_of (rest_at at line) → (0 < length (rest_at at line) → more_of inner < length (rest_at at line)) → whole ≡ grown text (at - (opening + 1)) (within opening at inner (quoted_from opening (at + (1 + more_of inner)) 0 (drop (at + (1 + more_of inner)) line)))
+pub string_turn : (line : List ℕ) (opening at : ℕ) (text : List ℕ) (inner : Inner) (whole : Result Quoted Fault) → at < length line → grown text (at - (opening + 1)) (quoted_from opening at 0 (drop at line)) ≡ whole → inner ≡ inner_of (rest_at at line) → (0 < length (rest_at at line) → more_of inner < length (rest_at at line)) → whole ≡ grown text (at - (opening + 1)) (within_string opening at inner (quoted_from opening (at + (1 + more_of inner)) 0 (drop (at + (1 + more_of inner)) line)))
 string_turn line opening at text inner whole h w i m =
     let same : rest_at at line ≡ drop at line = rest_is at line in
     let long : length (rest_at at line) ≡ length line - at = rest_length at line in
@@ -97,19 +97,19 @@ line_passed at (suc k) (b ∷ bytes) h =
     line_passed (at + 1) k bytes (omega (arith, h)) ∙ ap (λ (p : ℕ). tokens_from p 0 (drop k bytes)) e
 
 -- what stands at the front of a line's rest decides
-pub line_step : (at : ℕ) (front : Result Front Fault) (xs : List ℕ) → 0 < length xs → front_of at xs ≡ front → passed_by front < length xs → tokens_from at 0 xs ≡ before at front (tokens_from (at + 1 + passed_by front) 0 (drop (1 + passed_by front) xs))
+pub line_step : (at : ℕ) (front : Result Front Fault) (xs : List ℕ) → 0 < length xs → front_of at xs ≡ front → passed_by front < length xs → tokens_from at 0 xs ≡ before_rest at front (tokens_from (at + 1 + passed_by front) 0 (drop (1 + passed_by front) xs))
 unfolding tokens_from
 line_step at front [] h e m = absurd (omega (arith, h))
 line_step at front (b ∷ bytes) h e m =
-    ap (λ (f : Result Front Fault). before at f (tokens_from (at + 1) (passed_by f) bytes)) e
-    ∙ ap (before at front) (line_passed (at + 1) (passed_by front) bytes (omega (arith, m)) ∙ ap (λ (d : List ℕ). tokens_from (at + 1 + passed_by front) 0 d) (one_more (passed_by front) b bytes))
+    ap (λ (f : Result Front Fault). before_rest at f (tokens_from (at + 1) (passed_by f) bytes)) e
+    ∙ ap (before_rest at front) (line_passed (at + 1) (passed_by front) bytes (omega (arith, m)) ∙ ap (λ (d : List ℕ). tokens_from (at + 1 + passed_by front) 0 d) (one_more (passed_by front) b bytes))
 
-pub line_at : (at : ℕ) (front : Result Front Fault) (line : List ℕ) → at < length line → front_of at (drop at line) ≡ front → at + passed_by front < length line → tokens_from at 0 (drop at line) ≡ before at front (tokens_from (at + (1 + passed_by front)) 0 (drop (at + (1 + passed_by front)) line))
+pub line_at : (at : ℕ) (front : Result Front Fault) (line : List ℕ) → at < length line → front_of at (drop at line) ≡ front → at + passed_by front < length line → tokens_from at 0 (drop at line) ≡ before_rest at front (tokens_from (at + (1 + passed_by front)) 0 (drop (at + (1 + passed_by front)) line))
 line_at at front line h e m =
     let sum : at + 1 + passed_by front ≡ at + (1 + passed_by front) = omega arith in
     line_step at front (drop at line) (omega (arith, length-drop at line)) e (omega (arith, length-drop at line))
-    ∙ ap (λ (d : List ℕ). before at front (tokens_from (at + 1 + passed_by front) 0 d)) (drop-drop (1 + passed_by front) at line)
-    ∙ ap (λ (p : ℕ). before at front (tokens_from p 0 (drop (at + (1 + passed_by front)) line))) sum
+    ∙ ap (λ (d : List ℕ). before_rest at front (tokens_from (at + 1 + passed_by front) 0 d)) (drop-drop (1 + passed_by front) at line)
+    ∙ ap (λ (p : ℕ). before_rest at front (tokens_from p 0 (drop (at + (1 + passed_by front)) line))) sum
 
 pub line_end : (at : ℕ) (line : List ℕ) → length line ≤ at → tokens_from at 0 (drop at line) ≡ Ok []
 unfolding tokens_from
@@ -125,7 +125,7 @@ behind-led_by tokens token (Ok rest) = ap (λ (l : List Token). Ok l) (sym (appe
 behind-led_by tokens token (Err fault) = refl
 
 -- the line, by what stands at the front of what is left of it
-pub line_turn : (line : List ℕ) (at : ℕ) (tokens : List Token) (front : Result Front Fault) (whole : Lexed) → at < length line → behind tokens (tokens_from at 0 (drop at line)) ≡ whole → front_of at (drop at line) ≡ front → at + passed_by front < length line → whole ≡ behind tokens (before at front (tokens_from (at + (1 + passed_by front)) 0 (drop (at + (1 + passed_by front)) line)))
+pub line_turn : (line : List ℕ) (at : ℕ) (tokens : List Token) (front : Result Front Fault) (whole : Lexed) → at < length line → behind tokens (tokens_from at 0 (drop at line)) ≡ whole → front_of at (drop at line) ≡ front → at + passed_by front < length line → whole ≡ behind tokens (before_rest at front (tokens_from (at + (1 + passed_by front)) 0 (drop (at + (1 + passed_by front)) line)))
 line_turn line at tokens front whole h w e m = sym w ∙ ap (behind tokens) (line_at at front line h e m)
 
 pub line_more : (line : List ℕ) (at : ℕ) (tokens : List Token) (kind : TokenKind) (more : ℕ) (whole : Lexed) → at < length line → behind tokens (tokens_from at 0 (drop at line)) ≡ whole → front_of at (drop at line) ≡ Ok (Piece kind more) → at + more < length line → behind (tokens ++ record { kind = kind; start = at; end = at + (1 + more) } ∷ []) (tokens_from (at + (1 + more)) 0 (drop (at + (1 + more)) line)) ≡ whole

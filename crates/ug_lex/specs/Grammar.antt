@@ -6,17 +6,20 @@ use Rattle.ug_lex.specs.declared.fault.LexFault.TheVariants as lex
 use Rattle.ug_lex.specs.declared.token.Token.{Token}
 use Rattle.ug_lex.specs.declared.token.TokenKind.{TokenKind}
 use Rattle.ug_lex.specs.declared.token.TokenKind.TheVariants as kind
-use Rattle.ug_lex.specs.Lexing.{Fault, BadEscape, OpenString, BadByte, digit_of, is_blank, is_word_byte, mark_of}
+use Rattle.ug_lex.specs.Lexing.{Fault, BadEscape, OpenString, BadByte, digit_of, is_blank, is_word_byte, mark_token}
 
 -- the bytes within a string spell a text
 pub data Spells : List ℕ → List ℕ → Type 0 where
   Empty : Spells [] []
   -- a byte that stands for itself
-  Itself : (b : ℕ) (inside text : List ℕ) → b ≢ 34 → b ≢ 92 → b ≢ 10 → Spells inside text → Spells (b ∷ inside) (b ∷ text)
+  Itself : (b : ℕ) (inside text : List ℕ) → b ≢ 34 → b ≢ 92 → b ≢ 10 → Spells inside text
+      → Spells (b ∷ inside) (b ∷ text)
   -- a backslash before a quote or a backslash
-  Escaped : (b : ℕ) (inside text : List ℕ) → (b ≡ 34) ⊎ (b ≡ 92) → Spells inside text → Spells (92 ∷ b ∷ inside) (b ∷ text)
+  Escaped : (b : ℕ) (inside text : List ℕ) → (b ≡ 34) ⊎ (b ≡ 92) → Spells inside text
+      → Spells (92 ∷ b ∷ inside) (b ∷ text)
   -- a backslash, an x and two hexadecimal digits
-  Coded : (high low h l : ℕ) (inside text : List ℕ) → digit_of high ≡ Some h → digit_of low ≡ Some l → Spells inside text → Spells (92 ∷ 120 ∷ high ∷ low ∷ inside) ((h * 16 + l) ∷ text)
+  Coded : (high low h l : ℕ) (inside text : List ℕ) → digit_of high ≡ Some h → digit_of low ≡ Some l
+      → Spells inside text → Spells (92 ∷ 120 ∷ high ∷ low ∷ inside) ((h * 16 + l) ∷ text)
 
 abbrev pub goes_on : List ℕ → Bool
 goes_on [] = false
@@ -26,38 +29,43 @@ abbrev pub IsWordByte : ℕ → Type 0
 IsWordByte b = is_word_byte b ≡ true
 
 -- bytes that are a blank or a token, before the rest of the line
-pub data Stands : List ℕ → Option TokenKind → List ℕ → Type 0 where
-  Blank : (b : ℕ) (rest : List ℕ) → is_blank b ≡ true → Stands (b ∷ []) None rest
-  Mark : (b : ℕ) (mark : TokenKind) (rest : List ℕ) → mark_of b ≡ Some mark → Stands (b ∷ []) (Some mark) rest
+pub data StandsInLine : List ℕ → Option TokenKind → List ℕ → Type 0 where
+  Blank : (b : ℕ) (rest : List ℕ) → is_blank b ≡ true → StandsInLine (b ∷ []) None rest
+  Mark : (b : ℕ) (mark : TokenKind) (rest : List ℕ) → mark_token b ≡ Some mark
+      → StandsInLine (b ∷ []) (Some mark) rest
   -- a longest run of a word's bytes
-  Word : (b : ℕ) (run rest : List ℕ) → AllByRecursion IsWordByte (b ∷ run) → goes_on rest ≡ false → Stands (b ∷ run) (Some kind.Word) rest
-  String : (inside text rest : List ℕ) → Spells inside text → Stands (34 ∷ (inside ++ 34 ∷ [])) (Some (kind.Str text)) rest
+  Word : (b : ℕ) (run rest : List ℕ) → AllByRecursion IsWordByte (b ∷ run) → goes_on rest ≡ false
+      → StandsInLine (b ∷ run) (Some kind.Word) rest
+  String : (inside text rest : List ℕ) → Spells inside text
+      → StandsInLine (34 ∷ (inside ++ 34 ∷ [])) (Some (kind.Str text)) rest
 
 -- some bytes of a line, and the token that they are unless they are a blank
-pub record Part : Type 0 where
+pub record LinePart : Type 0 where
   pub bytes : List ℕ
   pub kind : Option TokenKind
 
-abbrev pub joined : List Part → List ℕ → List ℕ
-joined [] rest = rest
-joined (part ∷ parts) rest = part.bytes ++ joined parts rest
+abbrev pub parts_text : List LinePart → List ℕ → List ℕ
+parts_text [] rest = rest
+parts_text (part ∷ parts) rest = part.bytes ++ parts_text parts rest
 
 -- each is a blank or a token, before what stands behind it
-abbrev pub AllStand : List Part → List ℕ → Type 0
+abbrev pub AllStand : List LinePart → List ℕ → Type 0
 AllStand [] rest = Unit {0}
-AllStand (part ∷ parts) rest = Stands part.bytes part.kind (joined parts rest) × AllStand parts rest
+AllStand (part ∷ parts) rest =
+    StandsInLine part.bytes part.kind (parts_text parts rest) × AllStand parts rest
 
 abbrev pub token_at : ℕ → List ℕ → Option TokenKind → List Token
 token_at at bytes None = []
 token_at at bytes (Some kind) = record { kind = kind; start = at; end = at + length bytes } ∷ []
 
 -- the tokens among the parts, which begin at a place
-abbrev pub placed : ℕ → List Part → List Token
-placed at [] = []
-placed at (part ∷ parts) = token_at at part.bytes part.kind ++ placed (at + length part.bytes) parts
+abbrev pub tokens_placed : ℕ → List LinePart → List Token
+tokens_placed at [] = []
+tokens_placed at (part ∷ parts) =
+    token_at at part.bytes part.kind ++ tokens_placed (at + length part.bytes) parts
 
 -- how many bytes the parts have
-abbrev pub width : List Part → ℕ
+abbrev pub width : List LinePart → ℕ
 width [] = 0
 width (part ∷ parts) = length part.bytes + width parts
 
@@ -67,12 +75,12 @@ IsComment rest = (rest ≡ []) ⊎ ((text : List ℕ) × (rest ≡ 35 ∷ text))
 
 -- the line has these tokens
 pub record Good (line : List ℕ) (tokens : List Token) : Type 0 where
-  pub parts : List Part
+  pub parts : List LinePart
   pub rest : List ℕ
-  pub all : line ≡ joined parts rest
+  pub all : line ≡ parts_text parts rest
   pub stand : AllStand parts rest
   pub ends : IsComment rest
-  pub says : tokens ≡ placed 0 parts
+  pub says : tokens ≡ tokens_placed 0 parts
 
 abbrev pub IsLineEnd : List ℕ → Type 0
 IsLineEnd rest = (rest ≡ []) ⊎ ((more : List ℕ) × (rest ≡ 10 ∷ more))
@@ -80,22 +88,26 @@ IsLineEnd rest = (rest ≡ []) ⊎ ((more : List ℕ) × (rest ≡ 10 ∷ more))
 -- a backslash before these bytes begins an escape
 pub data BeginsEscape : List ℕ → Type 0 where
   Plain : (b : ℕ) (rest : List ℕ) → (b ≡ 34) ⊎ (b ≡ 92) → BeginsEscape (b ∷ rest)
-  Digits : (high low h l : ℕ) (rest : List ℕ) → digit_of high ≡ Some h → digit_of low ≡ Some l → BeginsEscape (120 ∷ high ∷ low ∷ rest)
+  Digits : (high low h l : ℕ) (rest : List ℕ) → digit_of high ≡ Some h → digit_of low ≡ Some l
+      → BeginsEscape (120 ∷ high ∷ low ∷ rest)
 
 -- no token, blank or comment stands at the front of the rest, which begins at a place
 pub data Faulty (at : ℕ) : List ℕ → Fault → Type 0 where
   -- a byte that begins nothing
-  Strange : (b : ℕ) (behind : List ℕ) → is_blank b ≡ false → is_word_byte b ≡ false → mark_of b ≡ None → b ≢ 34 → b ≢ 35 → Faulty at (b ∷ behind) (BadByte at)
+  Strange : (b : ℕ) (behind : List ℕ) → is_blank b ≡ false → is_word_byte b ≡ false
+      → mark_token b ≡ None → b ≢ 34 → b ≢ 35 → Faulty at (b ∷ behind) (BadByte at)
   -- a string that meets the line's end
-  Unclosed : (inside text behind : List ℕ) → Spells inside text → IsLineEnd behind → Faulty at (34 ∷ (inside ++ behind)) (OpenString at)
+  Unclosed : (inside text behind : List ℕ) → Spells inside text → IsLineEnd behind
+      → Faulty at (34 ∷ (inside ++ behind)) (OpenString at)
   -- a string that meets a backslash without escape
-  Misspelled : (inside text behind : List ℕ) → Spells inside text → (BeginsEscape behind → ⊥) → Faulty at (34 ∷ (inside ++ 92 ∷ behind)) (BadEscape (at + 1 + length inside))
+  Misspelled : (inside text behind : List ℕ) → Spells inside text → (BeginsEscape behind → ⊥)
+      → Faulty at (34 ∷ (inside ++ 92 ∷ behind)) (BadEscape (at + 1 + length inside))
 
 -- the line has this first fault
 pub record Bad (line : List ℕ) (fault : Fault) : Type 0 where
-  pub parts : List Part
+  pub parts : List LinePart
   pub rest : List ℕ
-  pub all : line ≡ joined parts rest
+  pub all : line ≡ parts_text parts rest
   pub stand : AllStand parts rest
   pub faulty : Faulty (width parts) rest fault
 
@@ -108,4 +120,5 @@ IfLexical lex.Memory P = Unit {0}
 -- the tokens take bytes one behind another, each at least one, between two places
 abbrev pub InOrder : ℕ → ℕ → List Token → Type 0
 InOrder from to [] = from ≤ to
-InOrder from to (token ∷ tokens) = (from ≤ token.start) × (token.start < token.end) × InOrder token.end to tokens
+InOrder from to (token ∷ tokens) =
+    (from ≤ token.start) × (token.start < token.end) × InOrder token.end to tokens

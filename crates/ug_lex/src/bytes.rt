@@ -1,7 +1,7 @@
 // Bytes outside strings.
 ghost use Rattle.std.specs.Prelude.{◌≡◌, ◌≤◌, length};
 ghost use Rattle.std.specs.List.{prefix_len};
-ghost use Rattle.ug_lex.specs.Lexing.{is_blank, is_word_byte, mark_of};
+ghost use Rattle.ug_lex.specs.Lexing.{is_blank, is_word_byte, mark_token};
 
 use crate::token::TokenKind;
 
@@ -32,7 +32,7 @@ pub fn word_length(bytes: &[u8]) -> usize
 
 /// A token of one byte.
 pub fn mark(byte: u8) -> Option<TokenKind>
-    ensures { result ≡ mark_of byte }
+    ensures { result ≡ mark_token byte }
 {
     match byte {
         b'{' => Some(TokenKind::Open),

@@ -1,6 +1,6 @@
 // What stands at the front of a line's rest.
 ghost use Rattle.std.specs.Prelude.{◌≡◌, ◌+◌, ◌<◌, IfOk, length, drop};
-ghost use Rattle.ug_lex.specs.Lexing.{Answers, front_of, passed_by};
+ghost use Rattle.ug_lex.specs.Lexing.{AnswersTokens, front_of, passed_by};
 
 use crate::bytes::{mark, separates, stands_in_word, word_length};
 use crate::fault::LexFault;
@@ -13,7 +13,7 @@ use std::alloc::Global;
 #[tactic(auto, unfolding(crate::specs::Lexing::front_of), using(crate::proofs::Steps::opened, crate::proofs::Steps::rest_is))]
 pub fn front(alloc: Global, line: &[u8], at: usize) -> Result<Front, LexFault>
     requires { at < length line.now }
-    ensures read { Answers result (front_of at (drop at line.now)) }
+    ensures read { AnswersTokens result (front_of at (drop at line.now)) }
     ensures fits { IfOk result (λ front. at + passed_by (Ok front) < length line.now) }
 {
     let byte = line[at];

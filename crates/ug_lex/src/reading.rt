@@ -1,7 +1,7 @@
 // Tokens read from a line.
 ghost use Rattle.std.specs.Prelude.{◌≡◌, [], List, Ok, Err, IfOk, IfErr};
 ghost use Rattle.ug_lex.specs.declared.token.Token.{Token};
-ghost use Rattle.ug_lex.specs.Lexing.{Answers, Fault, tokens_from, tokens_of};
+ghost use Rattle.ug_lex.specs.Lexing.{AnswersTokens, Fault, tokens_from, tokens_of};
 ghost use Rattle.ug_lex.specs.Grammar.{Good, Bad, IfLexical};
 
 use crate::fault::LexFault;
@@ -16,10 +16,11 @@ use ug_types::{List, NoMemory};
 #[tactic(auto, unfolding(crate::specs::Lexing::tokens_of))]
 pub fn tokens(alloc: Global, line: &[u8]) -> Result<List<Token>, LexFault>
     ensures good { IfOk result (λ tokens. Good line.now tokens) }
-    ensures only_good { (tokens : List Token) → Good line.now tokens → Answers result (Ok tokens) }
+    ensures only_good { (tokens : List Token) → Good line.now tokens
+        → AnswersTokens result (Ok tokens) }
     ensures bad { IfErr result (λ e. IfLexical e (Bad line.now)) }
-    ensures only_bad { (fault : Fault) → Bad line.now fault → Answers result (Err fault) }
-    ensures exact { Answers result (tokens_of line.now) }
+    ensures only_bad { (fault : Fault) → Bad line.now fault → AnswersTokens result (Err fault) }
+    ensures exact { AnswersTokens result (tokens_of line.now) }
 {
     read(alloc, line)
 }
@@ -32,7 +33,7 @@ fn room_for_some(alloc: Global) -> Result<List<Token>, NoMemory>
 }
 
 fn read(alloc: Global, line: &[u8]) -> Result<List<Token>, LexFault>
-    ensures { Answers result (tokens_from 0 0 line.now) }
+    ensures { AnswersTokens result (tokens_from 0 0 line.now) }
 {
     let mut tokens = room_for_some(alloc)?;
     let mut at = 0;

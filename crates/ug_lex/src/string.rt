@@ -1,6 +1,6 @@
 // Strings in double quotes.
 ghost use Rattle.std.specs.Prelude.{◌≡◌, ◌+◌, ◌<◌, ◌≤◌, [], IfOk, length, drop};
-ghost use Rattle.ug_lex.specs.Lexing.{Answers, digit_of, digits_of, escape_of, inner_of, more_of, quoted_from};
+ghost use Rattle.ug_lex.specs.Lexing.{AnswersTokens, digit_of, hex_escape, escape_of, inner_of, more_of, quoted_from};
 
 use crate::fault::LexFault;
 use crate::pieces::{Inner, Quoted};
@@ -19,7 +19,7 @@ fn digit(byte: u8) -> Option<u8>
 }
 
 fn digits(bytes: &[u8]) -> Inner
-    ensures is { result ≡ digits_of bytes.now }
+    ensures is { result ≡ hex_escape bytes.now }
     ensures fits { more_of result ≤ 1 + length bytes.now }
 {
     if bytes.len() < 2 {
@@ -77,7 +77,8 @@ fn room_for(alloc: Global, bytes: &[u8]) -> Result<List<u8>, NoMemory>
 /// Reads a string from its opening quote on.
 pub fn string(alloc: Global, line: &[u8], opening: usize) -> Result<Quoted, LexFault>
     requires { opening < length line.now }
-    ensures read { Answers result (quoted_from opening (opening + 1) 0 (drop (opening + 1) line.now)) }
+    ensures read { AnswersTokens result
+        (quoted_from opening (opening + 1) 0 (drop (opening + 1) line.now)) }
     ensures fits { IfOk result (λ quoted. opening + quoted.more < length line.now) }
 {
     let mut text = room_for(alloc, &line[opening + 1..])?;

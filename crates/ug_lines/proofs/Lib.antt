@@ -7,3 +7,5 @@ pub mod Trimming
 pub mod LineReading
 pub mod Meanings
 pub mod TextLines
+pub mod Cutting
+pub mod EntriesRead

@@ -3,7 +3,7 @@ use Rattle.std.proofs.Common.{◌≡◌, ◌≢◌, ℕ, zero, suc, ◌+◌, ◌
 use Rattle.std.proofs.lemmas.Bool.Decides.{nat_tests}
 use Rattle.std.proofs.lemmas.List.{append-nil, take_more, take_all}
 use Rattle.ug_lines.specs.Lines.{whole_from, rest_from, lines_from}
-use Rattle.ug_lines.specs.Splitting.{IsLine, AreLines, joined, Splits}
+use Rattle.ug_lines.specs.Splitting.{IsLine, AreLines, lines_joined, Splits}
 use Rattle.ug_lines.proofs.Lines.{whole_from-end, rest_from-end, whole_from-byte, rest_from-byte, whole_from-nil, rest_from-nil}
 
 pub line-more : (line : List ℕ) (b : ℕ) → IsLine line → b ≢ 10 → IsLine (line ++ b ∷ [])
@@ -21,7 +21,7 @@ tested b k = grind (arith, nat_tests)
 
 -- behind a line that has begun
 record Begun (line bytes : List ℕ) : Type 0 where
-  whole : line ++ bytes ≡ joined (whole_from line bytes) (rest_from line bytes)
+  whole : line ++ bytes ≡ lines_joined (whole_from line bytes) (rest_from line bytes)
   each : AreLines (whole_from line bytes)
   open_line : IsLine (rest_from line bytes)
 
@@ -94,17 +94,17 @@ part-line part some h k = subst (λ (xs : List ℕ). IsLine xs) (sym (last_taken
 pub part-ended : (part : List ℕ) → 0 < length part → get_or part (length part - 1) 0 ≡ 10 → part ≡ take (length part - 1) part ++ 10 ∷ []
 part-ended part some e = last_taken part some ∙ ap (λ (b : ℕ). take (length part - 1) part ++ b ∷ []) e
 
-whole_joined : (lines : List (List ℕ)) (rest : List ℕ) → AreLines lines → IsLine rest → whole_from [] (joined lines rest) ≡ lines
+whole_joined : (lines : List (List ℕ)) (rest : List ℕ) → AreLines lines → IsLine rest → whole_from [] (lines_joined lines rest) ≡ lines
 whole_joined [] rest h k =
     ap (λ (x : List ℕ). whole_from [] x) (sym (append-nil rest)) ∙ (whole_from-line [] rest [] k ∙ whole_from-nil rest)
 whole_joined (line ∷ lines) rest h k =
-    whole_from-line [] line (10 ∷ joined lines rest) h.0 ∙ (whole_from-end line 10 (joined lines rest) refl ∙ ap (λ (ls : List (List ℕ)). line ∷ ls) (whole_joined lines rest h.1 k))
+    whole_from-line [] line (10 ∷ lines_joined lines rest) h.0 ∙ (whole_from-end line 10 (lines_joined lines rest) refl ∙ ap (λ (ls : List (List ℕ)). line ∷ ls) (whole_joined lines rest h.1 k))
 
-rest_joined : (lines : List (List ℕ)) (rest : List ℕ) → AreLines lines → IsLine rest → rest_from [] (joined lines rest) ≡ rest
+rest_joined : (lines : List (List ℕ)) (rest : List ℕ) → AreLines lines → IsLine rest → rest_from [] (lines_joined lines rest) ≡ rest
 rest_joined [] rest h k =
     ap (λ (x : List ℕ). rest_from [] x) (sym (append-nil rest)) ∙ (rest_from-line [] rest [] k ∙ rest_from-nil rest)
 rest_joined (line ∷ lines) rest h k =
-    rest_from-line [] line (10 ∷ joined lines rest) h.0 ∙ (rest_from-end line 10 (joined lines rest) refl ∙ rest_joined lines rest h.1 k)
+    rest_from-line [] line (10 ∷ lines_joined lines rest) h.0 ∙ (rest_from-end line 10 (lines_joined lines rest) refl ∙ rest_joined lines rest h.1 k)
 
 pub splits-only : (bytes : List ℕ) (lines : List (List ℕ)) (rest : List ℕ) → Splits bytes lines rest → (lines ≡ whole_from [] bytes) × (rest ≡ rest_from [] bytes)
 splits-only bytes lines rest s = (

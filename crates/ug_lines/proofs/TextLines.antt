@@ -2,16 +2,16 @@
 use Rattle.std.proofs.Common.{◌≡◌, ℕ, List, [], ◌∷◌, ◌++◌, refl, sym, ap, subst, ◌∙◌}
 use Rattle.std.proofs.lemmas.List.{append-nil}
 use Rattle.ug_lines.specs.Lines.{whole_from, rest_from, last_line, lines_from, lines_of}
-use Rattle.ug_lines.specs.Splitting.{IsLine, AreLines, joined, Splits, AreLinesOf, Nothing, Open, Closed}
+use Rattle.ug_lines.specs.Splitting.{IsLine, AreLines, lines_joined, Splits, AreLinesOf, Nothing, Open, Closed}
 use Rattle.ug_lines.proofs.FirstLine.{nothing}
 use Rattle.ug_lines.proofs.Lines.{whole_from-end, rest_from-end}
 use Rattle.ug_lines.proofs.Splitting.{splits, lines_from-run}
 
 -- whole lines and a rest
-in_parts : (lines : List (List ℕ)) (rest : List ℕ) → AreLines lines → IsLine rest → AreLinesOf (joined lines rest) (lines ++ last_line rest)
+in_parts : (lines : List (List ℕ)) (rest : List ℕ) → AreLines lines → IsLine rest → AreLinesOf (lines_joined lines rest) (lines ++ last_line rest)
 in_parts [] [] h k = Nothing
 in_parts [] (b ∷ rest) h k = Open b rest k
-in_parts (line ∷ lines) rest h k = Closed line (joined lines rest) (lines ++ last_line rest) h.0 (in_parts lines rest h.1 k)
+in_parts (line ∷ lines) rest h k = Closed line (lines_joined lines rest) (lines ++ last_line rest) h.0 (in_parts lines rest h.1 k)
 
 split_lines : (text : List ℕ) → AreLinesOf text (lines_of text)
 split_lines text =

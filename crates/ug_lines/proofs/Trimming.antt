@@ -3,30 +3,30 @@ use Rattle.std.proofs.Common.{◌≡◌, ℕ, inl, inr, Bool, true, false, nat_e
 use Rattle.std.proofs.lemmas.Bool.{false≢true}
 use Rattle.std.proofs.lemmas.Bool.Decides.{nat_tests}
 use Rattle.std.proofs.lemmas.List.{append-nil}
-use Rattle.ug_lines.specs.Blanks.{is_blank, without_front, before_end, without_end}
+use Rattle.ug_lines.specs.Blanks.{is_line_blank, without_front, before_end, without_end}
 use Rattle.ug_lines.specs.Equations.{IsBlank, AreBlanks, BeginsBare, EndsBare, IsTextOf}
 
 -- the test of blanks
-pub blank : (b : ℕ) → IsBlank b → is_blank b ≡ true
-blank b (inl e) = ap is_blank e
-blank b (inr e) = ap is_blank e
+pub blank : (b : ℕ) → IsBlank b → is_line_blank b ≡ true
+blank b (inl e) = ap is_line_blank e
+blank b (inr e) = ap is_line_blank e
 
-pub is_blank_so : (b : ℕ) → is_blank b ≡ true → IsBlank b
+pub is_blank_so : (b : ℕ) → is_line_blank b ≡ true → IsBlank b
 is_blank_so b e = by (nat_eq b 32) (nat_eq b 9) refl refl e
   where
-    by : (v w : Bool) → nat_eq b 32 ≡ v → nat_eq b 9 ≡ w → is_blank b ≡ true → IsBlank b
+    by : (v w : Bool) → nat_eq b 32 ≡ v → nat_eq b 9 ≡ w → is_line_blank b ≡ true → IsBlank b
     by true w p q e = inl (grind (arith, nat_tests))
     by false true p q e = inr (grind (arith, nat_tests))
     by false false p q e = absurd (false≢true (sym (rw p (rw q refl)) ∙ e))
 
-pub not_blank : (b : ℕ) → ¬ IsBlank b → is_blank b ≡ false
-not_blank b h = by (is_blank b) refl
+pub not_blank : (b : ℕ) → ¬ IsBlank b → is_line_blank b ≡ false
+not_blank b h = by (is_line_blank b) refl
   where
-    by : (v : Bool) → is_blank b ≡ v → is_blank b ≡ false
+    by : (v : Bool) → is_line_blank b ≡ v → is_line_blank b ≡ false
     by true e = absurd (h (is_blank_so b e))
     by false e = e
 
-pub bare : (b : ℕ) → is_blank b ≡ false → ¬ IsBlank b
+pub bare : (b : ℕ) → is_line_blank b ≡ false → ¬ IsBlank b
 bare b e = λ h. false≢true (sym e ∙ blank b h)
 
 -- blanks in front
@@ -71,9 +71,9 @@ pub record Front (xs : List ℕ) : Type 0 where
 
 pub front : (xs : List ℕ) → Front xs
 front [] = record { before = []; is = refl; blanks = tt; begins = tt }
-front (b ∷ bytes) = by (is_blank b) refl (front bytes)
+front (b ∷ bytes) = by (is_line_blank b) refl (front bytes)
   where
-    by : (v : Bool) → is_blank b ≡ v → Front bytes → Front (b ∷ bytes)
+    by : (v : Bool) → is_line_blank b ≡ v → Front bytes → Front (b ∷ bytes)
     by true e f = record {
       before = b ∷ f.before;
       is = rw e (ap (λ (l : List ℕ). b ∷ l) f.is);
@@ -93,7 +93,7 @@ ends-more : (b c : ℕ) (bytes : List ℕ) → EndsBare (c ∷ bytes) → EndsBa
 ends-more b c bytes h [] d e = let none : ⊥ = cc in absurd none
 ends-more b c bytes h (x ∷ front) d e = let rest : c ∷ bytes ≡ front ++ d ∷ [] = cc in h front d rest
 
-ends-one : (b : ℕ) → is_blank b ≡ false → EndsBare (b ∷ [])
+ends-one : (b : ℕ) → is_line_blank b ≡ false → EndsBare (b ∷ [])
 ends-one b n [] d e = let same : b ≡ d = cc in subst (λ (x : ℕ). ¬ IsBlank x) same (bare b n)
 ends-one b n (x ∷ []) d e = let none : ⊥ = cc in absurd none
 ends-one b n (x ∷ y ∷ front) d e = let none : ⊥ = cc in absurd none
@@ -103,9 +103,9 @@ ends-nil [] d e = let none : ⊥ = cc in absurd none
 ends-nil (x ∷ front) d e = let none : ⊥ = cc in absurd none
 
 end_more : (b : ℕ) (bytes kept behind : List ℕ) → bytes ≡ kept ++ behind → AreBlanks behind → EndsBare kept → (behind' : List ℕ) × (b ∷ bytes ≡ before_end b kept ++ behind') × AreBlanks behind' × EndsBare (before_end b kept)
-end_more b bytes [] behind e h k = by (is_blank b) refl
+end_more b bytes [] behind e h k = by (is_line_blank b) refl
   where
-    by : (v : Bool) → is_blank b ≡ v → (behind' : List ℕ) × (b ∷ bytes ≡ before_end b [] ++ behind') × AreBlanks behind' × EndsBare (before_end b [])
+    by : (v : Bool) → is_line_blank b ≡ v → (behind' : List ℕ) × (b ∷ bytes ≡ before_end b [] ++ behind') × AreBlanks behind' × EndsBare (before_end b [])
     by true n = (b ∷ behind, rw n (ap (λ (l : List ℕ). b ∷ l) e), (is_blank_so b n, h), rw n ends-nil)
     by false n = (behind, rw n (ap (λ (l : List ℕ). b ∷ l) e), h, rw n (ends-one b n))
 end_more b bytes (c ∷ kept) behind e h k = (behind, ap (λ (l : List ℕ). b ∷ l) e, h, ends-more b c kept k)
@@ -121,7 +121,7 @@ end-begins : (xs : List ℕ) → BeginsBare xs → BeginsBare (without_end xs)
 end-begins [] h = tt
 end-begins (b ∷ bytes) h = by (without_end bytes) (not_blank b h)
   where
-    by : (kept : List ℕ) → is_blank b ≡ false → BeginsBare (before_end b kept)
+    by : (kept : List ℕ) → is_line_blank b ≡ false → BeginsBare (before_end b kept)
     by [] e = rw e h
     by (c ∷ kept) e = h
 

@@ -3,3 +3,5 @@ pub mod Equations
 pub mod LineReading
 pub mod Lines
 pub mod Splitting
+pub mod Cuts
+pub mod Entries

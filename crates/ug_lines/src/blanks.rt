@@ -3,7 +3,7 @@ ghost use Rattle.std.specs.Prelude.{◌≡◌, ◌≤◌, length};
 ghost use Rattle.ug_lines.specs.Blanks as blanks;
 
 pub fn is_blank(byte: u8) -> bool
-    ensures { result ≡ blanks.is_blank byte }
+    ensures { result ≡ blanks.is_line_blank byte }
 {
     byte == b' ' || byte == b'\t'
 }

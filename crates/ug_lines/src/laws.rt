@@ -4,6 +4,7 @@ ghost use Rattle.ug_lines.specs.Lines.{lines_of, whole_lines, rest_from};
 ghost use Rattle.ug_types.specs.declared.text_fault.TextFault.{TextFault};
 ghost use Rattle.ug_lines.specs.LineReading.{AllGood, IsFirstBadLine, lines_read};
 ghost use Rattle.ug_lines.specs.Splitting.{AreLinesOf, Splits};
+ghost use Rattle.ug_lines.specs.Cuts.{EquationCut, IsEquationCut, cut_of};
 
 use crate::line_reading::LineReader;
 
@@ -29,4 +30,10 @@ pub fn line_reading_law<R: LineReader>()
     ensures bad { (number : ℕ) (start : R.State) (lines : List (List ℕ)) (fault : TextFault)
         → (lines_read R.reads number start lines
         ≡ Err fault) ↔ IsFirstBadLine R.reads number start lines fault }
+{}
+
+/// A line is cut so exactly where it is empty, a comment, a text without a sign, or a word and a value about its first sign,
+/// with blanks about each.
+pub fn equations_law()
+    ensures { (line : List ℕ) (cut : EquationCut) → (cut_of line ≡ cut) ↔ IsEquationCut line cut }
 {}

@@ -4,3 +4,4 @@ pub mod Paths
 pub mod Extending
 mod Places
 mod Numbering
+pub mod Copied

@@ -6,3 +6,7 @@ pub mod Planned
 pub mod Scripts
 pub mod Steps
 pub mod Talk
+pub mod LinkCalls
+pub mod Clocks
+pub mod Waits
+pub mod Telling

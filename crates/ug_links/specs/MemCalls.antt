@@ -14,10 +14,14 @@ use Rattle.ug_links.specs.Steps.{IsStep}
 
 -- the answer of the call, and what is left, are those that the scripts fix
 abbrev pub IsScripted : Planned → LinkStep → Planned → Type 0
-IsScripted p (Listened principal answer) q = (answer ≡ listen_answer p) × (q ≡ scripts_after_listen p)
-IsScripted p (AcceptedAt listener answer) q = (answer ≡ accept_answer p listener) × (q ≡ scripts_after_accept p listener)
-IsScripted p (ReadFrom id room answer) q = (answer ≡ read_from_peer room id.0 p.peers) × (q ≡ scripts_after_read room id.0 p)
-IsScripted p (WroteTo id bytes answer) q = (answer ≡ written_to_peer (length bytes) id.0 p.peers) × (q ≡ scripts_after_write id.0 p)
+IsScripted p (Listened principal answer) q =
+    (answer ≡ listen_answer p) × (q ≡ scripts_after_listen p)
+IsScripted p (AcceptedAt listener answer) q =
+    (answer ≡ accept_answer p listener) × (q ≡ scripts_after_accept p listener)
+IsScripted p (ReadFrom id room answer) q =
+    (answer ≡ read_from_peer room id.0 p.peers) × (q ≡ scripts_after_read room id.0 p)
+IsScripted p (WroteTo id bytes answer) q =
+    (answer ≡ written_to_peer (length bytes) id.0 p.peers) × (q ≡ scripts_after_write id.0 p)
 IsScripted p (Closed id) q = q ≡ p
 
 -- the call failed, or is a closing

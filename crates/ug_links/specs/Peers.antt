@@ -40,10 +40,12 @@ item_left room (Some read.Fail) = []
 
 -- what is left of a piece comes first, and then the next item
 abbrev pub read_answer : ℕ → Peer → Reading
-read_answer room p = cond (nat_eq (length p.rest) 0) (item_read room (first_item p.reads)) (piece_read room p.rest)
+read_answer room p =
+    cond (nat_eq (length p.rest) 0) (item_read room (first_item p.reads)) (piece_read room p.rest)
 
 abbrev pub item_taken : ℕ → Peer → Peer
-item_taken room p = record p { rest = item_left room (first_item p.reads); reads = other_items p.reads }
+item_taken room p =
+    record p { rest = item_left room (first_item p.reads); reads = other_items p.reads }
 
 abbrev pub read_after : ℕ → Peer → Peer
 read_after room p = cond (nat_eq (length p.rest) 0) (item_taken room p) (piece_left room p)

@@ -40,7 +40,11 @@ more_listening n listening.Failed = n
 more_listening n listening.Memory = n
 
 abbrev pub scripts_after_listen : Planned → Planned
-scripts_after_listen p = record p { listens = other_items p.listens; listening = more_listening p.listening (listen_answer p) }
+scripts_after_listen p =
+    record p {
+      listens = other_items p.listens;
+      listening = more_listening p.listening (listen_answer p);
+    }
 
 -- the next arrival at a listener
 abbrev pub arrival_at : List (List Arrival) → ℕ → Option Arrival
@@ -65,7 +69,11 @@ peer_come (Some arrival.Wait) = []
 peer_come (Some arrival.Fail) = []
 
 abbrev pub scripts_after_accept : Planned → ℕ → Planned
-scripts_after_accept p listener = record p { arrivals = changed_at other_items listener p.arrivals; peers = p.peers ++ peer_come (arrival_at p.arrivals listener) }
+scripts_after_accept p listener =
+    record p {
+      arrivals = changed_at other_items listener p.arrivals;
+      peers = p.peers ++ peer_come (arrival_at p.arrivals listener);
+    }
 
 -- where no session has the number, nothing more comes
 abbrev pub read_from_peer : ℕ → ℕ → List Peer → Reading

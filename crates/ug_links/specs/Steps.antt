@@ -61,4 +61,6 @@ IsStep before step = Unit {0}
 
 -- the calls were told before, and this one stands behind them
 abbrev pub TellsStep : Option (List LinkStep) → LinkStep → List LinkStep → Type 0
-TellsStep told step after = (before : List LinkStep) × (told ≡ Some before) × (after ≡ before ++ step ∷ []) × IsStep before step
+TellsStep told step after =
+    (before : List LinkStep) × (told ≡ Some before) × (after ≡ before ++ step ∷ [])
+    × IsStep before step

@@ -1,7 +1,7 @@
 -- What the daemon does with its sockets, as a tree: each node is a call, each branch an answer.
 use Rattle.std.specs.Prelude.{◌≡◌, ℕ, zero, suc, Bool, cond, List, [], ◌∷◌, ◌++◌, Option, Some}
 use Rattle.ug_types.specs.Principals.{Named}
-use Rattle.ug_types.specs.declared.waiter.LinkId.{LinkId}
+use Rattle.ug_links.specs.declared.waiter.LinkId.{LinkId}
 use Rattle.ug_links.specs.declared.links.Listening.{Listening}
 use Rattle.ug_links.specs.declared.links.Accepted.{Accepted}
 use Rattle.ug_links.specs.declared.links.LinkWrote.{LinkWrote}
@@ -23,10 +23,14 @@ pub data Talk (R : Type 0) : Type 0 where
 -- a run of the tree over an object, where gives says what a call may answer and leave
 abbrev pub Talks : {S R : Type 0} → (S → LinkStep → S → Type 0) → S → Talk R → R → S → Type 0
 Talks gives s (Return value) r t = (r ≡ value) × (t ≡ s)
-Talks {S} gives s (Listen principal next) r t = (a : Listening) × (u : S) × gives s (Listened principal a) u × Talks gives u (next a) r t
-Talks {S} gives s (Accept listener next) r t = (a : Accepted) × (u : S) × gives s (AcceptedAt listener a) u × Talks gives u (next a) r t
-Talks {S} gives s (Read id room next) r t = (a : Reading) × (u : S) × gives s (ReadFrom id room a) u × Talks gives u (next a) r t
-Talks {S} gives s (Write id bytes next) r t = (a : LinkWrote) × (u : S) × gives s (WroteTo id bytes a) u × Talks gives u (next a) r t
+Talks {S} gives s (Listen principal next) r t =
+    (a : Listening) × (u : S) × gives s (Listened principal a) u × Talks gives u (next a) r t
+Talks {S} gives s (Accept listener next) r t =
+    (a : Accepted) × (u : S) × gives s (AcceptedAt listener a) u × Talks gives u (next a) r t
+Talks {S} gives s (Read id room next) r t =
+    (a : Reading) × (u : S) × gives s (ReadFrom id room a) u × Talks gives u (next a) r t
+Talks {S} gives s (Write id bytes next) r t =
+    (a : LinkWrote) × (u : S) × gives s (WroteTo id bytes a) u × Talks gives u (next a) r t
 Talks {S} gives s (Close id next) r t = (u : S) × gives s (Closed id) u × Talks gives u next r t
 Talks gives s (Room next) r t = (b : Bool) × Talks gives s (next b) r t
 
@@ -43,11 +47,20 @@ and_then (Room next) f = Room (λ b. and_then (next b) f)
 -- the calls along a way through the tree, with their answers
 abbrev pub Path : {R : Type 0} → Talk R → List LinkStep → R → Type 0
 Path (Return value) steps r = (r ≡ value) × (steps ≡ [])
-Path (Listen principal next) steps r = (a : Listening) × (rest : List LinkStep) × (steps ≡ Listened principal a ∷ rest) × Path (next a) rest r
-Path (Accept listener next) steps r = (a : Accepted) × (rest : List LinkStep) × (steps ≡ AcceptedAt listener a ∷ rest) × Path (next a) rest r
-Path (Read id room next) steps r = (a : Reading) × (rest : List LinkStep) × (steps ≡ ReadFrom id room a ∷ rest) × Path (next a) rest r
-Path (Write id bytes next) steps r = (a : LinkWrote) × (rest : List LinkStep) × (steps ≡ WroteTo id bytes a ∷ rest) × Path (next a) rest r
-Path (Close id next) steps r = (rest : List LinkStep) × (steps ≡ Closed id ∷ rest) × Path next rest r
+Path (Listen principal next) steps r =
+    (a : Listening) × (rest : List LinkStep) × (steps ≡ Listened principal a ∷ rest)
+    × Path (next a) rest r
+Path (Accept listener next) steps r =
+    (a : Accepted) × (rest : List LinkStep) × (steps ≡ AcceptedAt listener a ∷ rest)
+    × Path (next a) rest r
+Path (Read id room next) steps r =
+    (a : Reading) × (rest : List LinkStep) × (steps ≡ ReadFrom id room a ∷ rest)
+    × Path (next a) rest r
+Path (Write id bytes next) steps r =
+    (a : LinkWrote) × (rest : List LinkStep) × (steps ≡ WroteTo id bytes a ∷ rest)
+    × Path (next a) rest r
+Path (Close id next) steps r =
+    (rest : List LinkStep) × (steps ≡ Closed id ∷ rest) × Path next rest r
 Path (Room next) steps r = (b : Bool) × Path (next b) steps r
 
 -- each of these steps may stand behind those before it
@@ -62,9 +75,12 @@ Makes {S} gives s (step ∷ steps) t = (u : S) × gives s step u × Makes gives 
 
 -- what was told, and then these steps
 abbrev pub TellsSteps : Option (List LinkStep) → List LinkStep → List LinkStep → Type 0
-TellsSteps told steps after = (before : List LinkStep) × (told ≡ Some before) × (after ≡ before ++ steps) × AreSteps before steps
+TellsSteps told steps after =
+    (before : List LinkStep) × (told ≡ Some before) × (after ≡ before ++ steps)
+    × AreSteps before steps
 
--- the elements of a list one after another, each of them changed; those that are done stand in front
+-- the elements of a list one after another, each of them changed;
+-- those that are done stand in front
 abbrev pub walk : {A X : Type 0} → (A → X → Talk (A × X)) → List A → List A → X → Talk (List A × X)
 walk f done [] x = Return (done, x)
 walk f done (a ∷ rest) x = and_then (f a x) (λ r. walk f (done ++ r.0 ∷ []) rest r.1)

@@ -5,8 +5,9 @@ ghost use Rattle.ug_links.specs.Steps.{reading_given, FitsRead, FitsWrite, Tells
 ghost use Rattle.ug_links.specs.declared.step.LinkStep.{LinkStep};
 ghost use Rattle.ug_links.specs.declared.step.LinkStep.TheVariants.{Listened, AcceptedAt, ReadFrom, WroteTo, Closed};
 
+use crate::waiter::LinkId;
 use std::alloc::Global;
-use ug_types::{LinkId, Principal};
+use ug_types::Principal;
 
 #[derive(Clone, Copy, Debug, PartialEq, Eq)]
 pub enum Listening {
@@ -68,7 +69,8 @@ pub trait Links {
     fn read(&mut self, id: LinkId, into: &mut [u8]) -> LinkRead
         requires { 0 < length into.old }
         ensures size { FitsRead (length into.old) result }
-        ensures gives { gives self.old (ReadFrom id (length into.old) (reading_given result into.new)) self.new }
+        ensures gives { gives self.old
+            (ReadFrom id (length into.old) (reading_given result into.new)) self.new }
         ensures counted { IsCounted (faults self.old) (faults self.new) }
         ensures cause { result ≡ LinkRead.Failed → Rose (faults self.old) (faults self.new) };
 

@@ -8,8 +8,9 @@ ghost use Rattle.ug_links.specs.declared.step.LinkStep.TheVariants.{ReadFrom, Wr
 use crate::links::{Accepted, LinkRead, LinkWrote, Links, Listening};
 use crate::mem_links::MemLinks;
 use crate::step::{LinkStep, Reading};
+use crate::waiter::LinkId;
 use std::alloc::Global;
-use ug_types::{LinkId, List, NoMemory, Principal, Text};
+use ug_types::{List, NoMemory, Principal, Text};
 
 /// What a read gave, with a copy of its bytes.
 fn kept_reading(alloc: Global, answer: LinkRead, buffer: &[u8]) -> Result<Reading, NoMemory>
@@ -33,7 +34,8 @@ fn keep_read(
     buffer: &[u8],
 ) -> Result<(), NoMemory>
     requires { FitsRead (length buffer.now) answer }
-    ensures { OnOk result (calls.new ≡ calls.old ++ ReadFrom id room (reading_given answer buffer.now) ∷ []) }
+    ensures { OnOk result (calls.new ≡ calls.old
+        ++ ReadFrom id room (reading_given answer buffer.now) ∷ []) }
 {
     let reading = kept_reading(alloc, answer, buffer)?;
     calls.push(LinkStep::ReadFrom(id, room, reading))

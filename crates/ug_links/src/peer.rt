@@ -52,7 +52,8 @@ impl Peer {
     fn give(&mut self, into: &mut [u8]) -> LinkRead
         requires room { 0 < length into.old }
         ensures size { FitsRead (length into.old) result }
-        ensures answer { reading_given result into.new ≡ piece_read (length into.old) self.old.rest }
+        ensures answer { reading_given result into.new
+            ≡ piece_read (length into.old) self.old.rest }
         ensures after { self.new ≡ piece_left (length into.old) self.old }
     {
         let n = self.rest.len().min(into.len());

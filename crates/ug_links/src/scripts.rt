@@ -8,9 +8,10 @@ ghost use Rattle.ug_links.specs.Peers.{other_items, read_after, write_after};
 use crate::links::{Accepted, LinkRead, LinkWrote, Listening};
 use crate::peer::Peer;
 use crate::script::Script;
+use crate::waiter::LinkId;
 use std::alloc::Global;
 use std::marker::Model;
-use ug_types::{LinkId, NoMemory};
+use ug_types::NoMemory;
 
 /// What a listening meets. Past the script it succeeds.
 #[derive(Clone, Copy, Debug, PartialEq, Eq)]
@@ -41,7 +42,12 @@ impl Model for Scripts {
 
     ghost Value = { Planned };
 
-    ghost view = { λ s. record { listens = s.listens; arrivals = s.arrivals.items; peers = s.peers.items; listening = s.listening } };
+    ghost view = { λ s. record {
+      listens = s.listens;
+      arrivals = s.arrivals.items;
+      peers = s.peers.items;
+      listening = s.listening;
+    } };
 }
 
 fn next_arrival_of(arrivals: &mut [Script<Arrival>], listener: u32) -> Option<Arrival>
@@ -66,7 +72,8 @@ fn next_arrival(arrivals: &mut Vec<Script<Arrival>>, listener: u32) -> Option<Ar
 fn read_peer_of(peers: &mut [Peer], id: LinkId, into: &mut [u8]) -> LinkRead
     requires room { 0 < length into.old }
     ensures size { FitsRead (length into.old) result }
-    ensures answer { reading_given result into.new ≡ read_from_peer (length into.old) id.0 peers.old }
+    ensures answer { reading_given result into.new
+        ≡ read_from_peer (length into.old) id.0 peers.old }
     ensures after { peers.new ≡ changed_at (read_after (length into.old)) id.0 peers.old }
 {
     let i = id.0 as usize;
@@ -80,8 +87,10 @@ fn read_peer_of(peers: &mut [Peer], id: LinkId, into: &mut [u8]) -> LinkRead
 fn read_peer(peers: &mut Vec<Peer>, id: LinkId, into: &mut [u8]) -> LinkRead
     requires room { 0 < length into.old }
     ensures size { FitsRead (length into.old) result }
-    ensures answer { reading_given result into.new ≡ read_from_peer (length into.old) id.0 peers.old.items }
-    ensures after { peers.new.items ≡ changed_at (read_after (length into.old)) id.0 peers.old.items }
+    ensures answer { reading_given result into.new
+        ≡ read_from_peer (length into.old) id.0 peers.old.items }
+    ensures after { peers.new.items
+        ≡ changed_at (read_after (length into.old)) id.0 peers.old.items }
 {
     read_peer_of(peers, id, into)
 }
@@ -167,7 +176,8 @@ impl Scripts {
     pub fn read(&mut self, id: LinkId, into: &mut [u8]) -> LinkRead
         requires room { 0 < length into.old }
         ensures size { FitsRead (length into.old) result }
-        ensures answer { reading_given result into.new ≡ read_from_peer (length into.old) id.0 self.old.peers }
+        ensures answer { reading_given result into.new
+            ≡ read_from_peer (length into.old) id.0 self.old.peers }
         ensures after { self.new ≡ scripts_after_read (length into.old) id.0 self.old }
     {
         read_peer(&mut self.peers, id, into)

@@ -1,6 +1,7 @@
 // A call of the daemon's sockets, with its answer.
 use crate::links::{Accepted, LinkWrote, Listening};
-use ug_types::{LinkId, Principal, Text};
+use crate::waiter::LinkId;
+use ug_types::{Principal, Text};
 
 /// What a read gave.
 #[derive(Drop)]

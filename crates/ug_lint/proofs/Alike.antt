@@ -17,7 +17,7 @@ use Rattle.ug_cond.specs.Judgements.{Judgement}
 use Rattle.ug_cond.specs.Words.{behind}
 use Rattle.ug_policy.specs.declared.entry.RuleEntry.{RuleEntry}
 use Rattle.ug_policy.specs.Deciding.{Found, conditions_take, decider, decides, find_decider, put_before, reached, rule_holds, rule_takes, rules_judged, seen, words_taken}
-use Rattle.ug_policy.specs.Matching.{answer_by, greatest, matched, noted}
+use Rattle.ug_policy.specs.Matching.{answer_by, greatest, matched, rule_noted}
 use Rattle.ug_policy.specs.Rules.{ids, rules_in}
 use Rattle.ug_lint.specs.declared.finding.Finding.TheVariants.{Never}
 use Rattle.ug_lint.specs.Certain.{always_hold, never_hold}
@@ -168,7 +168,7 @@ same_here dev moment before e es h = record {
   decides = refl;
   evaluated = refl;
   words = refl;
-  later = sym (kept before e (noted moment e) es refl h);
+  later = sym (kept before e (rule_noted moment e) es refl h);
 }
 
 walk : (dev : DeviceRecord) (ctx : Context) (records : List DeviceRecord) (before : List Rule) (es : List RuleEntry) (stream : Stream)

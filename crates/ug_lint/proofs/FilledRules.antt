@@ -9,7 +9,7 @@ use Rattle.ug_types.specs.declared.rule.Rule.{Rule}
 use Rattle.ug_types.specs.declared.rule.Values.{Values}
 use Rattle.ug_words.specs.declared.keywords.Attr.{Attr}
 use Rattle.ug_words.specs.declared.keywords.Attr.TheVariants as attr
-use Rattle.ug_rule.specs.Grammar.{AreParts, Attribute, Begins, If, IsValue, Part, Tells, WellFormed}
+use Rattle.ug_rule.specs.Grammar.{AreParts, Attribute, BeginsQuery, If, IsValue, RulePart, Tells, WellFormed}
 use Rattle.ug_rule.specs.Queries.{no_query}
 use Rattle.ug_rule.specs.Values.{id_in, string_in}
 use Rattle.ug_lint.specs.Filled.{HasItem, IsFilled}
@@ -38,13 +38,13 @@ told_filled line attr.Connect query next tokens rest v f = subst IsFilled (sym v
 told_filled line attr.Interface query next tokens rest v f = subst IsFilled (sym v.2) (record { id = f.id; serial = f.serial; name = f.name; hash = f.hash; parent_hash = f.parent_hash; via_port = f.via_port; connect = f.connect })
 told_filled line attr.Label query next tokens rest v f = subst IsFilled (sym v.2) (record { id = f.id; serial = f.serial; name = f.name; hash = f.hash; parent_hash = f.parent_hash; via_port = f.via_port; connect = f.connect })
 
-parts_filled : (line : List ℕ) (parts : List Part) (query : Query) (conds : Option Conds) (all : Query) (found : Option Conds) (tokens : List Token) → AreParts line parts query conds all found tokens → IsFilled query → IsFilled all
+parts_filled : (line : List ℕ) (parts : List RulePart) (query : Query) (conds : Option Conds) (all : Query) (found : Option Conds) (tokens : List Token) → AreParts line parts query conds all found tokens → IsFilled query → IsFilled all
 parts_filled line [] query conds all found tokens p f = subst IsFilled (sym p.0) f
 parts_filled line (Attribute a ∷ parts) query conds all found tokens p f =
     parts_filled line parts p.0 conds all found p.1 p.3 (told_filled line a query p.0 p.2.more p.1 p.2.tells f)
 parts_filled line (If ∷ parts) query conds all found tokens p f = parts_filled line parts query (Some p.0) all found p.1 p.4 f
 
-begun_filled : (line : List ℕ) (query : Query) (tokens rest : List Token) → Begins line query tokens rest → IsFilled query
+begun_filled : (line : List ℕ) (query : Query) (tokens rest : List Token) → BeginsQuery line query tokens rest → IsFilled query
 begun_filled line query tokens rest (inl s) = subst IsFilled (sym s.is) (record { id = tt; serial = tt; name = tt; hash = tt; parent_hash = tt; via_port = tt; connect = tt })
 begun_filled line query tokens rest (inr s) = subst IsFilled (sym s.1) blank_filled
 

@@ -1,14 +1,14 @@
 -- The order of a binding's calls, from its shapes.
 use Rattle.std.proofs.Common.{◌≡◌, ℕ, Bool, true, false, List, [], ◌∷◌, ◌++◌, map, Option, Some, None, inl, inr, refl, sym, subst, append_assoc, append-nil}
 use Rattle.ug_types.specs.Names.{parent_of}
-use Rattle.ug_types.specs.declared.verdict.Held.{Held}
-use Rattle.ug_types.specs.declared.control.Attr.{Attr}
-use Rattle.ug_types.specs.declared.control.Control.TheVariants.{Authorized}
+use Rattle.ug_kernel.specs.declared.control.Held.{Held}
+use Rattle.ug_kernel.specs.declared.control.Attr.{Attr}
+use Rattle.ug_kernel.specs.declared.control.Control.TheVariants.{Authorized}
 use Rattle.ug_kernel.specs.declared.calls.Opened.{Opened}
 use Rattle.ug_kernel.specs.declared.calls.ReadOut.{ReadOut}
 use Rattle.ug_kernel.specs.declared.calls.Probe.{Probe}
-use Rattle.ug_kernel.specs.Calls.{Call, Answer, Open, Read, Ask_alive, Close, Told}
-use Rattle.ug_kernel.specs.Along.{Made, answered}
+use Rattle.ug_kernel.specs.Calls.{Call, Answer, Open, Read, Ask_alive, Close, ToldAnswer}
+use Rattle.ug_kernel.specs.Along.{Made, made_with}
 use Rattle.ug_kernel.specs.Tree.{Runs}
 use Rattle.ug_kernel.proofs.Ways.{Sure, ways_run}
 use Rattle.ug_node.specs.Bind.{binding, binding_of}
@@ -42,7 +42,7 @@ parent_reads (Some parent) = refl
 opened_go : {name : List ℕ} {left : List (List ℕ × Attr)} {ms : List Made} (rest : List Made → Type 0)
     (ns os : List Made) (file : Held) (call count : ℕ) → ReadsFirst (files_of name) ms left
     → GoBy (map read_act left) rest (ns ++ os)
-    → GoBy (bind_acts name) rest (answered (Open name Authorized) (told (Opened.Token file) call count) ∷ ((ms ++ ns) ++ os))
+    → GoBy (bind_acts name) rest (made_with (Open name Authorized) (told (Opened.Token file) call count) ∷ ((ms ++ ns) ++ os))
 opened_go {name} {left} {ms} rest ns os file call count first h =
     let all = reads_go rest (ns ++ os) first h in
     let same = subst (λ (v : List Made). GoBy (map read_act (files_of name)) rest v) (sym (append_assoc ms ns os)) all in (
@@ -64,7 +64,7 @@ stop_behind alive Stop.Vanished ns c = c
 stop_behind alive (Stop.Fault failed) ns c = c
 stop_behind alive Stop.Memory ns c = c
 
-pub stops_end : {at : Attr} {t : Told ReadOut} {why : Stop} → Stops at t why → read_leads t.answer at ≡ false
+pub stops_end : {at : Attr} {t : ToldAnswer ReadOut} {why : Stop} → Stops at t why → read_leads t.answer at ≡ false
 stops_end (No_descriptors call count) = refl
 stops_end x = refl
 
@@ -73,16 +73,16 @@ pub binds_order : {name : List ℕ} {ms : List Made} {r : Binding} (alive : Bool
     → GoBy (bind_acts name) (GoByProbe alive OnlyCloses) (ms ++ ns)
 binds_order alive os (Cut file call count ms of at t shut why r left a first may stops e) c =
     let closes = stop_behind alive why os (subst (λ (v : Binding). Behind_bound alive v os) e c) in
-    let ns : List Made = answered (Read of at) t ∷ answered (Close file.0) shut ∷ [] in
+    let ns : List Made = made_with (Read of at) t ∷ made_with (Close file.0) shut ∷ [] in
     opened_go (GoByProbe alive OnlyCloses) ns os file call count first (refl, inr (stops_end stops, (refl, closes)))
 binds_order alive os (Probed_gone file call count number total ms shut a first) c =
-    let ns : List Made = answered (Ask_alive file.0) (told Probe.Gone number total) ∷ answered (Close file.0) shut ∷ [] in
+    let ns : List Made = made_with (Ask_alive file.0) (told Probe.Gone number total) ∷ made_with (Close file.0) shut ∷ [] in
     opened_go (GoByProbe alive OnlyCloses) ns os file call count first (refl, c)
 binds_order alive os (Probe_failed file call count number total ms shut a first) c =
-    let ns : List Made = answered (Ask_alive file.0) (told Probe.Failed number total) ∷ answered (Close file.0) shut ∷ [] in
+    let ns : List Made = made_with (Ask_alive file.0) (told Probe.Failed number total) ∷ made_with (Close file.0) shut ∷ [] in
     opened_go (GoByProbe alive OnlyCloses) ns os file call count first (refl, c)
 binds_order alive os (Bound_by call count number total ms b a first are) c =
-    let ns : List Made = answered (Ask_alive b.held.0) (told (Probe.Alive b.on) number total) ∷ [] in
+    let ns : List Made = made_with (Ask_alive b.held.0) (told (Probe.Alive b.on) number total) ∷ [] in
     opened_go (GoByProbe alive OnlyCloses) ns os b.held call count first c
 binds_order alive os x c = (refl, inr (refl, c))
 

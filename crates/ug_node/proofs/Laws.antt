@@ -3,24 +3,24 @@ use Rattle.std.proofs.Common.{◌≡◌, ℕ, nat_le, Bool, true, false, cond, �
 use Rattle.std.proofs.lemmas.Option.{slice_get_past}
 use Rattle.ug_types.specs.Names.{parent_of}
 use Rattle.ug_types.specs.declared.record.Attrs.{Attrs}
-use Rattle.ug_types.specs.declared.control.Attr.{Attr}
-use Rattle.ug_types.specs.declared.control.Control.{Control}
-use Rattle.ug_types.specs.declared.control.Control.TheVariants.{Authorized}
-use Rattle.ug_types.specs.declared.verdict.Held.{Held}
+use Rattle.ug_kernel.specs.declared.control.Attr.{Attr}
+use Rattle.ug_kernel.specs.declared.control.Control.{Control}
+use Rattle.ug_kernel.specs.declared.control.Control.TheVariants.{Authorized}
+use Rattle.ug_kernel.specs.declared.control.Held.{Held}
 use Rattle.ug_kernel.specs.declared.device.Device.{Device}
 use Rattle.ug_kernel.specs.declared.device.HeldFile.{HeldFile}
 use Rattle.ug_kernel.specs.declared.calls.ReadOut.{ReadOut}
 use Rattle.ug_kernel.specs.declared.calls.Opened.{Opened}
 use Rattle.ug_kernel.specs.declared.calls.Probe.{Probe}
-use Rattle.ug_kernel.specs.Calls.{Call, Answer, Open, Read, Ask_alive, Close, Told, Closing, failed_open, failed_read, failed_probe, Counted}
-use Rattle.ug_kernel.specs.Along.{Made, answered, Along, failure_of}
+use Rattle.ug_kernel.specs.Calls.{Call, Answer, Open, Read, Ask_alive, Close, ToldAnswer, Closing, failed_open, failed_read, is_probe_failed, Counted}
+use Rattle.ug_kernel.specs.Along.{Made, made_with, Along, failure_of}
 use Rattle.ug_kernel.specs.Kernel.{Kernel, Live, Stays, IsSound, IsKernel, IsOpenable, Moves}
-use Rattle.ug_kernel.specs.Called.{Lived, NoneHas, NoneLived, IsOpened, IsGoneAt, IsAlive, IsFile, within, text_within, read_of, says_read, Called, Follows, Holds}
+use Rattle.ug_kernel.specs.Called.{Lived, NoneHas, NoneLived, IsOpened, IsGoneAt, IsAlive, IsFile, within_limit, text_within, read_of, says_read, Called, Follows, Holds}
 use Rattle.ug_kernel.specs.Quiet.{Quiet, Grows}
 use Rattle.ug_kernel.specs.Tree.{Runs, calls}
 use Rattle.ug_kernel.proofs.Quiet.{stays_trans, quiet_refl, quiet_trans, moves_quiet, opened_quiet, called_quiet, get_end}
 use Rattle.ug_kernel.proofs.Grow.{some_same, quiet_grows, grows_trans, called_grows, grows_refl}
-use Rattle.ug_kernel.proofs.Held.{live_before, lived_cut}
+use Rattle.ug_kernel.proofs.HeldFiles.{live_before, lived_cut}
 use Rattle.ug_kernel.proofs.Sounds.{openable_has}
 use Rattle.ug_kernel.proofs.Told.{told_run}
 use Rattle.ug_kernel.proofs.Ways.{Sure, ways_run, along_split, along_sound, along_grows, Unwritten, unwritten_more, along_quiet}
@@ -29,7 +29,7 @@ use Rattle.ug_node.specs.declared.files.Stop.{Stop}
 use Rattle.ug_node.specs.declared.identity.Bound.{Bound}
 use Rattle.ug_node.specs.declared.identity.Binding.{Binding}
 use Rattle.ug_node.specs.Bind.{binding_of, binding}
-use Rattle.ug_node.specs.Bound.{attrs_of, is_core_long, parent_attrs_of, IsParentRead, IsBoundBy, IsBound, BindSays, IsBinding, Binds, IsFault, TellsFault}
+use Rattle.ug_node.specs.Bound.{attrs_of, is_core_long, parent_attrs_of, IsParentRead, IsBoundBy, IsBound, BindSays, IsBinding, TellsBinding, IsFault, TellsFault}
 use Rattle.ug_node.proofs.BindShapes.{told, IsReadable, Came, Reads, No_more, Then_read, Stops, No_descriptors, Read_failed, parents_from, Files, Alone, Below, own_files, Binds_by, No_such, Open_failed, Cut, Probed_gone, Probe_failed, Bound_by, binds_by, Holds_by, Not_there, Not_opened, Held_on, Died, Unasked, holds_by}
 use Rattle.ug_kernel.specs.declared.calls.FailedCall.{FailedCall}
 use Rattle.ug_kernel.proofs.Rises.{Counting}
@@ -55,7 +55,7 @@ binds_unwritten x = (tt, tt)
 -- what a reading tells
 
 read_kept : (a : Attr) (d e : Device) → Stays d e → read_of a d ≡ read_of a e
-read_kept Attr.Descriptors d e h = ap (λ (x : List ℕ). within 131072 x) (sym h.descriptors)
+read_kept Attr.Descriptors d e h = ap (λ (x : List ℕ). within_limit 131072 x) (sym h.descriptors)
 read_kept Attr.Product d e h = ap (λ (x : Option (List ℕ)). text_within x) (sym h.product)
 read_kept Attr.Serial d e h = ap (λ (x : Option (List ℕ)). text_within x) (sym h.serial)
 read_kept Attr.Connect d e h = ap (λ (x : Option (List ℕ)). text_within x) (sym h.connect)
@@ -231,7 +231,7 @@ absent_none name of k l (inr above) s t g h = λ i d lives named.
     let x = parent_lived k l name of i d d.parent s t g lives named above refl in
     within_no (nat_le (length x.1.descriptors) 131072) x.1.descriptors (h x.0 x.1 x.3 x.4)
 
-pub stop_says : {name of : List ℕ} {at : Attr} {t : Told ReadOut} {why : Stop} (k u w l : Kernel) → IsReadable name of → Stops at t why → IsKernel u → Called (Read of at) t u w → Grows k u → Grows w l → BindSays name k l (binding_of why)
+pub stop_says : {name of : List ℕ} {at : Attr} {t : ToldAnswer ReadOut} {why : Stop} (k u w l : Kernel) → IsReadable name of → Stops at t why → IsKernel u → Called (Read of at) t u w → Grows k u → Grows w l → BindSays name k l (binding_of why)
 stop_says {name} {of} k u w l may (No_descriptors call count) s c g j =
     let b = called_grows (Read of Attr.Descriptors) (told ReadOut.Absent call count) u w c in
     none_wider name k u w l g b j (absent_none name of u w may s.devices c.sound.devices b c.says)
@@ -242,16 +242,16 @@ binds_say {name} k l (No_such call count) a =
     let none = subst (λ v. NoneHas Authorized name k v) (sym a.2) a.1.says in
     λ i d lives named. none i d lives named refl
 binds_say {name} k l (Cut file call count ms of at t shut why r left n first may stops e) a =
-    let cut = along_split calls ms (answered (Read of at) t ∷ answered (Close file.0) shut ∷ []) a.0 l a.2 in
+    let cut = along_split calls ms (made_with (Read of at) t ∷ made_with (Close file.0) shut ∷ []) a.0 l a.2 in
     let g = grows_trans k a.0 cut.0 (called_grows (Open name Authorized) (told (Opened.Token file) call count) k a.0 a.1) (along_grows ms a.0 cut.0 cut.1) in
-    subst (λ v. BindSays name k l v) (sym e) (stop_says k cut.0 cut.2.0 l may stops (along_sound ms a.0 cut.0 a.1.sound cut.1) cut.2.1 g (along_grows (answered (Close file.0) shut ∷ []) cut.2.0 l cut.2.2))
+    subst (λ v. BindSays name k l v) (sym e) (stop_says k cut.0 cut.2.0 l may stops (along_sound ms a.0 cut.0 a.1.sound cut.1) cut.2.1 g (along_grows (made_with (Close file.0) shut ∷ []) cut.2.0 l cut.2.2))
 binds_say {name} k l (Probed_gone file call count number total ms shut n first) a =
-    let gone = answered (Ask_alive file.0) (told Probe.Gone number total) in
-    let cut = along_split calls ms (gone ∷ answered (Close file.0) shut ∷ []) a.0 l a.2 in
+    let gone = made_with (Ask_alive file.0) (told Probe.Gone number total) in
+    let cut = along_split calls ms (gone ∷ made_with (Close file.0) shut ∷ []) a.0 l a.2 in
     let q = quiet_trans a.0 cut.0 cut.2.0 (along_quiet ms a.0 cut.0 (reads_unwritten n) cut.1) (called_quiet (Ask_alive file.0) (told Probe.Gone number total) cut.0 cut.2.0 tt cut.2.1) in
-    gone_law name k file.0 cut.2.0 l (open_since name file call count k a.0 cut.2.0 a.1 q) (along_grows (answered (Close file.0) shut ∷ []) cut.2.0 l cut.2.2) cut.2.1.says
+    gone_law name k file.0 cut.2.0 l (open_since name file call count k a.0 cut.2.0 a.1 q) (along_grows (made_with (Close file.0) shut ∷ []) cut.2.0 l cut.2.2) cut.2.1.says
 binds_say {name} k l (Bound_by call count number total ms b n first are) a =
-    let last = answered (Ask_alive b.held.0) (told (Probe.Alive b.on) number total) ∷ [] in
+    let last = made_with (Ask_alive b.held.0) (told (Probe.Alive b.on) number total) ∷ [] in
     let cut = along_split calls ms last a.0 l a.2 in
     bound_law k a.0 cut.0 l b (open_since name b.held call count k a.0 a.0 a.1 (quiet_refl a.0)) n are a.1.sound cut.1 cut.2.1.says (along_quiet last cut.0 l (tt, tt) cut.2)
 binds_say k l x a = tt
@@ -266,7 +266,7 @@ binding_law name parent r k l above sound runs =
     }
 
 -- and over the states of a run
-pub told_binds : {S : Type 0} (gives : S → (call : Call) → Answer call → S → Type 0) (told : S → Option Kernel) (did : (s : S) (call : Call) (answer : Answer call) (t : S) (l : Kernel) → gives s call answer t → told t ≡ Some l → Follows call answer (told s) l) (name : List ℕ) (parent : Option (List ℕ)) (s : S) (r : Binding) (t : S) → parent ≡ parent_of name → Runs gives s (binding name parent) r t → Binds told s name r t
+pub told_binds : {S : Type 0} (gives : S → (call : Call) → Answer call → S → Type 0) (told : S → Option Kernel) (did : (s : S) (call : Call) (answer : Answer call) (t : S) (l : Kernel) → gives s call answer t → told t ≡ Some l → Follows call answer (told s) l) (name : List ℕ) (parent : Option (List ℕ)) (s : S) (r : Binding) (t : S) → parent ≡ parent_of name → Runs gives s (binding name parent) r t → TellsBinding told s name r t
 told_binds gives told did name parent s r t above runs = λ l e.
     let m = told_run gives told did (binding name parent) s r t l runs e in
     (m.kernel, m.was, λ k. binding_law name parent r m.kernel l above k (m.run k).0)
@@ -274,13 +274,13 @@ told_binds gives told did name parent s r t above runs = λ l e.
 -- the numbers of a failed answer: those of the last call that is counted, which failed
 
 -- a call that failed
-pub fault_so : {X : Type 0} (failed : X → Bool) (t : Told X) (v w : Tally) → failed t.answer ≡ true → Counted failed t v.calls v.faults w.calls w.faults → IsFault v.faults w.calls w.faults (failure_of t)
+pub fault_so : {X : Type 0} (failed : X → Bool) (t : ToldAnswer X) (v w : Tally) → failed t.answer ≡ true → Counted failed t v.calls v.faults w.calls w.faults → IsFault v.faults w.calls w.faults (failure_of t)
 fault_so failed t v w e h = record { number = h.number; total = h.count; rises = λ few. h.rises e few }
 
 -- one behind others, with the closing of a file behind it
-pub ends_closed : (front : List Made) (m : Made) (held : ℕ) (shut : Closing) (failed : FailedCall) (v w : Tally) → ((x y : Tally) → counts x m.call m.answer y → IsFault x.faults y.calls y.faults failed) → Along counts v (front ++ m ∷ answered (Close held) shut ∷ []) w → IsFault v.faults w.calls w.faults failed
+pub ends_closed : (front : List Made) (m : Made) (held : ℕ) (shut : Closing) (failed : FailedCall) (v w : Tally) → ((x y : Tally) → counts x m.call m.answer y → IsFault x.faults y.calls y.faults failed) → Along counts v (front ++ m ∷ made_with (Close held) shut ∷ []) w → IsFault v.faults w.calls w.faults failed
 ends_closed front m held shut failed v w fails a =
-    let cut = along_split counts front (m ∷ answered (Close held) shut ∷ []) v w a in
+    let cut = along_split counts front (m ∷ made_with (Close held) shut ∷ []) v w a in
     let x = cut.0 in
     let y = cut.2.0 in
     let h = fails x y cut.2.1 in
@@ -292,19 +292,19 @@ ends_closed front m held shut failed v w fails a =
     let first = counts_never_fall m.call m.answer x y cut.2.1 in
     record { number = h.number ∙ sym calls; total = h.total ∙ sym faults; rises = λ few. grind (arith, h.rises, few, low, first, faults) }
 
-pub stop_tells : {at : Attr} {t : Told ReadOut} {why : Stop} (front : List Made) (of : List ℕ) (held : ℕ) (shut : Closing) (v w : Tally) → Stops at t why → Along counts v (front ++ answered (Read of at) t ∷ answered (Close held) shut ∷ []) w → TellsFault v.faults w.calls w.faults (binding_of why)
-stop_tells front of held shut v w (Read_failed at call count) a = ends_closed front (answered (Read of at) (told ReadOut.Failed call count)) held shut (record { call = call; count = count }) v w (λ x y c. fault_so failed_read (told ReadOut.Failed call count) x y refl c) a
+pub stop_tells : {at : Attr} {t : ToldAnswer ReadOut} {why : Stop} (front : List Made) (of : List ℕ) (held : ℕ) (shut : Closing) (v w : Tally) → Stops at t why → Along counts v (front ++ made_with (Read of at) t ∷ made_with (Close held) shut ∷ []) w → TellsFault v.faults w.calls w.faults (binding_of why)
+stop_tells front of held shut v w (Read_failed at call count) a = ends_closed front (made_with (Read of at) (told ReadOut.Failed call count)) held shut (record { call = call; count = count }) v w (λ x y c. fault_so failed_read (told ReadOut.Failed call count) x y refl c) a
 stop_tells front of held shut v w x a = tt
 
 pub binds_tell : {name : List ℕ} {ms : List Made} {r : Binding} (v w : Tally) → Binds_by name ms r → Along counts v ms w → TellsFault v.faults w.calls w.faults r
 binds_tell v w (Open_failed call count) a = subst (λ (x : Tally). IsFault v.faults x.calls x.faults (record { call = call; count = count })) (sym a.2) (fault_so failed_open (told Opened.Failed call count) v a.0 refl a.1)
-binds_tell {name} v w (Cut file call count ms of at t shut why r left n first may stops e) a = subst (λ (x : Binding). TellsFault v.faults w.calls w.faults x) (sym e) (stop_tells (answered (Open name Authorized) (told (Opened.Token file) call count) ∷ ms) of file.0 shut v w stops a)
-binds_tell {name} v w (Probe_failed file call count number total ms shut n first) a = ends_closed (answered (Open name Authorized) (told (Opened.Token file) call count) ∷ ms) (answered (Ask_alive file.0) (told Probe.Failed number total)) file.0 shut (record { call = number; count = total }) v w (λ x y c. fault_so failed_probe (told Probe.Failed number total) x y refl c) a
+binds_tell {name} v w (Cut file call count ms of at t shut why r left n first may stops e) a = subst (λ (x : Binding). TellsFault v.faults w.calls w.faults x) (sym e) (stop_tells (made_with (Open name Authorized) (told (Opened.Token file) call count) ∷ ms) of file.0 shut v w stops a)
+binds_tell {name} v w (Probe_failed file call count number total ms shut n first) a = ends_closed (made_with (Open name Authorized) (told (Opened.Token file) call count) ∷ ms) (made_with (Ask_alive file.0) (told Probe.Failed number total)) file.0 shut (record { call = number; count = total }) v w (λ x y c. fault_so is_probe_failed (told Probe.Failed number total) x y refl c) a
 binds_tell v w x a = tt
 
 holds_tell : {control : Control} {name : List ℕ} {held : ℕ} {ms : List Made} {r : RemoveHold} (v w : Tally) → Holds_by control name held ms r → Along counts v ms w → TellsHoldFault v.faults w.calls w.faults r
 holds_tell v w (Not_opened call count) a = subst (λ (x : Tally). IsFault v.faults x.calls x.faults (record { call = call; count = count })) (sym a.2) (fault_so failed_open (told Opened.Failed call count) v a.0 refl a.1)
-holds_tell {control} {name} {held} v w (Unasked file call count number total shut) a = ends_closed (answered (Open name control) (told (Opened.Token file) call count) ∷ []) (answered (Ask_alive held) (told Probe.Failed number total)) file.0 shut (record { call = number; count = total }) v w (λ x y c. fault_so failed_probe (told Probe.Failed number total) x y refl c) a
+holds_tell {control} {name} {held} v w (Unasked file call count number total shut) a = ends_closed (made_with (Open name control) (told (Opened.Token file) call count) ∷ []) (made_with (Ask_alive held) (told Probe.Failed number total)) file.0 shut (record { call = number; count = total }) v w (λ x y c. fault_so is_probe_failed (told Probe.Failed number total) x y refl c) a
 holds_tell v w x a = tt
 
 -- of the states of a run
@@ -352,7 +352,7 @@ gone_dead k name held i f gone d live = gone i d (record { file = record { devic
 
 holds_say : {control : Control} {name : List ℕ} {held : ℕ} {ms : List Made} {r : RemoveHold} (i : ℕ) (k l : Kernel) → IsSound k.devices → IsOpenable control name → Holds_by control name held ms r → IsAuthorizedFile k name held i → Along calls k ms l → HoldSays control held i l r
 holds_say {control} {name} {held} i k l sound can (Not_there call count) f a =
-    let g = along_grows (answered (Open name control) (told Opened.Absent call count) ∷ []) k l a in
+    let g = along_grows (made_with (Open name control) (told Opened.Absent call count) ∷ []) k l a in
     let none = subst (λ v. NoneHas control name k v) (sym a.2) a.1.says in
     gone_later l l name held i (grows_refl l) (file_later k l name held i g f) (λ d live.
     let entry = (live_before k l i f.d d g f.device live).0 in
@@ -361,7 +361,7 @@ holds_say {control} {name} {held} i k l sound can (Held_on file on call count nu
     let c = a.1 in
     let before = quiet_grows k c.before (moves_quiet k c.before c.moves_before) in
     let own = quiet_grows c.before c.after (opened_quiet name control file.0 c.before c.after c.effect) in
-    let last = answered (Ask_alive held) (told (Probe.Alive on) number total) ∷ [] in
+    let last = made_with (Ask_alive held) (told (Probe.Alive on) number total) ∷ [] in
     let alive = a.2.1.says in
     let g = grows_trans c.before c.after a.0 own (quiet_grows c.after a.0 (moves_quiet c.after a.0 c.moves_after)) in
     let now = file_later k a.0 name held i (called_grows (Open name control) (told (Opened.Token file) call count) k a.0 c) f in
@@ -374,7 +374,7 @@ holds_say {control} {name} {held} i k l sound can (Held_on file on call count nu
 holds_say {control} {name} {held} i k l sound can (Died file call count number total shut) f a =
     let to = grows_trans k a.0 a.2.0 (called_grows (Open name control) (told (Opened.Token file) call count) k a.0 a.1) (called_grows (Ask_alive held) (told Probe.Gone number total) a.0 a.2.0 a.2.1) in
     let now = file_later k a.2.0 name held i to f in
-    gone_later a.2.0 l name held i (along_grows (answered (Close file.0) shut ∷ []) a.2.0 l a.2.2) now (gone_dead a.2.0 name held i now a.2.1.says)
+    gone_later a.2.0 l name held i (along_grows (made_with (Close file.0) shut ∷ []) a.2.0 l a.2.2) now (gone_dead a.2.0 name held i now a.2.1.says)
 holds_say i k l sound can x f a = tt
 
 pub holding_law : (control : Control) (name : List ℕ) (held i : ℕ) (r : RemoveHold) (k l : Kernel) → IsKernel k → IsOpenable control name → IsAuthorizedFile k name held i → Runs calls k (holding control name held) r l → IsHold control held i k l r

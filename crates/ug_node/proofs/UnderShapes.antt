@@ -2,15 +2,15 @@
 use Rattle.std.proofs.Common.{◌≡◌, ℕ, Bool, true, false, ◌&&◌, List, [], ◌∷◌, ◌++◌, Option, Some, None, is_some, slice_get, inl, inr, refl, sym, ◌∙◌, ap, subst, append-nil, append_assoc}
 use Rattle.ug_types.specs.Names.{parent_of}
 use Rattle.ug_types.specs.declared.record.Attrs.{Attrs}
-use Rattle.ug_types.specs.declared.verdict.Held.{Held}
-use Rattle.ug_types.specs.declared.control.Attr.{Attr}
-use Rattle.ug_types.specs.declared.control.Control.TheVariants.{Authorized}
+use Rattle.ug_kernel.specs.declared.control.Held.{Held}
+use Rattle.ug_kernel.specs.declared.control.Attr.{Attr}
+use Rattle.ug_kernel.specs.declared.control.Control.TheVariants.{Authorized}
 use Rattle.ug_kernel.specs.declared.device.Device.{Device}
 use Rattle.ug_kernel.specs.declared.calls.ReadOut.{ReadOut}
 use Rattle.ug_kernel.specs.declared.calls.Opened.{Opened}
 use Rattle.ug_kernel.specs.declared.calls.Probe.{Probe}
-use Rattle.ug_kernel.specs.Calls.{Call, Answer, Open, Read, Ask_alive, Close, Closing, Told, failed_open, failed_probe}
-use Rattle.ug_kernel.specs.Along.{Made, answered, Along}
+use Rattle.ug_kernel.specs.Calls.{Call, Answer, Open, Read, Ask_alive, Close, Closing, ToldAnswer, failed_open, is_probe_failed}
+use Rattle.ug_kernel.specs.Along.{Made, made_with, Along}
 use Rattle.ug_kernel.specs.Kernel.{Kernel, Live, IsSound, IsKernel, Moves}
 use Rattle.ug_kernel.specs.Called.{Lived, NoneHas, says_read, Called, Follows, IsAlive}
 use Rattle.ug_kernel.specs.Quiet.{Quiet, Grows}
@@ -18,12 +18,12 @@ use Rattle.ug_kernel.specs.Tree.{Runs, then, calls}
 use Rattle.ug_kernel.proofs.Births.{moves_then}
 use Rattle.ug_kernel.proofs.Quiet.{stays_trans, quiet_refl, quiet_trans, called_quiet}
 use Rattle.ug_kernel.proofs.Grow.{some_same, quiet_grows, grows_trans, called_grows}
-use Rattle.ug_kernel.proofs.Held.{live_before, lived_cut}
+use Rattle.ug_kernel.proofs.HeldFiles.{live_before, lived_cut}
 use Rattle.ug_kernel.proofs.Told.{told_run}
 use Rattle.ug_kernel.proofs.Rises.{Counting}
 use Rattle.ug_kernel.proofs.Counted.{Tally, tally, counts, along_counted}
 use Rattle.ug_kernel.proofs.Ways.{Ways, Sure, ways_then, ways_run, along_split, along_sound, along_grows, Unwritten, unwritten_more, along_quiet}
-use Rattle.ug_node.specs.Bind.{binding_of, after_probe, probing, after_parent, after_asking, after_own_under, after_open_under, binding_under}
+use Rattle.ug_node.specs.Bind.{binding_of, after_probe, asking_alive, after_parent, after_asking, after_own_under, after_open_under, binding_under}
 use Rattle.ug_node.specs.Bound.{IsParentRead, SaysBy, IsBindingBy, BindSays, IsFault, TellsFault}
 use Rattle.ug_node.specs.CallOrder.{GoBy, GoByProbe, OnlyCloses, parent_acts, IsBoundOn, own_acts, HasParentFiles, BehindAsked, GoByAsked, BindsUnderInOrder}
 use Rattle.ug_node.specs.Files.{reading_own, reading_parent}
@@ -39,14 +39,14 @@ use Rattle.ug_node.proofs.Laws.{reads_unwritten, reads_tell, open_since, bound_w
 
 -- the last probe
 pub data Probed_by (file : Held) (own : OwnFiles) (parent : Option Attrs) : List Made → Binding → Type 0 where
-  Found_alive : (on : Bool) (number total : ℕ) → Probed_by file own parent (answered (Ask_alive file.0) (told (Probe.Alive on) number total) ∷ []) (Binding.Bound (record { held = record { 0 = file.0 }; attrs = own.attrs; core_long = own.core_long; parent = parent; on = on }))
-  Found_gone : (number total : ℕ) (shut : Closing) → Probed_by file own parent (answered (Ask_alive file.0) (told Probe.Gone number total) ∷ answered (Close file.0) shut ∷ []) Binding.Vanished
-  Found_none : (number total : ℕ) (shut : Closing) → Probed_by file own parent (answered (Ask_alive file.0) (told Probe.Failed number total) ∷ answered (Close file.0) shut ∷ []) (Binding.Failed (record { call = number; count = total }))
+  Found_alive : (on : Bool) (number total : ℕ) → Probed_by file own parent (made_with (Ask_alive file.0) (told (Probe.Alive on) number total) ∷ []) (Binding.Bound (record { held = record { 0 = file.0 }; attrs = own.attrs; core_long = own.core_long; parent = parent; on = on }))
+  Found_gone : (number total : ℕ) (shut : Closing) → Probed_by file own parent (made_with (Ask_alive file.0) (told Probe.Gone number total) ∷ made_with (Close file.0) shut ∷ []) Binding.Vanished
+  Found_none : (number total : ℕ) (shut : Closing) → Probed_by file own parent (made_with (Ask_alive file.0) (told Probe.Failed number total) ∷ made_with (Close file.0) shut ∷ []) (Binding.Failed (record { call = number; count = total }))
 
 -- the parent's files, and that probe
 pub data Behind_by (name parent : List ℕ) (file : Held) (own : OwnFiles) : List Made → Binding → Type 0 where
-  Cut_behind : (ms : List Made) (at : Attr) (t : Told ReadOut) (shut : Closing) (why : Stop) (r : Binding) (left : List (List ℕ × Attr)) → Reads name ms → ReadsFirst (parent_files (Some parent)) ms ((parent, at) ∷ left) → Stops at t why → r ≡ binding_of why → Behind_by name parent file own (ms ++ answered (Read parent at) t ∷ answered (Close file.0) shut ∷ []) r
-  Read_behind : (x y z : Told ReadOut) (ns : List Made) (r : Binding) → Reads name (reads_parents parent x y z) → ReadsFirst (parent_files (Some parent)) (reads_parents parent x y z) [] → Probed_by file own (Some (parents_from x.answer y.answer z.answer)) ns r → Behind_by name parent file own (reads_parents parent x y z ++ ns) r
+  Cut_behind : (ms : List Made) (at : Attr) (t : ToldAnswer ReadOut) (shut : Closing) (why : Stop) (r : Binding) (left : List (List ℕ × Attr)) → Reads name ms → ReadsFirst (parent_files (Some parent)) ms ((parent, at) ∷ left) → Stops at t why → r ≡ binding_of why → Behind_by name parent file own (ms ++ made_with (Read parent at) t ∷ made_with (Close file.0) shut ∷ []) r
+  Read_behind : (x y z : ToldAnswer ReadOut) (ns : List Made) (r : Binding) → Reads name (reads_parents parent x y z) → ReadsFirst (parent_files (Some parent)) (reads_parents parent x y z) [] → Probed_by file own (Some (parents_from x.answer y.answer z.answer)) ns r → Behind_by name parent file own (reads_parents parent x y z ++ ns) r
 
 -- a probe that didn't find the device alive
 abbrev pub IsntAlive : Probe → Type 0
@@ -54,20 +54,20 @@ IsntAlive (Probe.Alive on) = ⊥
 IsntAlive Probe.Gone = Unit {0}
 IsntAlive Probe.Failed = Unit {0}
 
-abbrev OwnRead : List ℕ → Told ReadOut → Told ReadOut → Told ReadOut → Told ReadOut → Type 0
+abbrev OwnRead : List ℕ → ToldAnswer ReadOut → ToldAnswer ReadOut → ToldAnswer ReadOut → ToldAnswer ReadOut → Type 0
 OwnRead name d p s c = Reads name (reads_own name d p s c []) × ReadsFirst (own_first name []) (reads_own name d p s c []) []
 
-abbrev own_told : Told ReadOut → Told ReadOut → Told ReadOut → Told ReadOut → OwnFiles
+abbrev own_told : ToldAnswer ReadOut → ToldAnswer ReadOut → ToldAnswer ReadOut → ToldAnswer ReadOut → OwnFiles
 own_told d p s c = own_from d.answer p.answer s.answer c.answer
 
 -- the calls of a binding under that file
 pub data Under_by (name parent : List ℕ) (kept : ℕ) : List Made → Binding → Type 0 where
-  Under_none : (call count : ℕ) → Under_by name parent kept (answered (Open name Authorized) (told Opened.Absent call count) ∷ []) Binding.Absent
-  Under_unopened : (call count : ℕ) → Under_by name parent kept (answered (Open name Authorized) (told Opened.Failed call count) ∷ []) (Binding.Failed (record { call = call; count = count }))
-  Under_short : (call count : ℕ) → Under_by name parent kept (answered (Open name Authorized) (told Opened.Memory call count) ∷ []) Binding.Memory
-  Under_cut : (file : Held) (call count : ℕ) (ms : List Made) (at : Attr) (t : Told ReadOut) (shut : Closing) (why : Stop) (r : Binding) (left : List (List ℕ × Attr)) → Reads name ms → ReadsFirst (own_first name []) ms ((name, at) ∷ left) → Stops at t why → r ≡ binding_of why → Under_by name parent kept (answered (Open name Authorized) (told (Opened.Token file) call count) ∷ (ms ++ answered (Read name at) t ∷ answered (Close file.0) shut ∷ [])) r
-  Under_alive : (file : Held) (call count : ℕ) (d p s c : Told ReadOut) (on : Bool) (number total : ℕ) (ns : List Made) (r : Binding) → OwnRead name d p s c → Probed_by file (own_told d p s c) None ns r → Under_by name parent kept (answered (Open name Authorized) (told (Opened.Token file) call count) ∷ reads_own name d p s c (answered (Ask_alive kept) (told (Probe.Alive on) number total) ∷ ns)) r
-  Under_other : (file : Held) (call count : ℕ) (d p s c : Told ReadOut) (t : Told Probe) (ns : List Made) (r : Binding) → IsntAlive t.answer → OwnRead name d p s c → Behind_by name parent file (own_told d p s c) ns r → Under_by name parent kept (answered (Open name Authorized) (told (Opened.Token file) call count) ∷ reads_own name d p s c (answered (Ask_alive kept) t ∷ ns)) r
+  Under_none : (call count : ℕ) → Under_by name parent kept (made_with (Open name Authorized) (told Opened.Absent call count) ∷ []) Binding.Absent
+  Under_unopened : (call count : ℕ) → Under_by name parent kept (made_with (Open name Authorized) (told Opened.Failed call count) ∷ []) (Binding.Failed (record { call = call; count = count }))
+  Under_short : (call count : ℕ) → Under_by name parent kept (made_with (Open name Authorized) (told Opened.Memory call count) ∷ []) Binding.Memory
+  Under_cut : (file : Held) (call count : ℕ) (ms : List Made) (at : Attr) (t : ToldAnswer ReadOut) (shut : Closing) (why : Stop) (r : Binding) (left : List (List ℕ × Attr)) → Reads name ms → ReadsFirst (own_first name []) ms ((name, at) ∷ left) → Stops at t why → r ≡ binding_of why → Under_by name parent kept (made_with (Open name Authorized) (told (Opened.Token file) call count) ∷ (ms ++ made_with (Read name at) t ∷ made_with (Close file.0) shut ∷ [])) r
+  Under_alive : (file : Held) (call count : ℕ) (d p s c : ToldAnswer ReadOut) (on : Bool) (number total : ℕ) (ns : List Made) (r : Binding) → OwnRead name d p s c → Probed_by file (own_told d p s c) None ns r → Under_by name parent kept (made_with (Open name Authorized) (told (Opened.Token file) call count) ∷ reads_own name d p s c (made_with (Ask_alive kept) (told (Probe.Alive on) number total) ∷ ns)) r
+  Under_other : (file : Held) (call count : ℕ) (d p s c : ToldAnswer ReadOut) (t : ToldAnswer Probe) (ns : List Made) (r : Binding) → IsntAlive t.answer → OwnRead name d p s c → Behind_by name parent file (own_told d p s c) ns r → Under_by name parent kept (made_with (Open name Authorized) (told (Opened.Token file) call count) ∷ reads_own name d p s c (made_with (Ask_alive kept) t ∷ ns)) r
 
 -- the walk
 
@@ -75,10 +75,10 @@ pub under_by : (name parent : List ℕ) (kept : ℕ) → parent_of name ≡ Some
 unfolding binding_under
 under_by name parent kept above = λ t. opened_by t.answer t.number t.count
   where
-    probed : (file : Held) (own : OwnFiles) (p : Option Attrs) (Q : List Made → Binding → Type 0) → ((ns : List Made) (r : Binding) → Probed_by file own p ns r → Q ns r) → Ways (probing file.0 own p) (Sure Q)
+    probed : (file : Held) (own : OwnFiles) (p : Option Attrs) (Q : List Made → Binding → Type 0) → ((ns : List Made) (r : Binding) → Probed_by file own p ns r → Q ns r) → Ways (asking_alive file.0 own p) (Sure Q)
     probed file own p Q give = λ t. by t.answer t.number t.count
       where
-        by : (r : Probe) (number total : ℕ) → Ways (after_probe file.0 own p r (record { call = number; count = total })) (Sure (λ ns x. Q (answered (Ask_alive file.0) (told r number total) ∷ ns) x))
+        by : (r : Probe) (number total : ℕ) → Ways (after_probe file.0 own p r (record { call = number; count = total })) (Sure (λ ns x. Q (made_with (Ask_alive file.0) (told r number total) ∷ ns) x))
         by (Probe.Alive on) number total = (refl, give _ _ (Found_alive on number total))
         by Probe.Gone number total = λ shut. (refl, give _ _ (Found_gone number total shut))
         by Probe.Failed number total = λ shut. (refl, give _ _ (Found_none number total shut))
@@ -88,22 +88,22 @@ under_by name parent kept above = λ t. opened_by t.answer t.number t.count
         ways_then (Sure Q) (reading_parent parent file.0) (after_parent file.0 own)
         (parent_read name parent file.0 (inr above) (λ ok ms q. Ways (after_parent file.0 own q) (λ more ns r. Sure Q (ok && more) (ms ++ ns) r))
         (λ x y z b g. probed file own (Some (parents_from x.answer y.answer z.answer)) (λ ns r. Q (reads_parents parent x y z ++ ns) r) (λ ns r h. give _ _ (Read_behind x y z ns r b g h)))
-        (λ ms at t why shut left b g stops. (refl, subst (λ (v : List Made). Q v (binding_of why)) (sym (append-nil (ms ++ answered (Read parent at) t ∷ answered (Close file.0) shut ∷ []))) (give _ _ (Cut_behind ms at t shut why (binding_of why) left b g stops refl)))))
+        (λ ms at t why shut left b g stops. (refl, subst (λ (v : List Made). Q v (binding_of why)) (sym (append-nil (ms ++ made_with (Read parent at) t ∷ made_with (Close file.0) shut ∷ []))) (give _ _ (Cut_behind ms at t shut why (binding_of why) left b g stops refl)))))
 
-    asked : (file : Held) (call count : ℕ) (d p s c : Told ReadOut) → OwnRead name d p s c → (r : Probe) (number total : ℕ) → Ways (after_asking file.0 (own_told d p s c) parent r) (Sure (λ ns x. Under_by name parent kept (answered (Open name Authorized) (told (Opened.Token file) call count) ∷ reads_own name d p s c (answered (Ask_alive kept) (told r number total) ∷ ns)) x))
-    asked file call count d p s c own (Probe.Alive on) number total = probed file (own_told d p s c) None (λ ns x. Under_by name parent kept (answered (Open name Authorized) (told (Opened.Token file) call count) ∷ reads_own name d p s c (answered (Ask_alive kept) (told (Probe.Alive on) number total) ∷ ns)) x) (λ ns r h. Under_alive file call count d p s c on number total ns r own h)
-    asked file call count d p s c own Probe.Gone number total = behind file (own_told d p s c) (λ ns x. Under_by name parent kept (answered (Open name Authorized) (told (Opened.Token file) call count) ∷ reads_own name d p s c (answered (Ask_alive kept) (told Probe.Gone number total) ∷ ns)) x) (λ ns r h. Under_other file call count d p s c (told Probe.Gone number total) ns r tt own h)
-    asked file call count d p s c own Probe.Failed number total = behind file (own_told d p s c) (λ ns x. Under_by name parent kept (answered (Open name Authorized) (told (Opened.Token file) call count) ∷ reads_own name d p s c (answered (Ask_alive kept) (told Probe.Failed number total) ∷ ns)) x) (λ ns r h. Under_other file call count d p s c (told Probe.Failed number total) ns r tt own h)
+    asked : (file : Held) (call count : ℕ) (d p s c : ToldAnswer ReadOut) → OwnRead name d p s c → (r : Probe) (number total : ℕ) → Ways (after_asking file.0 (own_told d p s c) parent r) (Sure (λ ns x. Under_by name parent kept (made_with (Open name Authorized) (told (Opened.Token file) call count) ∷ reads_own name d p s c (made_with (Ask_alive kept) (told r number total) ∷ ns)) x))
+    asked file call count d p s c own (Probe.Alive on) number total = probed file (own_told d p s c) None (λ ns x. Under_by name parent kept (made_with (Open name Authorized) (told (Opened.Token file) call count) ∷ reads_own name d p s c (made_with (Ask_alive kept) (told (Probe.Alive on) number total) ∷ ns)) x) (λ ns r h. Under_alive file call count d p s c on number total ns r own h)
+    asked file call count d p s c own Probe.Gone number total = behind file (own_told d p s c) (λ ns x. Under_by name parent kept (made_with (Open name Authorized) (told (Opened.Token file) call count) ∷ reads_own name d p s c (made_with (Ask_alive kept) (told Probe.Gone number total) ∷ ns)) x) (λ ns r h. Under_other file call count d p s c (told Probe.Gone number total) ns r tt own h)
+    asked file call count d p s c own Probe.Failed number total = behind file (own_told d p s c) (λ ns x. Under_by name parent kept (made_with (Open name Authorized) (told (Opened.Token file) call count) ∷ reads_own name d p s c (made_with (Ask_alive kept) (told Probe.Failed number total) ∷ ns)) x) (λ ns r h. Under_other file call count d p s c (told Probe.Failed number total) ns r tt own h)
 
     After : Held → ℕ → ℕ → List Made → Binding → Type 0
-    After file call count ms r = Under_by name parent kept (answered (Open name Authorized) (told (Opened.Token file) call count) ∷ ms) r
+    After file call count ms r = Under_by name parent kept (made_with (Open name Authorized) (told (Opened.Token file) call count) ∷ ms) r
 
-    opened_by : (r : Opened) (call count : ℕ) → Ways (after_open_under name parent kept r (record { call = call; count = count })) (Sure (λ ms x. Under_by name parent kept (answered (Open name Authorized) (told r call count) ∷ ms) x))
+    opened_by : (r : Opened) (call count : ℕ) → Ways (after_open_under name parent kept r (record { call = call; count = count })) (Sure (λ ms x. Under_by name parent kept (made_with (Open name Authorized) (told r call count) ∷ ms) x))
     opened_by (Opened.Token file) call count =
         ways_then (Sure (After file call count)) (reading_own name file.0) (after_own_under file.0 parent kept)
         (own_read name file.0 [] (λ ok ms q. Ways (after_own_under file.0 parent kept q) (λ more ns r. Sure (After file call count) (ok && more) (ms ++ ns) r))
         (λ d p s c a f. λ t. asked file call count d p s c (a, f) t.answer t.number t.count)
-        (λ ms at t why shut left a f stops. (refl, subst (λ (v : List Made). After file call count v (binding_of why)) (sym (append-nil (ms ++ answered (Read name at) t ∷ answered (Close file.0) shut ∷ []))) (Under_cut file call count ms at t shut why (binding_of why) left a f stops refl))))
+        (λ ms at t why shut left a f stops. (refl, subst (λ (v : List Made). After file call count v (binding_of why)) (sym (append-nil (ms ++ made_with (Read name at) t ∷ made_with (Close file.0) shut ∷ []))) (Under_cut file call count ms at t shut why (binding_of why) left a f stops refl))))
     opened_by Opened.Absent call count = (refl, Under_none call count)
     opened_by Opened.Failed call count = (refl, Under_unopened call count)
     opened_by Opened.Memory call count = (refl, Under_short call count)
@@ -135,7 +135,7 @@ says_sooner of at ReadOut.Failed k l m g j h = tt
 says_sooner of at ReadOut.Memory k l m g j h = tt
 
 -- a probe behind a reading is moves of the kernel's
-read_on : (of : List ℕ) (at : Attr) (t : Told ReadOut) (held : ℕ) (p : Told Probe) (k l m : Kernel) → Called (Read of at) t k l → Called (Ask_alive held) p l m → Called (Read of at) t k m
+read_on : (of : List ℕ) (at : Attr) (t : ToldAnswer ReadOut) (held : ℕ) (p : ToldAnswer Probe) (k l m : Kernel) → Called (Read of at) t k l → Called (Ask_alive held) p l m → Called (Read of at) t k m
 read_on of at t held p k l m c a = record {
   before = c.before;
   after = c.after;
@@ -152,18 +152,18 @@ first_with : {fs left : List (List ℕ × Attr)} {ms : List Made} (gs : List (Li
 first_with gs (None_read files) = None_read (files ++ gs)
 first_with gs (One_read of at t ms files left came a) = One_read of at t ms (files ++ gs) (left ++ gs) came (first_with gs a)
 
-pub binds_behind : {name parent : List ℕ} {file : Held} {ns : List Made} {r : Binding} (call count : ℕ) (d p s c : Told ReadOut) → parent_of name ≡ Some parent → OwnRead name d p s c → Behind_by name parent file (own_told d p s c) ns r → Binds_by name (answered (Open name Authorized) (told (Opened.Token file) call count) ∷ reads_own name d p s c ns) r
+pub binds_behind : {name parent : List ℕ} {file : Held} {ns : List Made} {r : Binding} (call count : ℕ) (d p s c : ToldAnswer ReadOut) → parent_of name ≡ Some parent → OwnRead name d p s c → Behind_by name parent file (own_told d p s c) ns r → Binds_by name (made_with (Open name Authorized) (told (Opened.Token file) call count) ∷ reads_own name d p s c ns) r
 binds_behind {name} {parent} {file} call count d p s c above own h = by h
   where
     first : ReadsFirst (files_of name) (reads_own name d p s c []) (parent_files (Some parent))
     first = subst (λ (o : Option (List ℕ)). ReadsFirst (own_first name (parent_files o)) (reads_own name d p s c []) (parent_files (Some parent))) (sym above) (first_with (parent_files (Some parent)) own.1)
 
-    last : {ns : List Made} {r : Binding} (x y z : Told ReadOut) → Reads name (reads_parents parent x y z) → ReadsFirst (parent_files (Some parent)) (reads_parents parent x y z) [] → Probed_by file (own_told d p s c) (Some (parents_from x.answer y.answer z.answer)) ns r → Binds_by name (answered (Open name Authorized) (told (Opened.Token file) call count) ∷ reads_own name d p s c (reads_parents parent x y z ++ ns)) r
+    last : {ns : List Made} {r : Binding} (x y z : ToldAnswer ReadOut) → Reads name (reads_parents parent x y z) → ReadsFirst (parent_files (Some parent)) (reads_parents parent x y z) [] → Probed_by file (own_told d p s c) (Some (parents_from x.answer y.answer z.answer)) ns r → Binds_by name (made_with (Open name Authorized) (told (Opened.Token file) call count) ∷ reads_own name d p s c (reads_parents parent x y z ++ ns)) r
     last x y z b g (Found_alive on number total) = Bound_by call count number total (reads_own name d p s c (reads_parents parent x y z)) (record { held = record { 0 = file.0 }; attrs = (own_told d p s c).attrs; core_long = (own_told d p s c).core_long; parent = Some (parents_from x.answer y.answer z.answer); on = on }) (reads_more own.0 b) (first_more first g) (Below parent d p s c x y z above)
     last x y z b g (Found_gone number total shut) = Probed_gone file call count number total (reads_own name d p s c (reads_parents parent x y z)) shut (reads_more own.0 b) (first_more first g)
     last x y z b g (Found_none number total shut) = Probe_failed file call count number total (reads_own name d p s c (reads_parents parent x y z)) shut (reads_more own.0 b) (first_more first g)
 
-    by : {ns : List Made} {r : Binding} → Behind_by name parent file (own_told d p s c) ns r → Binds_by name (answered (Open name Authorized) (told (Opened.Token file) call count) ∷ reads_own name d p s c ns) r
+    by : {ns : List Made} {r : Binding} → Behind_by name parent file (own_told d p s c) ns r → Binds_by name (made_with (Open name Authorized) (told (Opened.Token file) call count) ∷ reads_own name d p s c ns) r
     by (Cut_behind ms at t shut why r left b g stops e) = Cut file call count (reads_own name d p s c ms) parent at t shut why r left (reads_more own.0 b) (first_more first g) (inr above) stops e
     by (Read_behind x y z ns r b g h) = last x y z b g h
 
@@ -234,13 +234,13 @@ parent_is name parent kept i j on k u x v l above f to before behind after sound
     let is = kept_parent x name parent i j own alive.d own.parent sound.devices mid.1.1.entry (stays.name ∙ named) above live bears refl in
     (j, sym stays.parent ∙ is, after.held kept (record { device = j; control = Authorized }) now.file)
 
-alive_says : {name : List ℕ} (parent : List ℕ) (kept j : ℕ) (k l : Kernel) (file : Held) (call count : ℕ) (d p s c : Told ReadOut) (on : Bool) (number total : ℕ) {ns : List Made} {r : Binding} → parent_of name ≡ Some parent → IsAuthorizedFile k parent kept j → OwnRead name d p s c → Probed_by file (own_told d p s c) None ns r → Along calls k (answered (Open name Authorized) (told (Opened.Token file) call count) ∷ reads_own name d p s c (answered (Ask_alive kept) (told (Probe.Alive on) number total) ∷ ns)) l → SaysBy (IsParentKept kept) name k l r
+alive_says : {name : List ℕ} (parent : List ℕ) (kept j : ℕ) (k l : Kernel) (file : Held) (call count : ℕ) (d p s c : ToldAnswer ReadOut) (on : Bool) (number total : ℕ) {ns : List Made} {r : Binding} → parent_of name ≡ Some parent → IsAuthorizedFile k parent kept j → OwnRead name d p s c → Probed_by file (own_told d p s c) None ns r → Along calls k (made_with (Open name Authorized) (told (Opened.Token file) call count) ∷ reads_own name d p s c (made_with (Ask_alive kept) (told (Probe.Alive on) number total) ∷ ns)) l → SaysBy (IsParentKept kept) name k l r
 alive_says {name} parent kept j k l file call count d p s c on number total {ns} {r} above f own h a = by h b.2.2.2.2.2
   where
     u : Kernel
     u = a.0
 
-    b : Along calls u (reads_own name d p s c (answered (Ask_alive kept) (told (Probe.Alive on) number total) ∷ ns)) l
+    b : Along calls u (reads_own name d p s c (made_with (Ask_alive kept) (told (Probe.Alive on) number total) ∷ ns)) l
     b = a.2
 
     -- behind the readings, and behind the probe of the parent's file
@@ -270,7 +270,7 @@ alive_says {name} parent kept j k l file call count d p s c on number total {ns}
 
     by : {ns : List Made} {r : Binding} → Probed_by file (own_told d p s c) None ns r → Along calls y ns l → SaysBy (IsParentKept kept) name k l r
     by (Found_alive is n t) rest =
-        let last : List Made = answered (Ask_alive file.0) (told (Probe.Alive is) n t) ∷ [] in
+        let last : List Made = made_with (Ask_alive file.0) (told (Probe.Alive is) n t) ∷ [] in
         let q = along_quiet last y l (tt, tt) rest in
         let since = open_since name file call count k u u a.1 (quiet_refl u) in
         bound_with (IsParentKept kept) name k u y l (record { held = record { 0 = file.0 }; attrs = (own_told d p s c).attrs; core_long = (own_told d p s c).core_long; parent = None; on = is }) since quiet
@@ -283,7 +283,7 @@ alive_says {name} parent kept j k l file call count d p s c on number total {ns}
         rest.1.says q
     by (Found_gone n t shut) rest =
         let since = open_since name file call count k u rest.0 a.1 (quiet_trans u y rest.0 quiet (called_quiet (Ask_alive file.0) (told Probe.Gone n t) y rest.0 tt rest.1)) in
-        gone_law name k file.0 rest.0 l since (along_grows (answered (Close file.0) shut ∷ []) rest.0 l rest.2) rest.1.says
+        gone_law name k file.0 rest.0 l since (along_grows (made_with (Close file.0) shut ∷ []) rest.0 l rest.2) rest.1.says
     by (Found_none n t shut) rest = tt
 
 -- how it ends
@@ -293,9 +293,9 @@ under_says {name} j k l above f (Under_none call count) a =
     let none = subst (λ v. NoneHas Authorized name k v) (sym a.2) a.1.says in
     λ i d lives named. none i d lives named refl
 under_says {name} {parent} {kept} j k l above f (Under_cut file call count ms at t shut why r left own first stops e) a =
-    let cut = along_split calls ms (answered (Read name at) t ∷ answered (Close file.0) shut ∷ []) a.0 l a.2 in
+    let cut = along_split calls ms (made_with (Read name at) t ∷ made_with (Close file.0) shut ∷ []) a.0 l a.2 in
     let g = grows_trans k a.0 cut.0 (called_grows (Open name Authorized) (told (Opened.Token file) call count) k a.0 a.1) (along_grows ms a.0 cut.0 cut.1) in
-    kept_says kept name k l r (subst HasParent (sym e) (stop_parent why)) (subst (λ v. BindSays name k l v) (sym e) (stop_says k cut.0 cut.2.0 l (inl refl) stops (along_sound ms a.0 cut.0 a.1.sound cut.1) cut.2.1 g (along_grows (answered (Close file.0) shut ∷ []) cut.2.0 l cut.2.2)))
+    kept_says kept name k l r (subst HasParent (sym e) (stop_parent why)) (subst (λ v. BindSays name k l v) (sym e) (stop_says k cut.0 cut.2.0 l (inl refl) stops (along_sound ms a.0 cut.0 a.1.sound cut.1) cut.2.1 g (along_grows (made_with (Close file.0) shut ∷ []) cut.2.0 l cut.2.2)))
 under_says {name} {parent} {kept} j k l above f (Under_alive file call count d p s c on number total ns r own h) a = alive_says parent kept j k l file call count d p s c on number total above f own h a
 under_says {name} {parent} {kept} j k l above f (Under_other file call count d p s c t ns r isnt own h) a =
     let b = a.2 in
@@ -323,11 +323,11 @@ told_under gives told did name parent kept s r t above runs = λ l e.
 probed_tell : {file : Held} {own : OwnFiles} {parent : Option Attrs} {ns : List Made} {r : Binding} (front : List Made) (v w : Tally) → Probed_by file own parent ns r → Along counts v (front ++ ns) w → TellsFault v.faults w.calls w.faults r
 probed_tell front v w (Found_alive on number total) a = tt
 probed_tell front v w (Found_gone number total shut) a = tt
-probed_tell {file} front v w (Found_none number total shut) a = ends_closed front (answered (Ask_alive file.0) (told Probe.Failed number total)) file.0 shut (record { call = number; count = total }) v w (λ x y c. fault_so failed_probe (told Probe.Failed number total) x y refl c) a
+probed_tell {file} front v w (Found_none number total shut) a = ends_closed front (made_with (Ask_alive file.0) (told Probe.Failed number total)) file.0 shut (record { call = number; count = total }) v w (λ x y c. fault_so is_probe_failed (told Probe.Failed number total) x y refl c) a
 
 behind_tells : {name parent : List ℕ} {file : Held} {own : OwnFiles} {ns : List Made} {r : Binding} (front : List Made) (v w : Tally) → Behind_by name parent file own ns r → Along counts v (front ++ ns) w → TellsFault v.faults w.calls w.faults r
 behind_tells {name} {parent} {file} front v w (Cut_behind ms at t shut why r left b g stops e) a =
-    let flat = sym (append_assoc front ms (answered (Read parent at) t ∷ answered (Close file.0) shut ∷ [])) in
+    let flat = sym (append_assoc front ms (made_with (Read parent at) t ∷ made_with (Close file.0) shut ∷ [])) in
     subst (λ (x : Binding). TellsFault v.faults w.calls w.faults x) (sym e) (stop_tells (front ++ ms) parent file.0 shut v w stops (subst (λ (os : List Made). Along counts v os w) flat a))
 behind_tells {name} {parent} {file} front v w (Read_behind x y z ns r b g h) a =
     let flat = sym (append_assoc front (reads_parents parent x y z) ns) in
@@ -335,9 +335,9 @@ behind_tells {name} {parent} {file} front v w (Read_behind x y z ns r b g h) a =
 
 under_tells : {name parent : List ℕ} {kept : ℕ} {ms : List Made} {r : Binding} (v w : Tally) → Under_by name parent kept ms r → Along counts v ms w → TellsFault v.faults w.calls w.faults r
 under_tells v w (Under_unopened call count) a = subst (λ (x : Tally). IsFault v.faults x.calls x.faults (record { call = call; count = count })) (sym a.2) (fault_so failed_open (told Opened.Failed call count) v a.0 refl a.1)
-under_tells {name} v w (Under_cut file call count ms at t shut why r left own first stops e) a = subst (λ (x : Binding). TellsFault v.faults w.calls w.faults x) (sym e) (stop_tells (answered (Open name Authorized) (told (Opened.Token file) call count) ∷ ms) name file.0 shut v w stops a)
-under_tells {name} {parent} {kept} v w (Under_alive file call count d p s c on number total ns r own h) a = probed_tell (answered (Open name Authorized) (told (Opened.Token file) call count) ∷ reads_own name d p s c (answered (Ask_alive kept) (told (Probe.Alive on) number total) ∷ [])) v w h a
-under_tells {name} {parent} {kept} v w (Under_other file call count d p s c t ns r isnt own h) a = behind_tells (answered (Open name Authorized) (told (Opened.Token file) call count) ∷ reads_own name d p s c (answered (Ask_alive kept) t ∷ [])) v w h a
+under_tells {name} v w (Under_cut file call count ms at t shut why r left own first stops e) a = subst (λ (x : Binding). TellsFault v.faults w.calls w.faults x) (sym e) (stop_tells (made_with (Open name Authorized) (told (Opened.Token file) call count) ∷ ms) name file.0 shut v w stops a)
+under_tells {name} {parent} {kept} v w (Under_alive file call count d p s c on number total ns r own h) a = probed_tell (made_with (Open name Authorized) (told (Opened.Token file) call count) ∷ reads_own name d p s c (made_with (Ask_alive kept) (told (Probe.Alive on) number total) ∷ [])) v w h a
+under_tells {name} {parent} {kept} v w (Under_other file call count d p s c t ns r isnt own h) a = behind_tells (made_with (Open name Authorized) (told (Opened.Token file) call count) ∷ reads_own name d p s c (made_with (Ask_alive kept) t ∷ [])) v w h a
 under_tells v w x a = tt
 
 pub under_fault : {S : Type 0} (gives : S → (call : Call) → Answer call → S → Type 0) (calls faults : S → ℕ) (counted : Counting gives calls faults) (name parent : List ℕ) (kept : ℕ) (s : S) (r : Binding) (t : S) → parent_of name ≡ Some parent → Runs gives s (binding_under name parent kept) r t → TellsFault (faults s) (calls t) (faults t) r
@@ -353,7 +353,7 @@ last_order (Found_gone number total shut) = (refl, tt)
 last_order (Found_none number total shut) = (refl, tt)
 
 parent_order : {name parent : List ℕ} {file : Held} {own : OwnFiles} {ns : List Made} {r : Binding} → Behind_by name parent file own ns r → GoBy (parent_acts (Some parent)) (GoByProbe (IsBoundOn r) OnlyCloses) ns
-parent_order {name} {parent} {file} (Cut_behind ms at t shut why r left a first stops e) = reads_go (GoByProbe (IsBoundOn r) OnlyCloses) (answered (Read parent at) t ∷ answered (Close file.0) shut ∷ []) first (refl, inr (stops_end stops, (refl, tt)))
+parent_order {name} {parent} {file} (Cut_behind ms at t shut why r left a first stops e) = reads_go (GoByProbe (IsBoundOn r) OnlyCloses) (made_with (Read parent at) t ∷ made_with (Close file.0) shut ∷ []) first (refl, inr (stops_end stops, (refl, tt)))
 parent_order (Read_behind x y z ns r a first h) = reads_go (GoByProbe (IsBoundOn r) OnlyCloses) ns first (last_order h)
 
 -- whether there are attributes of the parent
@@ -375,11 +375,11 @@ isnt_behind name r Probe.Gone ns isnt h = h
 isnt_behind name r Probe.Failed ns isnt h = h
 
 under_order : {name parent : List ℕ} {kept : ℕ} {ms : List Made} {r : Binding} → parent_of name ≡ Some parent → Under_by name parent kept ms r → GoBy (own_acts name []) (GoByAsked name kept r) ms
-under_order {name} {parent} {kept} above (Under_cut file call count ms at t shut why r left a first stops e) = (refl, inl (refl, reads_go (GoByAsked name kept r) (answered (Read name at) t ∷ answered (Close file.0) shut ∷ []) first (refl, inr (stops_end stops, (refl, tt)))))
-under_order {name} {parent} {kept} above (Under_alive file call count d p s c on number total ns r own h) = (refl, inl (refl, reads_go (GoByAsked name kept r) (answered (Ask_alive kept) (told (Probe.Alive on) number total) ∷ ns) own.1 (refl, (without_files h, last_order h))))
+under_order {name} {parent} {kept} above (Under_cut file call count ms at t shut why r left a first stops e) = (refl, inl (refl, reads_go (GoByAsked name kept r) (made_with (Read name at) t ∷ made_with (Close file.0) shut ∷ []) first (refl, inr (stops_end stops, (refl, tt)))))
+under_order {name} {parent} {kept} above (Under_alive file call count d p s c on number total ns r own h) = (refl, inl (refl, reads_go (GoByAsked name kept r) (made_with (Ask_alive kept) (told (Probe.Alive on) number total) ∷ ns) own.1 (refl, (without_files h, last_order h))))
 under_order {name} {parent} {kept} above (Under_other file call count d p s c t ns r isnt own h) =
     let reads = subst (λ (o : Option (List ℕ)). GoBy (parent_acts o) (GoByProbe (IsBoundOn r) OnlyCloses) ns) (sym above) (parent_order h) in
-    (refl, inl (refl, reads_go (GoByAsked name kept r) (answered (Ask_alive kept) t ∷ ns) own.1 (refl, isnt_behind name r t.answer ns isnt (with_files r (behind_parent h), reads))))
+    (refl, inl (refl, reads_go (GoByAsked name kept r) (made_with (Ask_alive kept) t ∷ ns) own.1 (refl, isnt_behind name r t.answer ns isnt (with_files r (behind_parent h), reads))))
 under_order above x = (refl, inr (refl, tt))
 
 pub under_in_order : {S : Type 0} (gives : S → (call : Call) → Answer call → S → Type 0) (name parent : List ℕ) (kept : ℕ) (s : S) (r : Binding) (t : S) → parent_of name ≡ Some parent → Runs gives s (binding_under name parent kept) r t → BindsUnderInOrder gives s name kept r t

@@ -1,7 +1,7 @@
 -- The calls that bind a name, in order: open, read, read the parent's, probe.
 use Rattle.std.specs.Prelude.{ℕ, List, Option, Some, None, Result, Ok, Err}
 use Rattle.ug_types.specs.declared.record.Attrs.{Attrs}
-use Rattle.ug_types.specs.declared.control.Control.TheVariants.{Authorized}
+use Rattle.ug_kernel.specs.declared.control.Control.TheVariants.{Authorized}
 use Rattle.ug_kernel.specs.declared.calls.Opened.{Opened}
 use Rattle.ug_kernel.specs.declared.calls.Opened.TheVariants as opened
 use Rattle.ug_kernel.specs.declared.calls.Probe.{Probe}
@@ -38,16 +38,16 @@ after_probe held own parent (probe.Alive on) failed =
 after_probe held own parent probe.Gone failed = closing held bound.Vanished
 after_probe held own parent probe.Failed failed = closing held (bound.Failed failed)
 
-abbrev pub probing : ℕ → OwnFiles → Option Attrs → Prog Binding
-probing held own parent =
+abbrev pub asking_alive : ℕ → OwnFiles → Option Attrs → Prog Binding
+asking_alive held own parent =
     Ask (Ask_alive held) (λ t. after_probe held own parent t.answer (failure_of t))
 
 abbrev pub after_parent : ℕ → OwnFiles → Result Attrs Stop → Prog Binding
-after_parent held own (Ok parent) = probing held own (Some parent)
+after_parent held own (Ok parent) = asking_alive held own (Some parent)
 after_parent held own (Err why) = Return (binding_of why)
 
 abbrev pub to_parent : ℕ → OwnFiles → Option (List ℕ) → Prog Binding
-to_parent held own None = probing held own None
+to_parent held own None = asking_alive held own None
 to_parent held own (Some parent) = then (reading_parent parent held) (after_parent held own)
 
 abbrev pub after_own : ℕ → Option (List ℕ) → Result OwnFiles Stop → Prog Binding
@@ -69,7 +69,7 @@ binding name parent =
 -- The parent's files are read only where its held file isn't found alive. A failure of that probe
 -- isn't told.
 abbrev pub after_asking : ℕ → OwnFiles → List ℕ → Probe → Prog Binding
-after_asking held own parent (probe.Alive on) = probing held own None
+after_asking held own parent (probe.Alive on) = asking_alive held own None
 after_asking held own parent probe.Gone =
     then (reading_parent parent held) (after_parent held own)
 after_asking held own parent probe.Failed =

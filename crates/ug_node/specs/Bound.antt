@@ -2,8 +2,8 @@
 use Rattle.std.specs.Prelude.{◌≡◌, ℕ, ◌-◌, ◌^◌, ◌<◌, Bool, true, false, ◌||◌, List, [], Option, Some, None, slice_get}
 use Rattle.ug_types.specs.declared.record.Attrs.{Attrs}
 use Rattle.ug_kernel.specs.declared.device.Device.{Device}
-use Rattle.ug_types.specs.declared.control.Control.TheVariants.{Authorized}
-use Rattle.ug_types.specs.declared.control.Attr.TheVariants as attr
+use Rattle.ug_kernel.specs.declared.control.Control.TheVariants.{Authorized}
+use Rattle.ug_kernel.specs.declared.control.Attr.TheVariants as attr
 use Rattle.ug_kernel.specs.declared.calls.FailedCall.{FailedCall}
 use Rattle.ug_kernel.specs.declared.calls.ReadOut.{ReadOut}
 use Rattle.ug_kernel.specs.declared.calls.ReadOut.TheVariants as out
@@ -15,9 +15,9 @@ use Rattle.ug_node.specs.declared.identity.Binding.TheVariants as bound
 use Rattle.ug_node.specs.declared.identity.Bound.{Bound}
 
 -- a file that is absent or too long counts as empty
-abbrev pub bytes_of : ReadOut → List ℕ
-bytes_of (out.Bytes bytes) = bytes
-bytes_of answer = []
+abbrev pub file_bytes : ReadOut → List ℕ
+file_bytes (out.Bytes bytes) = bytes
+file_bytes answer = []
 
 abbrev pub is_too_long : ReadOut → Bool
 is_too_long out.TooLong = true
@@ -32,10 +32,10 @@ is_core_long d =
 -- a device's four files
 abbrev pub attrs_of : Device → Attrs
 attrs_of d = record {
-  descriptors = bytes_of (read_of attr.Descriptors d);
-  product = bytes_of (read_of attr.Product d);
-  serial = bytes_of (read_of attr.Serial d);
-  connect = bytes_of (read_of attr.Connect d);
+  descriptors = file_bytes (read_of attr.Descriptors d);
+  product = file_bytes (read_of attr.Product d);
+  serial = file_bytes (read_of attr.Serial d);
+  connect = file_bytes (read_of attr.Connect d);
   too_long =
       is_too_long (read_of attr.Descriptors d) || is_too_long (read_of attr.Product d)
       || is_too_long (read_of attr.Serial d) || is_too_long (read_of attr.Connect d);
@@ -44,9 +44,9 @@ attrs_of d = record {
 -- the files of a parent that its children's records need
 abbrev pub parent_attrs_of : Device → Attrs
 parent_attrs_of d = record {
-  descriptors = bytes_of (read_of attr.Descriptors d);
-  product = bytes_of (read_of attr.Product d);
-  serial = bytes_of (read_of attr.Serial d);
+  descriptors = file_bytes (read_of attr.Descriptors d);
+  product = file_bytes (read_of attr.Product d);
+  serial = file_bytes (read_of attr.Serial d);
   connect = [];
   too_long = is_core_long d;
 }
@@ -119,8 +119,8 @@ IsBinding name k l answer = IsBindingBy IsParentRead name k l answer
 
 -- where a kernel is told at the end, one was told at the start, and where that was sound this was a
 -- binding
-abbrev pub Binds : {S : Type 0} → (S → Option Kernel) → S → List ℕ → Binding → S → Type 0
-Binds told s name answer t =
+abbrev pub TellsBinding : {S : Type 0} → (S → Option Kernel) → S → List ℕ → Binding → S → Type 0
+TellsBinding told s name answer t =
     (l : Kernel) → told t ≡ Some l
     → (k : Kernel) × (told s ≡ Some k) × (IsKernel k → IsBinding name k l answer)
 

@@ -1,11 +1,11 @@
 -- The order of calls: what is asked, step by step, and where it ends; and that of a binding.
 use Rattle.std.specs.Prelude.{◌≡◌, ℕ, Bool, true, false, List, [], ◌∷◌, Option, Some, None, is_some, ◌⊎◌}
 use Rattle.ug_types.specs.Names.{parent_of}
-use Rattle.ug_types.specs.declared.control.Attr.{Attr}
-use Rattle.ug_types.specs.declared.control.Attr.TheVariants as attr
-use Rattle.ug_types.specs.declared.control.Control.{Control}
-use Rattle.ug_types.specs.declared.control.Control.TheVariants.{Authorized}
-use Rattle.ug_types.specs.declared.control.Write.{Write}
+use Rattle.ug_kernel.specs.declared.control.Attr.{Attr}
+use Rattle.ug_kernel.specs.declared.control.Attr.TheVariants as attr
+use Rattle.ug_kernel.specs.declared.control.Control.{Control}
+use Rattle.ug_kernel.specs.declared.control.Control.TheVariants.{Authorized}
+use Rattle.ug_kernel.specs.declared.control.Write.{Write}
 use Rattle.ug_kernel.specs.declared.calls.Opened.{Opened}
 use Rattle.ug_kernel.specs.declared.calls.Opened.TheVariants as opened
 use Rattle.ug_kernel.specs.declared.calls.Probe.{Probe}

@@ -5,8 +5,8 @@ ghost use Rattle.ug_node.specs.Files.{reading, reading_own, reading_parent};
 
 use crate::failed::failed_call;
 use std::alloc::Global;
-use ug_kernel::{Attr, FailedCall, ReadOut, Sysfs};
-use ug_types::{Attrs, Held, NodeName, Text};
+use ug_kernel::{Attr, FailedCall, Held, ReadOut, Sysfs};
+use ug_types::{Attrs, NodeName, Text};
 
 /// A file's bytes. One that is absent or too long counts as empty.
 #[derive(Drop)]

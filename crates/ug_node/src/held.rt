@@ -1,8 +1,7 @@
 // Calls on a file that is held.
 ghost use Rattle.ug_kernel.specs.Calls.{Ask_alive, Put};
 
-use ug_kernel::{Probe, Sysfs, Write, Wrote};
-use ug_types::Held;
+use ug_kernel::{Held, Probe, Sysfs, Write, Wrote};
 
 /// Asks again whether the device of a held file is there, and whether it is on.
 pub fn reprobe<Y: Sysfs>(sysfs: &mut Y, held: Held) -> Probe

@@ -2,15 +2,15 @@
 ghost use Rattle.std.specs.Prelude.{◌≡◌};
 ghost use Rattle.ug_types.specs.Names.{parent_of};
 ghost use Rattle.ug_kernel.specs.Tree.{Runs};
-ghost use Rattle.ug_node.specs.Bind.{binding, probing};
-ghost use Rattle.ug_node.specs.Bound.{Binds, TellsFault};
+ghost use Rattle.ug_node.specs.Bind.{binding, asking_alive};
+ghost use Rattle.ug_node.specs.Bound.{TellsBinding, TellsFault};
 ghost use Rattle.ug_node.specs.CallOrder.{BindsInOrder};
 
 use crate::failed::failed_call;
 use crate::files::{OwnFiles, Stop, read_own, read_parent};
 use std::alloc::Global;
-use ug_kernel::{Control, FailedCall, Opened, Probe, Sysfs};
-use ug_types::{Attrs, Held, NodeName};
+use ug_kernel::{Control, FailedCall, Held, Opened, Probe, Sysfs};
+use ug_types::{Attrs, NodeName};
 
 /// A device that lived from the opening of its file to the probe of it, with its own files and its parent's.
 #[derive(Drop)]
@@ -54,7 +54,7 @@ impl From<Stop> for Binding {
 /// the held file last. What is read by name is so known to be of the device that is held.
 pub fn bind<Y: Sysfs>(alloc: Global, sysfs: &mut Y, name: &NodeName) -> Binding
     ensures runs { Runs Y.gives sysfs.old (binding name.now (parent_of name.now)) result sysfs.new }
-    ensures law { Binds Y.told sysfs.old name.now result sysfs.new }
+    ensures law { TellsBinding Y.told sysfs.old name.now result sysfs.new }
     ensures order { BindsInOrder Y.gives sysfs.old name.now result sysfs.new }
     ensures fault { TellsFault (Y.faults sysfs.old) (Y.calls sysfs.new)
         (Y.faults sysfs.new) result }
@@ -98,7 +98,7 @@ pub(crate) fn end_binding<Y: Sysfs>(
     own: OwnFiles,
     parent: Option<Attrs>,
 ) -> Binding
-    ensures { Runs Y.gives sysfs.old (probing held.0 own parent) result sysfs.new }
+    ensures { Runs Y.gives sysfs.old (asking_alive held.0 own parent) result sysfs.new }
 {
     match sysfs.probe(held) {
         Probe::Alive(on) => Binding::Bound(Bound {

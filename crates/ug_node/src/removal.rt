@@ -1,14 +1,14 @@
 // Opens a second file of a held device: the one by which it is removed, or that of a root hub's default.
 ghost use Rattle.std.specs.Prelude.{◌≡◌};
-ghost use Rattle.ug_types.specs.declared.control.Control.TheVariants.{Remove, Default};
+ghost use Rattle.ug_kernel.specs.declared.control.Control.TheVariants.{Remove, Default};
 ghost use Rattle.ug_kernel.specs.Kernel.{IsOpenable};
 ghost use Rattle.ug_kernel.specs.Tree.{Runs};
 ghost use Rattle.ug_node.specs.Removal.{holding, HoldsFile, TellsHoldFault};
 
 use crate::failed::failed_call;
 use std::alloc::Global;
-use ug_kernel::{Control, FailedCall, Opened, Probe, Sysfs};
-use ug_types::{Held, NodeName};
+use ug_kernel::{Control, FailedCall, Held, Opened, Probe, Sysfs};
+use ug_types::NodeName;
 
 /// The answer to the opening of a second file of a device. The file is closed on each answer but `Ready`.
 #[derive(Clone, Copy, Debug, PartialEq, Eq)]

@@ -12,8 +12,8 @@ use crate::files::{OwnFiles, read_own, read_parent};
 use crate::held::reprobe;
 use crate::identity::{Binding, end_binding};
 use std::alloc::Global;
-use ug_kernel::{Control, Opened, Probe, Sysfs};
-use ug_types::{Held, NodeName};
+use ug_kernel::{Control, Held, Opened, Probe, Sysfs};
+use ug_types::NodeName;
 
 /// Finds the device of a name whose parent's `authorized` file is held, as `bind` does. Where that file is found alive, the
 /// parent's files aren't read: the answer has none of its attributes, and the device is a child of the one that is held. A

@@ -22,7 +22,7 @@ use Rattle.ug_cond.proofs.Truths.{conditions_decide}
 use Rattle.ug_policy.specs.declared.entry.RuleEntry.{RuleEntry}
 use Rattle.ug_policy.specs.Deciding.{conditions_take, rule_takes, words_taken, rule_conditions_hold, rule_holds, RuleConditionsHold, RuleHolds, decides, IsDecider, HasNoDecider, Found, put_before, find_decider, reached, decider, seen, noted_first, rules_judged, judgement_found}
 use Rattle.ug_policy.specs.Kept.{StandsFor}
-use Rattle.ug_policy.specs.Matching.{matched, answer_by, answered, greatest, noted, judged}
+use Rattle.ug_policy.specs.Matching.{matched, answer_by, answered, greatest, rule_noted, judged}
 use Rattle.ug_policy.specs.Rules.{ids, IsNumbered}
 use Rattle.ug_policy.proofs.Numbering.{numbered_same}
 use Rattle.ug_policy.proofs.Stands.{FirstMatches}
@@ -250,7 +250,7 @@ plain_found dev ctx records implicit (e ∷ es) stream h =
           let f : find_decider dev ctx records (e ∷ es) stream ≡ record { before = []; rest = e ∷ es } = found_here dev ctx records e es stream (plain_decides dev ctx records e stream plain ∙ t) in
           let taken : rule_takes dev e + 0 ≡ 0 = omega arith in (
             ap (λ (v : Found). answer_by implicit (decider v)) f ∙ sym (ap (λ (o : Option RuleEntry). answer_by implicit o) (cond-true (matched dev e) (Some e) (find (matched dev) es) t)),
-            ap (λ (v : Found). rules_judged dev ctx.moment v) f ∙ sym (cond-true (matched dev e) (noted ctx.moment e ∷ es) (e ∷ judged dev ctx.moment es) t),
+            ap (λ (v : Found). rules_judged dev ctx.moment v) f ∙ sym (cond-true (matched dev e) (rule_noted ctx.moment e ∷ es) (e ∷ judged dev ctx.moment es) t),
             ap (λ (v : Found). words_taken dev (reached v)) f ∙ taken,
           )
       | false ↦ λ t.
@@ -261,14 +261,14 @@ plain_found dev ctx records implicit (e ∷ es) stream h =
             ap (λ (v : Found). rules_judged dev ctx.moment v) f
                 ∙ ap (λ (v : RuleEntry). v ∷ rules_judged dev ctx.moment later) same
                 ∙ ap (λ (v : List RuleEntry). e ∷ v) rest.1
-                ∙ sym (cond-false (matched dev e) (noted ctx.moment e ∷ es) (e ∷ judged dev ctx.moment es) t),
+                ∙ sym (cond-false (matched dev e) (rule_noted ctx.moment e ∷ es) (e ∷ judged dev ctx.moment es) t),
             ap (λ (v : Found). words_taken dev (reached v)) f ∙ taken,
           )
     ] in
     g (matched dev e) refl
 
 -- the outcome, by the place of the rule that decides
-pub outcome_at : (dev : DeviceRecord) (ctx : Context) (records : List DeviceRecord) (implicit : Target) (es : List RuleEntry) (stream : Stream) (i : ℕ) (e : RuleEntry) → IsDecider dev ctx records es stream i e → (answer_by implicit (decider (find_decider dev ctx records es stream)) ≡ (e.rule.target, cause.Rule e.id)) × (rules_judged dev ctx.moment (find_decider dev ctx records es stream) ≡ map (seen dev ctx.moment) (take i es) ++ noted ctx.moment e ∷ drop (i + 1) es) × (reached (find_decider dev ctx records es stream) ≡ take (i + 1) es)
+pub outcome_at : (dev : DeviceRecord) (ctx : Context) (records : List DeviceRecord) (implicit : Target) (es : List RuleEntry) (stream : Stream) (i : ℕ) (e : RuleEntry) → IsDecider dev ctx records es stream i e → (answer_by implicit (decider (find_decider dev ctx records es stream)) ≡ (e.rule.target, cause.Rule e.id)) × (rules_judged dev ctx.moment (find_decider dev ctx records es stream) ≡ map (seen dev ctx.moment) (take i es) ++ rule_noted ctx.moment e ∷ drop (i + 1) es) × (reached (find_decider dev ctx records es stream) ≡ take (i + 1) es)
 outcome_at dev ctx records implicit es stream i e d =
     let more : suc i ≡ i + 1 = omega arith in
     let f : find_decider dev ctx records es stream ≡ record { before = take i es; rest = e ∷ drop (i + 1) es } = found_decider dev ctx records es stream i e d ∙ ap (λ (n : ℕ). record { before = take i es; rest = e ∷ drop n es }) more in (

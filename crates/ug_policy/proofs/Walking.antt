@@ -16,7 +16,7 @@ use Rattle.ug_cond.specs.declared.context.Context.{Context}
 use Rattle.ug_cond.specs.Words.{behind}
 use Rattle.ug_policy.specs.declared.entry.RuleEntry.{RuleEntry}
 use Rattle.ug_policy.specs.Deciding.{Found, Judges, conditions_take, decider, decides, find_decider, reached, rule_holds, rule_takes, rules_judged, seen, words_taken}
-use Rattle.ug_policy.specs.Matching.{answer_by, matched, greatest, noted}
+use Rattle.ug_policy.specs.Matching.{answer_by, matched, greatest, rule_noted}
 use Rattle.ug_policy.specs.Rules.{queries}
 use Rattle.ug_policy.proofs.Finding.{behind_rules, found_at, front_more, later_found, left_at, map_last, set_in, words_more}
 
@@ -161,7 +161,7 @@ step_over dev ctx records es now start stream next p e new within here read late
     subst (λ (n : ℕ). IsWalked dev ctx records es (set now p new) start next n) one at
 
 -- the rule at p is reached, and decides
-pub decides_at : (dev : DeviceRecord) (ctx : Context) (records : List DeviceRecord) (implicit : Target) (es now : List RuleEntry) (start stream next : Stream) (p : ℕ) (e new : RuleEntry) → p < length es → IsWalked dev ctx records es now start stream p → e ≡ get_or now p e → decides dev ctx records e stream ≡ true → new ≡ noted ctx.moment e → next ≡ behind (rule_takes dev e) stream → Judges dev ctx records implicit es start (new.rule.target, cause.Rule new.id) (set now p new) next
+pub decides_at : (dev : DeviceRecord) (ctx : Context) (records : List DeviceRecord) (implicit : Target) (es now : List RuleEntry) (start stream next : Stream) (p : ℕ) (e new : RuleEntry) → p < length es → IsWalked dev ctx records es now start stream p → e ≡ get_or now p e → decides dev ctx records e stream ≡ true → new ≡ rule_noted ctx.moment e → next ≡ behind (rule_takes dev e) stream → Judges dev ctx records implicit es start (new.rule.target, cause.Rule new.id) (set now p new) next
 decides_at dev ctx records implicit es now start stream next p e new within here read deciding entry words =
     let front = take p es in
     let rest = drop (p + 1) es in

@@ -12,7 +12,13 @@ use Rattle.ug_policy.specs.Rules.{ids}
 
 -- a rule that is added has no history
 abbrev pub new_entry : ℕ → types.Rule → Mark → RuleEntry
-new_entry id rule mark = record { id = id; rule = rule; mark = mark; history = record { evaluated = None; applied = None } }
+new_entry id rule mark =
+    record {
+      id = id;
+      rule = rule;
+      mark = mark;
+      history = record { evaluated = None; applied = None };
+    }
 
 abbrev pub has_id : ℕ → RuleEntry → Bool
 has_id id e = nat_eq e.id id

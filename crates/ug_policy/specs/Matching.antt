@@ -25,10 +25,17 @@ greatest None moment = moment
 greatest (Some kept) moment = if nat_le kept.0 moment.0 then moment else kept
 
 -- the rule was evaluated and applied at that moment
-abbrev pub noted : Moment → RuleEntry → RuleEntry
-noted moment e = record e { history = record { evaluated = Some (greatest e.history.evaluated moment); applied = Some (greatest e.history.applied moment) } }
+abbrev pub rule_noted : Moment → RuleEntry → RuleEntry
+rule_noted moment e =
+    record e {
+      history = record {
+        evaluated = Some (greatest e.history.evaluated moment);
+        applied = Some (greatest e.history.applied moment);
+      };
+    }
 
 -- the rules, of which the one that decides was noted
 abbrev pub judged : DeviceRecord → Moment → List RuleEntry → List RuleEntry
 judged dev moment [] = []
-judged dev moment (e ∷ entries) = if matched dev e then noted moment e ∷ entries else e ∷ judged dev moment entries
+judged dev moment (e ∷ entries) =
+    if matched dev e then rule_noted moment e ∷ entries else e ∷ judged dev moment entries

@@ -22,7 +22,8 @@ rules_in entries = map (λ e. e.rule) entries
 abbrev pub queries : List RuleEntry → List Query
 queries entries = map (λ e. e.rule.query) entries
 
--- no two rules have one id, each id was given before the next one, and there are at most 65,536 rules
+-- no two rules have one id, each id was given before the next one, and
+-- there are at most 65,536 rules
 pub record IsNumbered (entries : List RuleEntry) (next : ℕ) : Type 0 where
   pub distinct : AllDistinct (ids entries)
   pub below : (id : ℕ) → Has (ids entries) id → id < next
@@ -31,4 +32,4 @@ pub record IsNumbered (entries : List RuleEntry) (next : ℕ) : Type 0 where
 -- and the index stands for their queries
 pub record IsIndexed (entries : List RuleEntry) (next : ℕ) (index : places.Indexed) : Type 0 where
   pub numbered : IsNumbered entries next
-  pub stands : places.StandsFor index (queries entries)
+  pub stands : places.StandsForQueries index (queries entries)

@@ -19,7 +19,8 @@ fn place_of(entries: &[RuleEntry], id: u64) -> Option<usize>
 pub fn place_after(entries: &[RuleEntry], after: After) -> Option<usize>
     requires { AllDistinct (ids entries.now) }
     ensures within { IfSome result (λ place. place ≤ length entries.now) }
-    ensures place { IfSome result (λ place. (added : Entry) → inserted after added entries.now ≡ insert entries.now place added) }
+    ensures place { IfSome result (λ place. (added : Entry)
+        → inserted after added entries.now ≡ insert entries.now place added) }
     ensures there { IfSome result (λ place. IsThere after entries.now) }
     ensures none { result ≡ None → ¬ IsThere after entries.now }
 {

@@ -29,8 +29,11 @@ fn conditions_hold<A: Allowed, R: Rng>(
     allowed: &A,
     rng: &mut R,
 ) -> bool
-    ensures value { result ≡ deciding.rule_conditions_hold history.now ctx.now (A.records allowed.now) conds.now (words_of (deciding.conditions_take conds.now) (R.stream rng.old)) }
-    ensures words { R.stream rng.new ≡ behind (deciding.conditions_take conds.now) (R.stream rng.old) }
+    ensures value { result
+        ≡ deciding.rule_conditions_hold history.now ctx.now (A.records allowed.now) conds.now
+        (words_of (deciding.conditions_take conds.now) (R.stream rng.old)) }
+    ensures words { R.stream rng.new
+        ≡ behind (deciding.conditions_take conds.now) (R.stream rng.old) }
 {
     match conds {
         Some(conds) => holds(conds, history, ctx, allowed, rng),
@@ -46,9 +49,12 @@ fn evaluate<A: Allowed, R: Rng>(
     allowed: &A,
     rng: &mut R,
 ) -> bool
-    ensures value { result ≡ deciding.decides dev.now ctx.now (A.records allowed.now) entry.old (R.stream rng.old) }
-    ensures entry { entry.new ≡ (if result then matching.noted ctx.now.moment entry.old else deciding.seen dev.now ctx.now.moment entry.old) }
-    ensures words { R.stream rng.new ≡ behind (deciding.rule_takes dev.now entry.old) (R.stream rng.old) }
+    ensures value { result
+        ≡ deciding.decides dev.now ctx.now (A.records allowed.now) entry.old (R.stream rng.old) }
+    ensures entry { entry.new ≡ (if result then matching.rule_noted ctx.now.moment entry.old else
+        deciding.seen dev.now ctx.now.moment entry.old) }
+    ensures words { R.stream rng.new
+        ≡ behind (deciding.rule_takes dev.now entry.old) (R.stream rng.old) }
 {
     if !matches(&entry.rule.query, dev) {
         return false;

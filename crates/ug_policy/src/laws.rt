@@ -19,27 +19,67 @@ use ug_types::After;
 
 /// Where ids are distinct, a change by an id is one at that rule alone, wherever it stands.
 pub fn edits_law()
-    ensures inserted { (front back : List RuleEntry) (rule added : RuleEntry) → AllDistinct (ids (front ++ rule ∷ back)) → inserted (After.Rule rule.id) added (front ++ rule ∷ back) ≡ front ++ rule ∷ added ∷ back }
-    ensures removed { (front back : List RuleEntry) (rule : RuleEntry) → AllDistinct (ids (front ++ rule ∷ back)) → removed rule.id (front ++ rule ∷ back) ≡ front ++ back }
-    ensures retargeted { (front back : List RuleEntry) (rule : RuleEntry) (target : Target) → AllDistinct (ids (front ++ rule ∷ back)) → retargeted rule.id target (front ++ rule ∷ back) ≡ front ++ aimed target rule ∷ back }
-    ensures there { (rules : List RuleEntry) (id : ℕ) → IsThere (After.Rule id) rules → (front : List RuleEntry) × (rule : RuleEntry) × (back : List RuleEntry) × (rules ≡ front ++ rule ∷ back) × (rule.id ≡ id) }
-    ensures not_there { (rules : List RuleEntry) (id : ℕ) → ¬ Has (ids rules) id → (removed id rules ≡ rules) × ((target : Target) → retargeted id target rules ≡ rules) }
+    ensures inserted { (front back : List RuleEntry) (rule added : RuleEntry)
+        → AllDistinct (ids (front ++ rule ∷ back))
+        → inserted (After.Rule rule.id) added (front ++ rule ∷ back) ≡ front ++ rule ∷ added
+        ∷ back }
+    ensures removed { (front back : List RuleEntry) (rule : RuleEntry)
+        → AllDistinct (ids (front ++ rule ∷ back))
+        → removed rule.id (front ++ rule ∷ back) ≡ front ++ back }
+    ensures retargeted { (front back : List RuleEntry) (rule : RuleEntry) (target : Target)
+        → AllDistinct (ids (front ++ rule ∷ back))
+        → retargeted rule.id target (front ++ rule ∷ back) ≡ front ++ aimed target rule ∷ back }
+    ensures there { (rules : List RuleEntry) (id : ℕ) → IsThere (After.Rule id) rules
+        → (front : List RuleEntry) × (rule : RuleEntry) × (back : List RuleEntry)
+        × (rules ≡ front ++ rule ∷ back) × (rule.id ≡ id) }
+    ensures not_there { (rules : List RuleEntry) (id : ℕ) → ¬ Has (ids rules) id
+        → (removed id rules ≡ rules) × ((target : Target) → retargeted id target rules ≡ rules) }
 {}
 
 /// One rule decides by its attributes and its conditions, or none does; what is found is that rule, and what was
 /// evaluated are the rules up to it that match. The conditions hold as all judgements since the start say.
 pub fn decider_law()
-    ensures some { (dev : DeviceRecord) (ctx : when.Context) (records : List DeviceRecord) (rules : List RuleEntry) (stream : Stream) → ((place : ℕ) × (entry : RuleEntry) × IsDecider dev ctx records rules stream place entry) ⊎ HasNoDecider dev ctx records rules stream }
-    ensures one { (dev : DeviceRecord) (ctx : when.Context) (records : List DeviceRecord) (rules : List RuleEntry) (stream : Stream) (place other : ℕ) (entry another : RuleEntry) → IsDecider dev ctx records rules stream place entry → IsDecider dev ctx records rules stream other another → (place ≡ other) × (entry ≡ another) }
-    ensures not_both { (dev : DeviceRecord) (ctx : when.Context) (records : List DeviceRecord) (rules : List RuleEntry) (stream : Stream) (place : ℕ) (entry : RuleEntry) → IsDecider dev ctx records rules stream place entry → HasNoDecider dev ctx records rules stream → ⊥ }
-    ensures found { (dev : DeviceRecord) (ctx : when.Context) (records : List DeviceRecord) (rules : List RuleEntry) (stream : Stream) (place : ℕ) (entry : RuleEntry) → IsDecider dev ctx records rules stream place entry → judgement_found dev ctx.moment (find_decider dev ctx records rules stream) ≡ record { moment = ctx.moment; evaluated = ids (filter (matched dev) (take (place + 1) rules)); applied = Some entry.id } }
-    ensures not_found { (dev : DeviceRecord) (ctx : when.Context) (records : List DeviceRecord) (rules : List RuleEntry) (stream : Stream) → HasNoDecider dev ctx records rules stream → judgement_found dev ctx.moment (find_decider dev ctx records rules stream) ≡ record { moment = ctx.moment; evaluated = ids (filter (matched dev) rules); applied = None } }
-    ensures judgements { (judgements : List Judgement) (rules : List RuleEntry) (next : ℕ) (rule : RuleEntry) (ctx : when.Context) (records : List DeviceRecord) (stream : Stream) → StandsFor rules next judgements → Has rules rule → (IsTrue (rule_holds ctx records rule stream) ↔ RuleHolds judgements ctx records rule stream) }
+    ensures some { (dev : DeviceRecord) (ctx : when.Context) (records : List DeviceRecord)
+        (rules : List RuleEntry) (stream : Stream)
+        → ((place : ℕ) × (entry : RuleEntry) × IsDecider dev ctx records rules stream place entry)
+        ⊎ HasNoDecider dev ctx records rules stream }
+    ensures one { (dev : DeviceRecord) (ctx : when.Context) (records : List DeviceRecord)
+        (rules : List RuleEntry) (stream : Stream) (place other : ℕ) (entry another : RuleEntry)
+        → IsDecider dev ctx records rules stream place entry
+        → IsDecider dev ctx records rules stream other another
+        → (place ≡ other) × (entry ≡ another) }
+    ensures not_both { (dev : DeviceRecord) (ctx : when.Context) (records : List DeviceRecord)
+        (rules : List RuleEntry) (stream : Stream) (place : ℕ) (entry : RuleEntry)
+        → IsDecider dev ctx records rules stream place entry
+        → HasNoDecider dev ctx records rules stream → ⊥ }
+    ensures found { (dev : DeviceRecord) (ctx : when.Context) (records : List DeviceRecord)
+        (rules : List RuleEntry) (stream : Stream) (place : ℕ) (entry : RuleEntry)
+        → IsDecider dev ctx records rules stream place entry
+        → judgement_found dev ctx.moment (find_decider dev ctx records rules stream)
+        ≡ record {
+          moment = ctx.moment;
+          evaluated = ids (filter (matched dev) (take (place + 1) rules));
+          applied = Some entry.id;
+        } }
+    ensures not_found { (dev : DeviceRecord) (ctx : when.Context) (records : List DeviceRecord)
+        (rules : List RuleEntry) (stream : Stream) → HasNoDecider dev ctx records rules stream
+        → judgement_found dev ctx.moment (find_decider dev ctx records rules stream)
+        ≡ record {
+          moment = ctx.moment;
+          evaluated = ids (filter (matched dev) rules);
+          applied = None;
+        } }
+    ensures judgements { (judgements : List Judgement) (rules : List RuleEntry) (next : ℕ)
+        (rule : RuleEntry) (ctx : when.Context) (records : List DeviceRecord) (stream : Stream)
+        → StandsFor rules next judgements
+        → Has rules rule → (IsTrue (rule_holds ctx records rule stream)
+        ↔ RuleHolds judgements ctx records rule stream) }
 {}
 
 /// Where none of the rules that are reached matches the device and asks for the devices that are allowed, these make no difference.
 pub fn asking_law()
-    ensures { (dev : DeviceRecord) (ctx : when.Context) (records others : List DeviceRecord) (rules : List RuleEntry) (stream : Stream)
+    ensures { (dev : DeviceRecord) (ctx : when.Context) (records others : List DeviceRecord)
+        (rules : List RuleEntry) (stream : Stream)
         → list_any (rule_asks dev) (reached (find_decider dev ctx records rules stream)) ≡ false
         → find_decider dev ctx others rules stream ≡ find_decider dev ctx records rules stream }
 {}

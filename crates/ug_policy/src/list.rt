@@ -6,7 +6,7 @@ ghost use Rattle.ug_cond.specs.Words.{behind};
 ghost use Rattle.ug_policy.specs.declared.entry.RuleEntry as stored;
 ghost use Rattle.ug_policy.specs.Rules.{ids};
 ghost use Rattle.ug_policy.specs.Edits.{IsThere, inserted, new_entry, removed, retargeted};
-ghost use Rattle.ug_policy.specs.Matching.{answered, judged, noted};
+ghost use Rattle.ug_policy.specs.Matching.{answered, judged, rule_noted};
 ghost use Rattle.ug_policy.specs.Deciding.{HasNoDecider, IsDecider, Judges, find_decider, judgement_found, seen, words_taken};
 ghost use Rattle.ug_policy.specs.Kept.{StandsFor};
 
@@ -121,7 +121,8 @@ impl RuleList {
         ensures full { (result ≡ Err InsertFault.Full)
             ↔ (IsThere after self.old.entries × (length self.old.entries ≡ 65536)) }
         ensures err { OnErr result (self.new ≡ self.old) }
-        ensures history { (judgements : List Judgement) → StandsFor self.old.entries self.old.next judgements
+        ensures history { (judgements : List Judgement)
+            → StandsFor self.old.entries self.old.next judgements
             → StandsFor self.new.entries self.new.next judgements }
     {
         let Some(place) = place_after(self.entries.as_slice(), after) else {
@@ -155,7 +156,8 @@ impl RuleList {
         ensures spare { self.old.spare ≤ self.new.spare }
         ensures no_rule { OnErr result (¬ Has (ids self.old.entries) id) }
         ensures err { OnErr result (self.new ≡ self.old) }
-        ensures history { (judgements : List Judgement) → StandsFor self.old.entries self.old.next judgements
+        ensures history { (judgements : List Judgement)
+            → StandsFor self.old.entries self.old.next judgements
             → StandsFor self.new.entries self.new.next judgements }
     {
         match remove_rule(&mut self.entries, id) {
@@ -175,7 +177,8 @@ impl RuleList {
         ensures ok { OnOk result (Has (ids self.old.entries) id) }
         ensures no_rule { OnErr result (¬ Has (ids self.old.entries) id) }
         ensures err { OnErr result (self.new ≡ self.old) }
-        ensures history { (judgements : List Judgement) → StandsFor self.old.entries self.old.next judgements
+        ensures history { (judgements : List Judgement)
+            → StandsFor self.old.entries self.old.next judgements
             → StandsFor self.new.entries self.new.next judgements }
     {
         set_rule_target(&mut self.entries, id, target)
@@ -194,23 +197,29 @@ impl RuleList {
         rng: &mut R,
     ) -> (Target, Cause)
         ensures rule { (place : ℕ) (entry : stored.RuleEntry)
-            → IsDecider dev.now ctx.now (A.records allowed.now) self.old.entries (R.stream rng.old) place entry
+            → IsDecider dev.now ctx.now (A.records allowed.now) self.old.entries
+            (R.stream rng.old) place entry
             → (result ≡ (entry.rule.target, Cause.Rule entry.id))
             × (self.new.entries ≡ map (seen dev.now ctx.now.moment) (take place self.old.entries)
-            ++ noted ctx.now.moment entry ∷ drop (place + 1) self.old.entries)
+            ++ rule_noted ctx.now.moment entry ∷ drop (place + 1) self.old.entries)
             × (R.stream rng.new
             ≡ behind (words_taken dev.now (take (place + 1) self.old.entries)) (R.stream rng.old)) }
-        ensures implicit { HasNoDecider dev.now ctx.now (A.records allowed.now) self.old.entries (R.stream rng.old)
+        ensures implicit { HasNoDecider dev.now ctx.now (A.records allowed.now) self.old.entries
+            (R.stream rng.old)
             → (result ≡ (implicit, Cause.Implicit))
             × (self.new.entries ≡ map (seen dev.now ctx.now.moment) self.old.entries)
-            × (R.stream rng.new ≡ behind (words_taken dev.now self.old.entries) (R.stream rng.old)) }
+            × (R.stream rng.new
+            ≡ behind (words_taken dev.now self.old.entries) (R.stream rng.old)) }
         ensures judged { Judges dev.now ctx.now (A.records allowed.now) implicit
             self.old.entries (R.stream rng.old) result self.new.entries (R.stream rng.new) }
         ensures next { self.new.next ≡ self.old.next }
         ensures spare { self.new.spare ≡ self.old.spare }
-        ensures history { (judgements : List Judgement) → StandsFor self.old.entries self.old.next judgements
-            → StandsFor self.new.entries self.new.next (judgements ++ judgement_found dev.now ctx.now.moment
-            (find_decider dev.now ctx.now (A.records allowed.now) self.old.entries (R.stream rng.old)) ∷ []) }
+        ensures history { (judgements : List Judgement)
+            → StandsFor self.old.entries self.old.next judgements
+            → StandsFor self.new.entries self.new.next (judgements
+            ++ judgement_found dev.now ctx.now.moment
+            (find_decider dev.now ctx.now (A.records allowed.now) self.old.entries
+            (R.stream rng.old)) ∷ []) }
         ensures plain { All (λ e. e.rule.conds ≡ None) self.old.entries
             → (result ≡ answered dev.now implicit self.old.entries)
             × (self.new.entries ≡ judged dev.now ctx.now.moment self.old.entries)

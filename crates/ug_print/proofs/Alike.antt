@@ -15,7 +15,7 @@ use Rattle.ug_match.specs.Queries.{attribute, query_matches}
 use Rattle.ug_match.proofs.Membership.{equals_decides}
 use Rattle.ug_words.specs.WordGrammar.{id_with}
 use Rattle.ug_print.specs.Alike.{HasInterfaces, IsAlike}
-use Rattle.ug_print.specs.Generated.{equals, interface_of, interfaces_of, query_of}
+use Rattle.ug_print.specs.Generated.{equals, interface_of_triple, interfaces_value, device_query}
 
 -- ---- one value
 
@@ -45,15 +45,15 @@ same_triple a b h =
     let make : ℕ → ℕ → ℕ → Triple = λ class subclass protocol. record { class = class; subclass = subclass; protocol = protocol } in
     ap (λ (n : ℕ). make n a.subclass a.protocol) h.0.0 ∙ ap (λ (n : ℕ). make b.class n a.protocol) h.0.1 ∙ ap (λ (n : ℕ). make b.class b.subclass n) h.1
 
-triple_decides : (a b : Triple) → Decides (covers_interface (interface_of a) b) (a ≡ b)
+triple_decides : (a b : Triple) → Decides (covers_interface (interface_of_triple a) b) (a ≡ b)
 triple_decides a b =
-    Decides-like {P = ((a.class ≡ b.class) × (a.subclass ≡ b.subclass)) × (a.protocol ≡ b.protocol)} (covers_interface (interface_of a) b) (same_triple a b)
+    Decides-like {P = ((a.class ≡ b.class) × (a.subclass ≡ b.subclass)) × (a.protocol ≡ b.protocol)} (covers_interface (interface_of_triple a) b) (same_triple a b)
     (λ e. ((ap (λ (t : Triple). t.class) e, ap (λ (t : Triple). t.subclass) e), ap (λ (t : Triple). t.protocol) e))
     (Decides-and (nat_eq a.class b.class && nat_eq a.subclass b.subclass) (nat_eq a.protocol b.protocol)
     (Decides-and (nat_eq a.class b.class) (nat_eq a.subclass b.subclass) (Decides-eqb a.class b.class) (Decides-eqb a.subclass b.subclass)) (Decides-eqb a.protocol b.protocol))
 
 abbrev Matched : List Triple → List Triple → Type 0
-Matched ours theirs = ((rule : Iface) → Has (map interface_of ours) rule → MatchesSome covers_interface theirs rule) × ((value : Triple) → Has theirs value → IsMatched covers_interface (map interface_of ours) value)
+Matched ours theirs = ((rule : Iface) → Has (map interface_of_triple ours) rule → MatchesSome covers_interface theirs rule) × ((value : Triple) → Has theirs value → IsMatched covers_interface (map interface_of_triple ours) value)
 
 abbrev SameTriples : List Triple → List Triple → Type 0
 SameTriples ours theirs = (t : Triple) → Has ours t ↔ Has theirs t
@@ -61,33 +61,33 @@ SameTriples ours theirs = (t : Triple) → Has ours t ↔ Has theirs t
 same_from : (ours theirs : List Triple) → Matched ours theirs → SameTriples ours theirs
 same_from ours theirs m t = (
   λ h.
-      let s : MatchesSome covers_interface theirs (interface_of t) = m.0 (interface_of t) (has_map interface_of ours t h) in
+      let s : MatchesSome covers_interface theirs (interface_of_triple t) = m.0 (interface_of_triple t) (has_map interface_of_triple ours t h) in
       subst (Has theirs) (sym ((triple_decides t s.0).0 s.2)) s.1,
   λ h.
-      let s : IsMatched covers_interface (map interface_of ours) t = m.1 t h in
-      let k = map_has interface_of ours s.0 s.1 in
-      let covered : IsTrue (covers_interface (interface_of k.0) t) = subst (λ (i : Iface). IsTrue (covers_interface i t)) (sym k.2) s.2 in
+      let s : IsMatched covers_interface (map interface_of_triple ours) t = m.1 t h in
+      let k = map_has interface_of_triple ours s.0 s.1 in
+      let covered : IsTrue (covers_interface (interface_of_triple k.0) t) = subst (λ (i : Iface). IsTrue (covers_interface i t)) (sym k.2) s.2 in
       subst (Has ours) ((triple_decides k.0 t).0 covered) k.1,
 )
 
 same_to : (ours theirs : List Triple) → SameTriples ours theirs → Matched ours theirs
 same_to ours theirs s = (
   λ rule h.
-      let k = map_has interface_of ours rule h in
+      let k = map_has interface_of_triple ours rule h in
       (k.0, (s k.0).0 k.1, subst (λ (i : Iface). IsTrue (covers_interface i k.0)) k.2 ((triple_decides k.0 k.0).1 refl)),
-  λ value h. (interface_of value, has_map interface_of ours value ((s value).1 h), (triple_decides value value).1 refl),
+  λ value h. (interface_of_triple value, has_map interface_of_triple ours value ((s value).1 h), (triple_decides value value).1 refl),
 )
 
-interfaces_decide : (ours theirs : List Triple) → Decides (attribute covers_interface (interfaces_of ours) theirs) (HasInterfaces ours theirs)
+interfaces_decide : (ours theirs : List Triple) → Decides (attribute covers_interface (interfaces_value ours) theirs) (HasInterfaces ours theirs)
 interfaces_decide [] theirs = (λ h. tt, λ h. refl)
 interfaces_decide (t ∷ ours) theirs =
-    Decides-like {P = Matched (t ∷ ours) theirs} (holds covers_interface Equals (map interface_of (t ∷ ours)) theirs)
-    (same_from (t ∷ ours) theirs) (same_to (t ∷ ours) theirs) (equals_decides covers_interface (map interface_of (t ∷ ours)) theirs)
+    Decides-like {P = Matched (t ∷ ours) theirs} (holds covers_interface Equals (map interface_of_triple (t ∷ ours)) theirs)
+    (same_from (t ∷ ours) theirs) (same_to (t ∷ ours) theirs) (equals_decides covers_interface (map interface_of_triple (t ∷ ours)) theirs)
 
 -- ---- the query
 
-pub alike : (device other : DeviceRecord) (with_port : Bool) → Decides (query_matches (query_of device with_port) other) (IsAlike with_port device other)
-unfolding query_matches query_of
+pub alike : (device other : DeviceRecord) (with_port : Bool) → Decides (query_matches (device_query device with_port) other) (IsAlike with_port device other)
+unfolding query_matches device_query
 alike device other with_port =
     let d0 = id_decides device other in
     let d1 = Decides-and _ _ d0 (text_decides device.serial other.serial) in
@@ -115,5 +115,5 @@ has_own : (triples : List Triple) → HasInterfaces triples triples
 has_own [] = tt
 has_own (t ∷ triples) = λ x. (λ h. h, λ h. h)
 
-pub itself : (device : DeviceRecord) (with_port : Bool) → query_matches (query_of device with_port) device ≡ true
+pub itself : (device : DeviceRecord) (with_port : Bool) → query_matches (device_query device with_port) device ≡ true
 itself device with_port = (alike device device with_port).1 (record { vendor = refl; product = refl; serial = refl; name = refl; hash = refl; parent_hash = refl; via_port = λ t. refl; interfaces = has_own device.interfaces; connect = refl })

@@ -6,7 +6,7 @@ use Rattle.std.specs.Cmp.Lexicographic.{pointwise}
 use Rattle.std.proofs.Math.Nat.{mul-le-mul_right, le-mul_of_pos_right}
 use Rattle.std.proofs.lemmas.List.{length-replicate}
 use Rattle.std.proofs.lemmas.Nat.{div_below, div-add-mod', div-mul-add, mod-mul-add, mod_below}
-use Rattle.ug_words.specs.Words.{billionths_of, chance_of, digits_of, with_digit, zero_point}
+use Rattle.ug_words.specs.Words.{billionths_of, chance_of, digits_of, with_decimal_digit, zero_point}
 use Rattle.ug_words.proofs.Tests.{by_test}
 use Rattle.ug_print.specs.Items.{billionths, probability_text}
 use Rattle.ug_print.proofs.ConditionsAgain.{WordFor}
@@ -52,13 +52,13 @@ tens_some : (k : ℕ) → 0 < tens k
 tens_some zero = omega arith
 tens_some (suc k) = omega (arith, tens_some k)
 
-zeros_read : (m k : ℕ) → m * tens k ≤ most_number → fold with_digit (Some m) (replicate k 48) ≡ Some (m * tens k)
+zeros_read : (m k : ℕ) → m * tens k ≤ most_number → fold with_decimal_digit (Some m) (replicate k 48) ≡ Some (m * tens k)
 zeros_read m zero h = let e : m ≡ m * 1 = omega arith in ap Some e
 zeros_read m (suc k) h =
     let here : m * 10 + 0 ≤ most_number = omega (arith, h, le-mul_of_pos_right (m * 10) (tens_some k)) in
     let e : (m * 10 + 0) * tens k ≡ m * (10 * tens k) = omega arith in
     let more : (m * 10 + 0) * tens k ≤ most_number = omega (arith, h, e) in
-    ap (λ (o : Option ℕ). fold with_digit o (replicate k 48)) (digit_more m 0 (omega arith) here)
+    ap (λ (o : Option ℕ). fold with_decimal_digit o (replicate k 48)) (digit_more m 0 (omega arith) here)
     ∙ zeros_read (m * 10 + 0) k more ∙ ap Some e
 
 -- the digits of n billionths, filled up with zeros
@@ -118,19 +118,19 @@ filled_none (suc k) n e =
     let m : suc k - 0 ≡ suc k = omega arith in
     ap (filled (suc k)) e ∙ ap (λ (z : ℕ). replicate z 48) m
 
-fraction_read : (k m j unit : ℕ) → unit * tens k ≡ billion → j < tens k → m * tens k + j ≤ most_number → fold with_digit (Some m) (filled k (j * unit)) ≡ Some (m * tens k + j)
+fraction_read : (k m j unit : ℕ) → unit * tens k ≡ billion → j < tens k → m * tens k + j ≤ most_number → fold with_decimal_digit (Some m) (filled k (j * unit)) ≡ Some (m * tens k + j)
 fraction_read zero m j unit u l b = let e : m ≡ m * 1 + j = omega (arith, l) in ap Some e
 fraction_read (suc k) m j unit u l b =
     let p : ℕ = tens k in
     let n : ℕ = j * unit in
-    let G : Type 0 = fold with_digit (Some m) (filled (suc k) n) ≡ Some (m * (10 * p) + j) in
+    let G : Type 0 = fold with_decimal_digit (Some m) (filled (suc k) n) ≡ Some (m * (10 * p) + j) in
     let P : Bool → Type 0 = λ v. nat_eq n 0 ≡ v → G in
     let f : (v : Bool) → P v = λ v. elim v as P [
       | true ↦ λ e.
           let z : n ≡ 0 = grind arith in
           let none : j ≡ 0 = no_part j unit (some_unit unit (10 * p) u) z in
           let same : m * (10 * p) ≡ m * (10 * p) + j = omega (arith, none) in
-          ap (fold with_digit (Some m)) (filled_none (suc k) n z) ∙ (zeros_read m (suc k) (omega (arith, b)) ∙ ap Some same)
+          ap (fold with_decimal_digit (Some m)) (filled_none (suc k) n z) ∙ (zeros_read m (suc k) (omega (arith, b)) ∙ ap Some same)
       | false ↦ λ e.
           let some : n ≢ 0 = λ z. grind arith in
           let c : Parts k j unit = parts k j unit u in
@@ -140,10 +140,10 @@ fraction_read (suc k) m j unit u l b =
           let bound : (m * 10 + j / p) * p + j % p ≤ most_number = omega (arith, b, all) in
           let here : m * 10 + j / p ≤ most_number = omega (arith, bound, le-mul_of_pos_right (m * 10 + j / p) (tens_some k)) in
           let v : 10 * unit * p ≡ billion = omega (arith, u) in
-          ap (fold with_digit (Some m)) (filled_digit k n some)
-          ∙ ap (λ (d : ℕ). fold with_digit (with_digit (Some m) (48 + d)) (filled k (n * 10 % billion))) c.digit
-          ∙ ap (λ (r : ℕ). fold with_digit (with_digit (Some m) (48 + j / p)) (filled k r)) c.rest
-          ∙ ap (λ (o : Option ℕ). fold with_digit o (filled k (j % p * (10 * unit)))) (digit_more m (j / p) less here)
+          ap (fold with_decimal_digit (Some m)) (filled_digit k n some)
+          ∙ ap (λ (d : ℕ). fold with_decimal_digit (with_decimal_digit (Some m) (48 + d)) (filled k (n * 10 % billion))) c.digit
+          ∙ ap (λ (r : ℕ). fold with_decimal_digit (with_decimal_digit (Some m) (48 + j / p)) (filled k r)) c.rest
+          ∙ ap (λ (o : Option ℕ). fold with_decimal_digit o (filled k (j % p * (10 * unit)))) (digit_more m (j / p) less here)
           ∙ fraction_read k (m * 10 + j / p) (j % p) (10 * unit) v (mod_below j p (tens_some k)) bound
           ∙ ap Some all
     ] in

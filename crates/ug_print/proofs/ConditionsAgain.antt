@@ -13,10 +13,10 @@ use Rattle.ug_types.specs.declared.rule.Query.{Query}
 use Rattle.ug_words.specs.declared.keywords.CondName.{CondName}
 use Rattle.ug_words.specs.declared.keywords.CondName.TheVariants as name
 use Rattle.ug_words.specs.declared.words.DaySpan.{DaySpan}
-use Rattle.ug_rule.specs.Conditions.{joined}
-use Rattle.ug_rule.specs.Grammar.{IsArgument, Argues, HasQuery, IsNamed, IsCondition, AreConditions, IsCondSet, IsConditions}
+use Rattle.ug_rule.specs.Conditions.{conditions_joined}
+use Rattle.ug_rule.specs.Grammar.{IsArgument, Argues, HasQuery, IsNamedCondition, IsCondition, AreConditions, IsCondSet, IsConditions}
 use Rattle.ug_words.specs.Keywords.{condition_of}
-use Rattle.ug_rule.specs.Queries.{has_colon, is_blank, no_query}
+use Rattle.ug_rule.specs.Queries.{has_colon, is_empty_query, no_query}
 use Rattle.ug_rule.specs.Tokens.{is_close, is_paren_open, is_paren_close, is_bang}
 use Rattle.ug_words.specs.Words.{span_of, past_of, chance_of}
 use Rattle.ug_print.specs.Items.{past_text, probability_text, time_text}
@@ -80,7 +80,7 @@ nothing_argued R f = record {
 close_leads : (more : List Piece) → Leads (paren_close ∷ more)
 close_leads more = record { colon = refl; paren = refl }
 
-query_argued : (query : Query) → QueryFits query → is_blank query ≡ false → Argued (in_parens (words.joined (query_words query))) (λ line. HasQuery line query)
+query_argued : (query : Query) → QueryFits query → is_empty_query query ≡ false → Argued (in_parens (words.joined (query_words query))) (λ line. HasQuery line query)
 query_argued query f some =
     let t : Told (query_words query) (Attributes no_query query) = query_again query f in
     record {
@@ -118,7 +118,7 @@ pub record CondReads (text : List ℕ) (R : List ℕ → List Token → List Tok
   pub reads : (line : List ℕ) (more : List Piece) (tokens : List Token) → Leads more → ArePieces line (pieces ++ more) tokens → Taken line more tokens (R line)
   pub leads : (more : List Piece) → Leads (pieces ++ more)
 
-named_again : (word argument : List ℕ) (name : CondName) (kind : CondKind) → is_known word ≡ true → condition_of word ≡ Some name → has_colon word ≡ false → Argued argument (λ line. Argues line name kind) → CondReads (word ++ argument) (λ line. IsNamed line kind)
+named_again : (word argument : List ℕ) (name : CondName) (kind : CondKind) → is_known word ≡ true → condition_of word ≡ Some name → has_colon word ≡ false → Argued argument (λ line. Argues line name kind) → CondReads (word ++ argument) (λ line. IsNamedCondition line kind)
 named_again word argument name kind k n p g = record {
   pieces = word_piece word ∷ g.pieces;
   cut = behind word argument (word_piece word ∷ []) g.pieces (one_word word (known_word word k)) g.cut g.stops;
@@ -134,7 +134,7 @@ span begin end = record { begin = begin; end = end }
 -- what is printed for a condition is read as it
 abbrev pub KindFits : CondKind → Type 0
 KindFits (condition.LocalTime begin end) = WordFor span_of (time_text begin ++ 45 ∷ time_text end) (span begin end)
-KindFits (condition.AllowedMatches query) = QueryFits query × (is_blank query ≡ false)
+KindFits (condition.AllowedMatches query) = QueryFits query × (is_empty_query query ≡ false)
 KindFits (condition.RuleApplied past) = IfSome past (λ seconds. WordFor past_of (decimal seconds) seconds)
 KindFits (condition.RuleEvaluated past) = IfSome past (λ seconds. WordFor past_of (decimal seconds) seconds)
 KindFits (condition.Random n) = WordFor chance_of (probability_text n) n
@@ -149,11 +149,11 @@ evaluated_again : (past : Option ℕ) → IfSome past (λ seconds. WordFor past_
 evaluated_again None f = nothing_argued (λ line. Argues line name.RuleEvaluated (condition.RuleEvaluated None)) (λ line more tokens l a. (None, (paren_leads line more tokens l a, refl), refl))
 evaluated_again (Some s) f = word_argued past_of (decimal s) s (λ line. Argues line name.RuleEvaluated (condition.RuleEvaluated (Some s))) f (λ line tokens rest i. (Some s, i, refl))
 
-kind_again : (kind : CondKind) → KindFits kind → CondReads (kind_text kind) (λ line. IsNamed line kind)
+kind_again : (kind : CondKind) → KindFits kind → CondReads (kind_text kind) (λ line. IsNamedCondition line kind)
 unfolding kind_text condition_of
 kind_again (condition.LocalTime begin end) f =
     let same : codes "localtime" ++ in_parens (time_text begin ++ 45 ∷ time_text end) ≡ codes "localtime(" ++ time_text begin ++ 45 ∷ (time_text end ++ 41 ∷ []) = ap (λ (l : List ℕ). codes "localtime(" ++ l) (append_assoc (time_text begin) (45 ∷ time_text end) (41 ∷ [])) in
-    subst (λ (l : List ℕ). CondReads l (λ line. IsNamed line (condition.LocalTime begin end))) same
+    subst (λ (l : List ℕ). CondReads l (λ line. IsNamedCondition line (condition.LocalTime begin end))) same
     (named_again (codes "localtime") (in_parens (time_text begin ++ 45 ∷ time_text end)) name.LocalTime (condition.LocalTime begin end) refl refl refl
     (word_argued span_of (time_text begin ++ 45 ∷ time_text end) (span begin end) (λ line. Argues line name.LocalTime (condition.LocalTime begin end)) f (λ line tokens rest i. (span begin end, i, refl))))
 kind_again (condition.AllowedMatches query) f =
@@ -182,22 +182,22 @@ bang = record { kind = kind.Bang; word = [] }
 
 cond_again : (negated : Bool) (plain : CondKind) → KindFits plain → CondReads ((if negated then codes "!" else []) ++ kind_text plain) (λ line. IsCondition line (record { negated = negated; kind = plain }))
 cond_again false plain f =
-    let r : CondReads (kind_text plain) (λ line. IsNamed line plain) = kind_again plain f in
+    let r : CondReads (kind_text plain) (λ line. IsNamedCondition line plain) = kind_again plain f in
     record {
       pieces = r.pieces;
       cut = r.cut;
       reads = λ line more tokens l a.
-          let t : Taken line more tokens (IsNamed line plain) = r.reads line more tokens l a in
+          let t : Taken line more tokens (IsNamedCondition line plain) = r.reads line more tokens l a in
           record { rest = t.rest; is = inl (record { kind = plain; named = t.is; is = refl }); behind = t.behind };
       leads = r.leads;
     }
 cond_again true plain f =
-    let r : CondReads (kind_text plain) (λ line. IsNamed line plain) = kind_again plain f in
+    let r : CondReads (kind_text plain) (λ line. IsNamedCondition line plain) = kind_again plain f in
     record {
       pieces = bang ∷ r.pieces;
       cut = mark_before 33 kind.Bang (kind_text plain) r.pieces refl r.cut;
       reads = λ line more tokens l a.
-          let t : Taken line more a.rest (IsNamed line plain) = r.reads line more a.rest l a.behind in
+          let t : Taken line more a.rest (IsNamedCondition line plain) = r.reads line more a.rest l a.behind in
           record { rest = t.rest; is = inr (record { bang = a.token; more = a.rest; kind = plain; cut = a.cut; negates = ap is_bang a.is.kind; named = t.is; is = refl }); behind = t.behind };
       leads = λ more. record { colon = refl; paren = refl };
     }
@@ -239,13 +239,13 @@ set_of_conds ws conds some r = record {
       };
 }
 
-braced_again : (op : Op) (conds : List Cond) → words.is_alone op (length (map cond_text conds)) ≡ false → 0 < length conds → AllByRecursion CondFits conds → Reads (set_words op (map cond_text conds)) (λ line. IsConditions line (joined op conds))
+braced_again : (op : Op) (conds : List Cond) → words.is_alone op (length (map cond_text conds)) ≡ false → 0 < length conds → AllByRecursion CondFits conds → Reads (set_words op (map cond_text conds)) (λ line. IsConditions line (conditions_joined op conds))
 braced_again op conds a some f =
-    set_again op (map cond_text conds) (λ line. IsCondSet line conds) (λ line. IsConditions line (joined op conds)) a (set_of_conds (map cond_text conds) conds some (all_conds conds f))
-    (λ line tokens rest o e. inr (inl (record { brace = o.brace; items = conds; more = o.more; cut = o.cut; opens = o.opens; set = o.set; is = ap (λ (p : Op). joined p conds) e })))
+    set_again op (map cond_text conds) (λ line. IsCondSet line conds) (λ line. IsConditions line (conditions_joined op conds)) a (set_of_conds (map cond_text conds) conds some (all_conds conds f))
+    (λ line tokens rest o e. inr (inl (record { brace = o.brace; items = conds; more = o.more; cut = o.cut; opens = o.opens; set = o.set; is = ap (λ (p : Op). conditions_joined p conds) e })))
     (λ line tokens rest o. inr (inr (record { word = o.word; brace = o.brace; op = op; items = conds; more = o.more; cut = o.cut; names = o.names; opens = o.opens; set = o.set; is = refl })))
 
-one_again : (cond : Cond) → CondFits cond → Reads (cond_text cond ∷ []) (λ line. IsConditions line (joined Equals (cond ∷ [])))
+one_again : (cond : Cond) → CondFits cond → Reads (cond_text cond ∷ []) (λ line. IsConditions line (conditions_joined Equals (cond ∷ [])))
 one_again cond f =
     let c : CondReads (cond_text cond) (λ line. IsCondition line cond) = cond_again cond.negated cond.kind f in
     record {
@@ -256,7 +256,7 @@ one_again cond f =
           record { rest = t.rest; is = inl (record { cond = cond; one = t.is; is = refl }); behind = t.behind };
     }
 
-pub conditions_again : (op : Op) (conds : List Cond) → 0 < length conds → AllByRecursion CondFits conds → Reads (set_words op (map cond_text conds)) (λ line. IsConditions line (joined op conds))
+pub conditions_again : (op : Op) (conds : List Cond) → 0 < length conds → AllByRecursion CondFits conds → Reads (set_words op (map cond_text conds)) (λ line. IsConditions line (conditions_joined op conds))
 conditions_again op [] some f = absurd (omega (arith, some))
 conditions_again Equals (cond ∷ []) some f = one_again cond f.0
 conditions_again Equals (cond ∷ other ∷ conds) some f = braced_again Equals (cond ∷ other ∷ conds) (several (length (map cond_text conds))) some f

@@ -16,8 +16,8 @@ use Rattle.ug_words.specs.declared.keywords.Attr.TheVariants as attr
 use Rattle.ug_words.specs.declared.keywords.CondName.{CondName}
 use Rattle.ug_words.specs.declared.keywords.CondName.TheVariants as name
 use Rattle.ug_rule.specs.Conditions.{chance_or_half}
-use Rattle.ug_rule.specs.Grammar.{AreItems, IsSet, IsValue, Tells, AreAttributes, Begins, IsQueryTo, MayHaveArgument, Argues, IsCondition, AreConditions, IsConditions, Part, Attribute, If, AreParts, IsRule, WellFormed}
-use Rattle.ug_rule.specs.Queries.{is_blank, no_query}
+use Rattle.ug_rule.specs.Grammar.{AreItems, IsSet, IsValue, Tells, AreAttributes, BeginsQuery, IsQueryTo, MayHaveArgument, Argues, IsCondition, AreConditions, IsConditions, RulePart, Attribute, If, AreParts, IsRule, WellFormed}
+use Rattle.ug_rule.specs.Queries.{is_empty_query, no_query}
 use Rattle.ug_rule.specs.Tokens.{word_of}
 use Rattle.ug_rule.specs.Values.{id_in, interface_in, string_in}
 use Rattle.ug_words.specs.Words.{span_of, past_of, chance_of}
@@ -102,7 +102,7 @@ attributes_read : (line : List ℕ) (attrs : List Attr) (query all : Query) (tok
 attributes_read line [] query all tokens rest q a = subst QueryRead (sym a.0) q
 attributes_read line (attr ∷ attrs) query all tokens rest q a = attributes_read line attrs a.0 all a.1 rest (tells_read line attr query a.0 a.2.more a.1 q a.2.tells) a.3
 
-begins_read : (line : List ℕ) (query : Query) (tokens rest : List Token) → Begins line query tokens rest → QueryRead query
+begins_read : (line : List ℕ) (query : Query) (tokens rest : List Token) → BeginsQuery line query tokens rest → QueryRead query
 begins_read line query tokens rest (inl b) =
     subst QueryRead (sym b.is) (record { id = record { some = omega arith; each = (id_piece (word_of line b.token) b.id b.says, tt) }; serial = tt; name = tt; hash = tt; parent_hash = tt; via_port = tt; interface = tt; connect = tt })
 begins_read line query tokens rest (inr b) = subst QueryRead (sym b.1) none_read
@@ -118,7 +118,7 @@ PastFits past = IfSome past (λ seconds. WordFor past_of (decimal seconds) secon
 -- a condition that was read
 abbrev KindRead : CondKind → Type 0
 KindRead (condition.LocalTime begin end) = WordFor span_of (time_text begin ++ 45 ∷ time_text end) (record { begin = begin; end = end })
-KindRead (condition.AllowedMatches query) = QueryRead query × (is_blank query ≡ false)
+KindRead (condition.AllowedMatches query) = QueryRead query × (is_empty_query query ≡ false)
 KindRead (condition.RuleApplied past) = PastFits past
 KindRead (condition.RuleEvaluated past) = PastFits past
 KindRead (condition.Random n) = WordFor chance_of (probability_text n) n
@@ -168,7 +168,7 @@ record RuleRead (query : Query) (conds : Option Conds) : Type 0 where
   query_read : QueryRead query
   conds_read : IfSome conds CondsRead
 
-parts_read : (line : List ℕ) (parts : List Part) (query all : Query) (conds found : Option Conds) (tokens : List Token) → QueryRead query → IfSome conds CondsRead → AreParts line parts query conds all found tokens → RuleRead all found
+parts_read : (line : List ℕ) (parts : List RulePart) (query all : Query) (conds found : Option Conds) (tokens : List Token) → QueryRead query → IfSome conds CondsRead → AreParts line parts query conds all found tokens → RuleRead all found
 parts_read line [] query all conds found tokens q c a = record { query_read = subst QueryRead (sym a.0) q; conds_read = subst (λ (o : Option Conds). IfSome o CondsRead) (sym a.1) c }
 parts_read line (Attribute attr ∷ parts) query all conds found tokens q c a = parts_read line parts a.0 all conds found a.1 (tells_read line attr query a.0 a.2.more a.1 q a.2.tells) c a.3
 parts_read line (If ∷ parts) query all conds found tokens q c a = parts_read line parts query all (Some a.0) found a.1 q (conditions_read line a.0 a.2.more a.1 a.2.are) a.4

@@ -11,7 +11,7 @@ use Rattle.ug_rule.specs.Values.{id_in, interface_in, string_in}
 use Rattle.ug_words.specs.WordGrammar.{Exact, OfProtocol, id_with}
 use Rattle.ug_words.proofs.WordCuts.{id_reads, interface_reads}
 use Rattle.ug_print.specs.Bytes.{AreBytes, QueryOfBytes, RuleOfBytes, TextsOfBytes}
-use Rattle.ug_print.specs.Generated.{equals, generated_of, interface_of, interfaces_of, query_of}
+use Rattle.ug_print.specs.Generated.{equals, generated_of, interface_of_triple, interfaces_value, device_query}
 use Rattle.ug_print.specs.Items.{id_text, interface_text, string_text}
 use Rattle.ug_print.specs.Ranges.{RecordInRange, TripleInRange}
 use Rattle.ug_print.specs.Words.{rule_text}
@@ -34,21 +34,21 @@ port_fits : (with_port : Bool) (port : List ℕ) → AreBytes port → IfSome (i
 port_fits true port b = text_fits port b
 port_fits false port b = tt
 
-triple_fits : (triple : Triple) → TripleInRange triple → ItemPiece interface_in (interface_text (interface_of triple)) (interface_of triple)
+triple_fits : (triple : Triple) → TripleInRange triple → ItemPiece interface_in (interface_text (interface_of_triple triple)) (interface_of_triple triple)
 triple_fits t r =
-    let i = interface_of t in
+    let i = interface_of_triple t in
     interface_piece (interface_text i) i (interface_reads i (interface_text i) (OfProtocol t.class t.subclass t.protocol _ _ _ (two_again t.class r.class) (two_again t.subclass r.subclass) (two_again t.protocol r.protocol)))
 
-all_fit : (triples : List Triple) → AllByRecursion TripleInRange triples → AllPieces interface_in interface_text (map interface_of triples)
+all_fit : (triples : List Triple) → AllByRecursion TripleInRange triples → AllPieces interface_in interface_text (map interface_of_triple triples)
 all_fit [] r = tt
 all_fit (t ∷ triples) r = (triple_fits t r.0, all_fit triples r.1)
 
-interfaces_fit : (triples : List Triple) → AllByRecursion TripleInRange triples → IfSome (interfaces_of triples) (ValuesFit interface_in interface_text)
+interfaces_fit : (triples : List Triple) → AllByRecursion TripleInRange triples → IfSome (interfaces_value triples) (ValuesFit interface_in interface_text)
 interfaces_fit [] r = tt
 interfaces_fit (t ∷ triples) r = record { some = omega arith; each = all_fit (t ∷ triples) r }
 
-query_fits : (device : DeviceRecord) (with_port : Bool) → RecordInRange device → QueryFits (query_of device with_port)
-unfolding query_of
+query_fits : (device : DeviceRecord) (with_port : Bool) → RecordInRange device → QueryFits (device_query device with_port)
+unfolding device_query
 query_fits device with_port r = record {
   id = id_fits device.vendor device.product r.vendor r.product;
   serial = text_fits device.serial r.serial;
@@ -76,8 +76,8 @@ port_of_bytes : (with_port : Bool) (port : List ℕ) → AreBytes port → Texts
 port_of_bytes true port b = one_of_bytes port b
 port_of_bytes false port b = tt
 
-query_of_bytes : (device : DeviceRecord) (with_port : Bool) → RecordInRange device → QueryOfBytes (query_of device with_port)
-unfolding query_of
+query_of_bytes : (device : DeviceRecord) (with_port : Bool) → RecordInRange device → QueryOfBytes (device_query device with_port)
+unfolding device_query
 query_of_bytes device with_port r = record {
   serial = one_of_bytes device.serial r.serial;
   name = one_of_bytes device.name r.name;

@@ -16,7 +16,7 @@ use Rattle.ug_types.specs.declared.rule.Op.TheVariants.{AllOf, OneOf, NoneOf, Eq
 use Rattle.ug_types.specs.declared.rule.Query.{Query}
 use Rattle.ug_types.specs.declared.rule.Rule.{Rule}
 use Rattle.ug_types.specs.declared.rule.Values.{Values}
-use Rattle.ug_print.specs.Generated.{equals, generated_of, interface_of, interfaces_of, query_of}
+use Rattle.ug_print.specs.Generated.{equals, generated_of, interface_of_triple, interfaces_value, device_query}
 use Rattle.ug_print.specs.Made.{are_interfaces, is_equals, is_for_interfaces, is_interface, is_just_id, is_just_text, is_made_of, is_number, is_one_id, is_one_text, is_port, is_query_of}
 
 op_is : (op : Op) → Decides (is_equals op) (op ≡ Equals)
@@ -76,7 +76,7 @@ one_id_is : (vendor product : ℕ) (values : Option (Values Id)) → Decides (is
 one_id_is vendor product (Some values) = set_is (is_just_id vendor product values.items) values (record { vendor = Some vendor; product = Some product } ∷ []) (just_id_is vendor product values.items)
 one_id_is vendor product None = not_set (record { vendor = Some vendor; product = Some product } ∷ [])
 
-interface_is : (item : Iface) (triple : Triple) → Decides (is_interface item triple) (item ≡ interface_of triple)
+interface_is : (item : Iface) (triple : Triple) → Decides (is_interface item triple) (item ≡ interface_of_triple triple)
 interface_is item triple =
     let make : ℕ → Option ℕ → Option ℕ → Iface = λ class subclass protocol. record { class = class; subclass = subclass; protocol = protocol } in
     Decides-like {P = ((item.class ≡ triple.class) × (item.subclass ≡ Some triple.subclass)) × (item.protocol ≡ Some triple.protocol)} (is_interface item triple)
@@ -85,25 +85,25 @@ interface_is item triple =
     (Decides-and (nat_eq item.class triple.class && is_number triple.subclass item.subclass) (is_number triple.protocol item.protocol)
     (Decides-and (nat_eq item.class triple.class) (is_number triple.subclass item.subclass) (Decides-eqb item.class triple.class) (number_is triple.subclass item.subclass)) (number_is triple.protocol item.protocol))
 
-made_length : (triples : List Triple) → length (map interface_of triples) ≡ length triples
+made_length : (triples : List Triple) → length (map interface_of_triple triples) ≡ length triples
 made_length [] = refl
 made_length (t ∷ triples) = ap suc (made_length triples)
 
-pairs_are : (items : List Iface) (triples : List Triple) → length items ≡ length triples → Decides (list_all (λ (pair : Iface × Triple). is_interface pair.0 pair.1) (zip items triples)) (items ≡ map interface_of triples)
+pairs_are : (items : List Iface) (triples : List Triple) → length items ≡ length triples → Decides (list_all (λ (pair : Iface × Triple). is_interface pair.0 pair.1) (zip items triples)) (items ≡ map interface_of_triple triples)
 pairs_are [] [] same = (λ h. refl, λ e. refl)
 pairs_are [] (t ∷ triples) same = let none : ⊥ = omega (arith, same) in absurd none
 pairs_are (i ∷ items) [] same = let none : ⊥ = omega (arith, same) in absurd none
 pairs_are (i ∷ items) (t ∷ triples) same =
     let rest : length items ≡ length triples = omega (arith, same) in
-    Decides-like {P = (i ≡ interface_of t) × (items ≡ map interface_of triples)} (is_interface i t && list_all (λ (pair : Iface × Triple). is_interface pair.0 pair.1) (zip items triples))
-    (λ p. ap (λ (x : Iface). x ∷ items) p.0 ∙ ap (λ (xs : List Iface). interface_of t ∷ xs) p.1)
-    (λ e. let first : i ≡ interface_of t = cc in let others : items ≡ map interface_of triples = cc in (first, others))
+    Decides-like {P = (i ≡ interface_of_triple t) × (items ≡ map interface_of_triple triples)} (is_interface i t && list_all (λ (pair : Iface × Triple). is_interface pair.0 pair.1) (zip items triples))
+    (λ p. ap (λ (x : Iface). x ∷ items) p.0 ∙ ap (λ (xs : List Iface). interface_of_triple t ∷ xs) p.1)
+    (λ e. let first : i ≡ interface_of_triple t = cc in let others : items ≡ map interface_of_triple triples = cc in (first, others))
     (Decides-and (is_interface i t) (list_all (λ (pair : Iface × Triple). is_interface pair.0 pair.1) (zip items triples)) (interface_is i t) (pairs_are items triples rest))
 
-interfaces_are : (items : List Iface) (triples : List Triple) → Decides (are_interfaces items triples) (items ≡ map interface_of triples)
+interfaces_are : (items : List Iface) (triples : List Triple) → Decides (are_interfaces items triples) (items ≡ map interface_of_triple triples)
 interfaces_are items triples = by_length (nat_eq (length items) (length triples)) refl
   where
-    by_length : (b : Bool) → nat_eq (length items) (length triples) ≡ b → Decides (b && list_all (λ (pair : Iface × Triple). is_interface pair.0 pair.1) (zip items triples)) (items ≡ map interface_of triples)
+    by_length : (b : Bool) → nat_eq (length items) (length triples) ≡ b → Decides (b && list_all (λ (pair : Iface × Triple). is_interface pair.0 pair.1) (zip items triples)) (items ≡ map interface_of_triple triples)
     by_length true is = pairs_are items triples ((Decides-eqb (length items) (length triples)).0 is)
     by_length false is = (
       λ h. let none : ⊥ = cc in absurd none,
@@ -113,15 +113,15 @@ interfaces_are items triples = by_length (nat_eq (length items) (length triples)
           absurd none,
     )
 
-for_interfaces_is : (triples : List Triple) (values : Option (Values Iface)) → Decides (is_for_interfaces triples values) (values ≡ interfaces_of triples)
+for_interfaces_is : (triples : List Triple) (values : Option (Values Iface)) → Decides (is_for_interfaces triples values) (values ≡ interfaces_value triples)
 for_interfaces_is [] values = none_is values
-for_interfaces_is (t ∷ triples) (Some values) = set_is (are_interfaces values.items (t ∷ triples)) values (map interface_of (t ∷ triples)) (interfaces_are values.items (t ∷ triples))
-for_interfaces_is (t ∷ triples) None = not_set (map interface_of (t ∷ triples))
+for_interfaces_is (t ∷ triples) (Some values) = set_is (are_interfaces values.items (t ∷ triples)) values (map interface_of_triple (t ∷ triples)) (interfaces_are values.items (t ∷ triples))
+for_interfaces_is (t ∷ triples) None = not_set (map interface_of_triple (t ∷ triples))
 
-query_is : (device : DeviceRecord) (with_port : Bool) (query : Query) → Decides (is_query_of device with_port query) (query ≡ query_of device with_port)
-unfolding query_of
+query_is : (device : DeviceRecord) (with_port : Bool) (query : Query) → Decides (is_query_of device with_port query) (query ≡ device_query device with_port)
+unfolding device_query
 query_is device with_port q =
-    let made : Query = query_of device with_port in
+    let made : Query = device_query device with_port in
     let a = is_one_id device.vendor device.product q.id in
     let b = is_one_text device.serial q.serial in
     let c = is_one_text device.name q.name in
@@ -162,7 +162,7 @@ pub made_is : (device : DeviceRecord) (with_port : Bool) (rule : Rule) → IsTru
 unfolding is_made_of generated_of
 made_is device with_port rule =
     let make : Query → Option Conds → Rule = λ query conds. record { target = rule.target; query = query; conds = conds } in
-    Decides-like {P = (rule.query ≡ query_of device with_port) × (rule.conds ≡ None)} (is_query_of device with_port rule.query && is_none rule.conds)
-    (λ p. ap (λ (q : Query). make q rule.conds) p.0 ∙ ap (λ (c : Option Conds). make (query_of device with_port) c) p.1)
+    Decides-like {P = (rule.query ≡ device_query device with_port) × (rule.conds ≡ None)} (is_query_of device with_port rule.query && is_none rule.conds)
+    (λ p. ap (λ (q : Query). make q rule.conds) p.0 ∙ ap (λ (c : Option Conds). make (device_query device with_port) c) p.1)
     (λ e. (ap (λ (r : Rule). r.query) e, ap (λ (r : Rule). r.conds) e))
     (Decides-and (is_query_of device with_port rule.query) (is_none rule.conds) (query_is device with_port rule.query) (none_is rule.conds))

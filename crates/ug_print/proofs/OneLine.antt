@@ -5,8 +5,8 @@ use Rattle.std.specs.Prelude.{IfOk}
 use Rattle.std.proofs.lemmas.List.{append-nil}
 use Rattle.ug_types.specs.declared.no_memory.NoMemory.{NoMemory}
 use Rattle.ug_lex.specs.declared.token.TokenKind.{TokenKind}
-use Rattle.ug_lex.specs.Lexing.{digit_of, is_blank, is_word_byte, mark_of}
-use Rattle.ug_lex.specs.Grammar.{AllStand, IsWordByte, Part, Spells, Empty, Itself, Escaped, Coded, Stands, Blank, Mark, Word, String, joined}
+use Rattle.ug_lex.specs.Lexing.{digit_of, is_blank, is_word_byte, mark_token}
+use Rattle.ug_lex.specs.Grammar.{AllStand, IsWordByte, LinePart, Spells, Empty, Itself, Escaped, Coded, StandsInLine, Blank, Mark, Word, String, parts_text}
 use Rattle.ug_lines.specs.Splitting.{IsLine}
 use Rattle.ug_print.proofs.Pieces.{Piece, Cut}
 
@@ -25,8 +25,8 @@ blank_byte b h e = let here : is_blank 10 ≡ true = subst (λ (k : ℕ). is_bla
 word_byte : (b : ℕ) → is_word_byte b ≡ true → b ≢ 10
 word_byte b h e = let here : is_word_byte 10 ≡ true = subst (λ (k : ℕ). is_word_byte k ≡ true) e h in let none : ⊥ = cc in none
 
-mark_byte : (b : ℕ) (mark : TokenKind) → mark_of b ≡ Some mark → b ≢ 10
-mark_byte b mark h e = let here : mark_of 10 ≡ Some mark = subst (λ (k : ℕ). mark_of k ≡ Some mark) e h in let none : ⊥ = cc in none
+mark_byte : (b : ℕ) (mark : TokenKind) → mark_token b ≡ Some mark → b ≢ 10
+mark_byte b mark h e = let here : mark_token 10 ≡ Some mark = subst (λ (k : ℕ). mark_token k ≡ Some mark) e h in let none : ⊥ = cc in none
 
 quoted_byte : (b : ℕ) → (b ≡ 34) ⊎ (b ≡ 92) → b ≢ 10
 quoted_byte b (inl h) e = omega arith
@@ -47,19 +47,19 @@ inside_line inside text (Itself b more rest h k n s) = (n, inside_line more rest
 inside_line inside text (Escaped b more rest h s) = (other 92 (omega arith), (quoted_byte b h, inside_line more rest s))
 inside_line inside text (Coded high low h l more rest d e s) = (other 92 (omega arith), (other 120 (omega arith), (hex_byte high h d, (hex_byte low l e, inside_line more rest s))))
 
-part_line : (bytes : List ℕ) (kind : Option TokenKind) (rest : List ℕ) → Stands bytes kind rest → IsLine bytes
+part_line : (bytes : List ℕ) (kind : Option TokenKind) (rest : List ℕ) → StandsInLine bytes kind rest → IsLine bytes
 part_line bytes kind rest (Blank b r h) = (blank_byte b h, tt)
 part_line bytes kind rest (Mark b mark r h) = (mark_byte b mark h, tt)
 part_line bytes kind rest (Word b run r h g) = word_line (b ∷ run) h
 part_line bytes kind rest (String inside text r s) = (other 34 (omega arith), append_line inside (34 ∷ []) (inside_line inside text s) (other 34 (omega arith), tt))
 
-parts_line : (parts : List Part) → AllStand parts [] → IsLine (joined parts [])
+parts_line : (parts : List LinePart) → AllStand parts [] → IsLine (parts_text parts [])
 parts_line [] h = tt
-parts_line (part ∷ parts) h = append_line part.bytes (joined parts []) (part_line part.bytes part.kind (joined parts []) h.0) (parts_line parts h.1)
+parts_line (part ∷ parts) h = append_line part.bytes (parts_text parts []) (part_line part.bytes part.kind (parts_text parts []) h.0) (parts_line parts h.1)
 
 pub cut_line : (text : List ℕ) (pieces : List Piece) → Cut text pieces → IsLine text
 cut_line text pieces c =
-    let e : text ≡ joined c.parts [] = sym (append-nil text) ∙ c.all [] in
+    let e : text ≡ parts_text c.parts [] = sym (append-nil text) ∙ c.all [] in
     subst IsLine (sym e) (parts_line c.parts (c.stand [] refl))
 
 -- ---- of an answer that has the text

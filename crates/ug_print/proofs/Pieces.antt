@@ -6,8 +6,8 @@ use Rattle.std.proofs.Math.Seq.{drop-append_seam, take-append_seam}
 use Rattle.ug_lex.specs.declared.token.Token.{Token}
 use Rattle.ug_lex.specs.declared.token.TokenKind.{TokenKind}
 use Rattle.ug_lex.specs.declared.token.TokenKind.TheVariants as kind
-use Rattle.ug_lex.specs.Lexing.{mark_of}
-use Rattle.ug_lex.specs.Grammar.{AllStand, Good, IsWordByte, Part, Spells, Stands, Blank, Mark, Word, String, goes_on, joined, placed, token_at}
+use Rattle.ug_lex.specs.Lexing.{mark_token}
+use Rattle.ug_lex.specs.Grammar.{AllStand, Good, IsWordByte, LinePart, Spells, StandsInLine, Blank, Mark, Word, String, goes_on, parts_text, tokens_placed, token_at}
 use Rattle.ug_rule.specs.Tokens.{word_by, word_of}
 use Rattle.ug_print.specs.Words.{spaced}
 use Rattle.ug_print.specs.Words as words
@@ -30,7 +30,7 @@ abbrev pub piece_at : List ℕ → Option TokenKind → List Piece
 piece_at bytes None = []
 piece_at bytes (Some kind) = record { kind = kind; word = bytes_by kind bytes } ∷ []
 
-abbrev pub pieces_of : List Part → List Piece
+abbrev pub pieces_of : List LinePart → List Piece
 pieces_of [] = []
 pieces_of (part ∷ parts) = piece_at part.bytes part.kind ++ pieces_of parts
 
@@ -76,25 +76,25 @@ one_piece line before bytes rest (Some kind) pieces tokens e a = record {
   behind = a;
 }
 
-pub all_pieces : (line before rest : List ℕ) (at : ℕ) (parts : List Part) → length before ≡ at → line ≡ before ++ joined parts rest → ArePieces line (pieces_of parts) (placed at parts)
+pub all_pieces : (line before rest : List ℕ) (at : ℕ) (parts : List LinePart) → length before ≡ at → line ≡ before ++ parts_text parts rest → ArePieces line (pieces_of parts) (tokens_placed at parts)
 all_pieces line before rest at [] l e = refl
 all_pieces line before rest at (part ∷ parts) l e =
     let next : List ℕ = before ++ part.bytes in
     let long : length next ≡ at + length part.bytes = omega (arith, l, length-append before part.bytes) in
-    let more : ArePieces line (pieces_of parts) (placed (at + length part.bytes) parts) = all_pieces line next rest (at + length part.bytes) parts long (e ∙ sym (append_assoc before part.bytes (joined parts rest))) in
-    let one : ArePieces line (piece_at part.bytes part.kind ++ pieces_of parts) (token_at (length before) part.bytes part.kind ++ placed (at + length part.bytes) parts) = one_piece line before part.bytes (joined parts rest) part.kind (pieces_of parts) (placed (at + length part.bytes) parts) e more in
-    subst (λ (n : ℕ). ArePieces line (piece_at part.bytes part.kind ++ pieces_of parts) (token_at n part.bytes part.kind ++ placed (at + length part.bytes) parts)) l one
+    let more : ArePieces line (pieces_of parts) (tokens_placed (at + length part.bytes) parts) = all_pieces line next rest (at + length part.bytes) parts long (e ∙ sym (append_assoc before part.bytes (parts_text parts rest))) in
+    let one : ArePieces line (piece_at part.bytes part.kind ++ pieces_of parts) (token_at (length before) part.bytes part.kind ++ tokens_placed (at + length part.bytes) parts) = one_piece line before part.bytes (parts_text parts rest) part.kind (pieces_of parts) (tokens_placed (at + length part.bytes) parts) e more in
+    subst (λ (n : ℕ). ArePieces line (piece_at part.bytes part.kind ++ pieces_of parts) (token_at n part.bytes part.kind ++ tokens_placed (at + length part.bytes) parts)) l one
 
 -- ---- texts cut into pieces
 
 -- a text that is these pieces, before anything that doesn't go on a word
 pub record Cut (text : List ℕ) (pieces : List Piece) : Type 0 where
-  pub parts : List Part
-  pub all : (rest : List ℕ) → text ++ rest ≡ joined parts rest
+  pub parts : List LinePart
+  pub all : (rest : List ℕ) → text ++ rest ≡ parts_text parts rest
   pub stand : (rest : List ℕ) → goes_on rest ≡ false → AllStand parts rest
   pub is : pieces ≡ pieces_of parts
 
-abbrev pub blank_part : Part
+abbrev pub blank_part : LinePart
 blank_part = record { bytes = 32 ∷ []; kind = None }
 
 -- the whole line
@@ -105,18 +105,18 @@ pub record Whole (line : List ℕ) (pieces : List Piece) : Type 0 where
 
 pub whole : (line : List ℕ) (pieces : List Piece) → Cut line pieces → Whole line pieces
 whole line pieces c =
-    let e : line ≡ joined c.parts [] = sym (append-nil line) ∙ c.all [] in
+    let e : line ≡ parts_text c.parts [] = sym (append-nil line) ∙ c.all [] in
     record {
-      tokens = placed 0 c.parts;
+      tokens = tokens_placed 0 c.parts;
       good = record { parts = c.parts; rest = []; all = e; stand = c.stand [] refl; ends = inl refl; says = refl };
-      are = subst (λ (p : List Piece). ArePieces line p (placed 0 c.parts)) (sym c.is) (all_pieces line [] [] 0 c.parts refl e);
+      are = subst (λ (p : List Piece). ArePieces line p (tokens_placed 0 c.parts)) (sym c.is) (all_pieces line [] [] 0 c.parts refl e);
     }
 
 pub no_text : Cut [] []
 no_text = record { parts = []; all = λ rest. refl; stand = λ rest h. tt; is = refl }
 
 -- what stands before anything
-pub single : (bytes : List ℕ) (kind : Option TokenKind) → ((rest : List ℕ) → goes_on rest ≡ false → Stands bytes kind rest) → Cut bytes (piece_at bytes kind)
+pub single : (bytes : List ℕ) (kind : Option TokenKind) → ((rest : List ℕ) → goes_on rest ≡ false → StandsInLine bytes kind rest) → Cut bytes (piece_at bytes kind)
 single bytes kind h = record {
   parts = record { bytes = bytes; kind = kind } ∷ [];
   all = λ rest. refl;
@@ -138,40 +138,40 @@ one_word (b ∷ run) h = single (b ∷ run) (Some kind.Word) (λ rest g. Word b 
 pub one_string : (inside text : List ℕ) → Spells inside text → Cut (34 ∷ (inside ++ 34 ∷ [])) (record { kind = kind.Str text; word = [] } ∷ [])
 one_string inside text s = single (34 ∷ (inside ++ 34 ∷ [])) (Some (kind.Str text)) (λ rest g. String inside text rest s)
 
-pub one_mark : (b : ℕ) (mark : TokenKind) → mark_of b ≡ Some mark → Cut (b ∷ []) (record { kind = mark; word = bytes_by mark (b ∷ []) } ∷ [])
+pub one_mark : (b : ℕ) (mark : TokenKind) → mark_token b ≡ Some mark → Cut (b ∷ []) (record { kind = mark; word = bytes_by mark (b ∷ []) } ∷ [])
 one_mark b mark h = single (b ∷ []) (Some mark) (λ rest g. Mark b mark rest h)
 
 -- what doesn't go on a word, whatever stands behind it
 abbrev pub StopsWord : List ℕ → Type 0
 StopsWord text = (rest : List ℕ) → goes_on rest ≡ false → goes_on (text ++ rest) ≡ false
 
-joined-append : (a b : List Part) (rest : List ℕ) → joined (a ++ b) rest ≡ joined a (joined b rest)
+joined-append : (a b : List LinePart) (rest : List ℕ) → parts_text (a ++ b) rest ≡ parts_text a (parts_text b rest)
 joined-append [] b rest = refl
 joined-append (part ∷ a) b rest = ap (λ (l : List ℕ). part.bytes ++ l) (joined-append a b rest)
 
-pieces-append : (a b : List Part) → pieces_of (a ++ b) ≡ pieces_of a ++ pieces_of b
+pieces-append : (a b : List LinePart) → pieces_of (a ++ b) ≡ pieces_of a ++ pieces_of b
 pieces-append [] b = refl
 pieces-append (part ∷ a) b = ap (λ (l : List Piece). piece_at part.bytes part.kind ++ l) (pieces-append a b) ∙ sym (append_assoc (piece_at part.bytes part.kind) (pieces_of a) (pieces_of b))
 
-stand-append : (a b : List Part) (rest : List ℕ) → AllStand a (joined b rest) → AllStand b rest → AllStand (a ++ b) rest
+stand-append : (a b : List LinePart) (rest : List ℕ) → AllStand a (parts_text b rest) → AllStand b rest → AllStand (a ++ b) rest
 stand-append [] b rest s t = t
-stand-append (part ∷ a) b rest s t = (subst (λ (l : List ℕ). Stands part.bytes part.kind l) (sym (joined-append a b rest)) s.0, stand-append a b rest s.1 t)
+stand-append (part ∷ a) b rest s t = (subst (λ (l : List ℕ). StandsInLine part.bytes part.kind l) (sym (joined-append a b rest)) s.0, stand-append a b rest s.1 t)
 
 -- one text behind another that a word doesn't go on from
 pub behind : (a b : List ℕ) (p q : List Piece) → Cut a p → Cut b q → StopsWord b → Cut (a ++ b) (p ++ q)
 behind a b p q c d stops = record {
   parts = c.parts ++ d.parts;
-  all = λ rest. append_assoc a b rest ∙ c.all (b ++ rest) ∙ ap (joined c.parts) (d.all rest) ∙ sym (joined-append c.parts d.parts rest);
-  stand = λ rest g. stand-append c.parts d.parts rest (c.stand (joined d.parts rest) (ap goes_on (sym (d.all rest)) ∙ stops rest g)) (d.stand rest g);
+  all = λ rest. append_assoc a b rest ∙ c.all (b ++ rest) ∙ ap (parts_text c.parts) (d.all rest) ∙ sym (joined-append c.parts d.parts rest);
+  stand = λ rest g. stand-append c.parts d.parts rest (c.stand (parts_text d.parts rest) (ap goes_on (sym (d.all rest)) ∙ stops rest g)) (d.stand rest g);
   is = ap (λ (l : List Piece). l ++ q) c.is ∙ ap (λ (l : List Piece). pieces_of c.parts ++ l) d.is ∙ sym (pieces-append c.parts d.parts);
 }
 
 -- a mark before any text
-pub mark_before : (b : ℕ) (mark : TokenKind) (text : List ℕ) (q : List Piece) → mark_of b ≡ Some mark → Cut text q → Cut (b ∷ text) (record { kind = mark; word = bytes_by mark (b ∷ []) } ∷ q)
+pub mark_before : (b : ℕ) (mark : TokenKind) (text : List ℕ) (q : List Piece) → mark_token b ≡ Some mark → Cut text q → Cut (b ∷ text) (record { kind = mark; word = bytes_by mark (b ∷ []) } ∷ q)
 mark_before b mark text q h d = record {
   parts = record { bytes = b ∷ []; kind = Some mark } ∷ d.parts;
   all = λ rest. ap (λ (l : List ℕ). b ∷ l) (d.all rest);
-  stand = λ rest g. (Mark b mark (joined d.parts rest) h, d.stand rest g);
+  stand = λ rest g. (Mark b mark (parts_text d.parts rest) h, d.stand rest g);
   is = ap (λ (l : List Piece). record { kind = mark; word = bytes_by mark (b ∷ []) } ∷ l) d.is;
 }
 
@@ -179,7 +179,7 @@ blank_before : (text : List ℕ) (q : List Piece) → Cut text q → Cut (32 ∷
 blank_before text q d = record {
   parts = blank_part ∷ d.parts;
   all = λ rest. ap (λ (l : List ℕ). 32 ∷ l) (d.all rest);
-  stand = λ rest g. (Blank 32 (joined d.parts rest) refl, d.stand rest g);
+  stand = λ rest g. (Blank 32 (parts_text d.parts rest) refl, d.stand rest g);
   is = d.is;
 }
 

@@ -10,7 +10,7 @@ use Rattle.ug_words.specs.declared.keywords.Attr.{Attr}
 use Rattle.ug_words.specs.declared.keywords.Attr.TheVariants as attr
 use Rattle.ug_rule.specs.Grammar.{AreAttributes, IsText, IsValue, Tells}
 use Rattle.ug_words.specs.Keywords.{attribute_of}
-use Rattle.ug_rule.specs.Queries.{has_colon, is_given, no_query}
+use Rattle.ug_rule.specs.Queries.{has_colon, is_attribute_given, no_query}
 use Rattle.ug_rule.specs.Values.{id_in, interface_in, string_in}
 use Rattle.ug_print.specs.Items.{id_text, interface_text, string_text}
 use Rattle.ug_print.specs.Words.{attribute_words, label_words, query_words, set_words}
@@ -58,7 +58,7 @@ record IsName (name : List ℕ) (attr : Attr) : Type 0 where
   names : attribute_of name ≡ Some attr
   plain : has_colon name ≡ false
 
-one_told : (name : List ℕ) (ws : List (List ℕ)) (attr : Attr) (query next : Query) → IsName name attr → is_given attr query ≡ false → Reads ws (λ line. Tells line attr query next) → Told (name ∷ ws) (Attributes query next)
+one_told : (name : List ℕ) (ws : List (List ℕ)) (attr : Attr) (query next : Query) → IsName name attr → is_attribute_given attr query ≡ false → Reads ws (λ line. Tells line attr query next) → Told (name ∷ ws) (Attributes query next)
 one_told name ws attr query next n once r = record {
   told = record {
     pieces = word_piece name ∷ r.pieces;
@@ -79,7 +79,7 @@ pub record ValuesFit {X : Type 0} (reads : List ℕ → Token → Option X) (tex
   pub some : 0 < length values.items
   pub each : AllPieces reads text values.items
 
-values_told : {X : Type 0} (reads : List ℕ → Token → Option X) (text : X → List ℕ) (name : List ℕ) (attr : Attr) (put : Option (Values X) → Query) (values : Option (Values X)) → IsName name attr → is_given attr (put None) ≡ false → IfSome values (ValuesFit reads text) → ((line : List ℕ) (values : Values X) (tokens rest : List Token) → IsValue line (reads line) values tokens rest → Tells line attr (put None) (put (Some values)) tokens rest) → Told (attribute_words name text values) (Attributes (put None) (put values))
+values_told : {X : Type 0} (reads : List ℕ → Token → Option X) (text : X → List ℕ) (name : List ℕ) (attr : Attr) (put : Option (Values X) → Query) (values : Option (Values X)) → IsName name attr → is_attribute_given attr (put None) ≡ false → IfSome values (ValuesFit reads text) → ((line : List ℕ) (values : Values X) (tokens rest : List Token) → IsValue line (reads line) values tokens rest → Tells line attr (put None) (put (Some values)) tokens rest) → Told (attribute_words name text values) (Attributes (put None) (put values))
 values_told reads text name attr put None n once fit tells = none_told (put None)
 values_told reads text name attr put (Some values) n once fit tells =
     one_told name (set_words values.op (map text values.items)) attr (put None) (put (Some values)) n once
@@ -93,7 +93,7 @@ text_again text i = record {
   reads = λ line more tokens l a. record { rest = a.rest; is = record { token = a.token; cut = a.cut; says = i.says line a.token a.is }; behind = a.behind };
 }
 
-label_told : (put : Option (List ℕ) → Query) (label : Option (List ℕ)) → is_given attr.Label (put None) ≡ false → IfSome label (λ text. ItemPiece string_in (string_text text) text) → ((line text : List ℕ) (tokens rest : List Token) → IsText text tokens rest → Tells line attr.Label (put None) (put (Some text)) tokens rest) → Told (label_words label) (Attributes (put None) (put label))
+label_told : (put : Option (List ℕ) → Query) (label : Option (List ℕ)) → is_attribute_given attr.Label (put None) ≡ false → IfSome label (λ text. ItemPiece string_in (string_text text) text) → ((line text : List ℕ) (tokens rest : List Token) → IsText text tokens rest → Tells line attr.Label (put None) (put (Some text)) tokens rest) → Told (label_words label) (Attributes (put None) (put label))
 unfolding attribute_of
 label_told put None once fit tells = none_told (put None)
 label_told put (Some text) once fit tells =

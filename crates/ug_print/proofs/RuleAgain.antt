@@ -10,7 +10,7 @@ use Rattle.ug_types.specs.declared.rule.Rule.{Rule}
 use Rattle.ug_types.specs.declared.verdict.Target.{Target}
 use Rattle.ug_types.specs.declared.verdict.Target.TheVariants.{Allow, Block, Reject}
 use Rattle.ug_words.specs.declared.keywords.Attr.{Attr}
-use Rattle.ug_rule.specs.Grammar.{AreAttributes, AreParts, IsConditions, Part, Attribute, If, Says}
+use Rattle.ug_rule.specs.Grammar.{AreAttributes, AreParts, IsConditions, RulePart, Attribute, If, Says}
 use Rattle.ug_words.specs.Keywords.{is_if}
 use Rattle.ug_types.specs.Targets.{target_of, target_word}
 use Rattle.ug_rule.specs.Queries.{no_query}
@@ -40,7 +40,7 @@ record Ends (ws : List (List ℕ)) (query : Query) (conds : Option Conds) : Type
   pieces : List Piece
   cut : CutAll ws pieces
   leads : Leads pieces
-  reads : (line : List ℕ) (tokens : List Token) → ArePieces line pieces tokens → (parts : List Part) × AreParts line parts query None query conds tokens
+  reads : (line : List ℕ) (tokens : List Token) → ArePieces line pieces tokens → (parts : List RulePart) × AreParts line parts query None query conds tokens
 
 conds_end : (query : Query) (conds : Option Conds) → IfSome conds CondsFit → Ends (conds_words conds) query conds
 unfolding is_if
@@ -56,7 +56,7 @@ conds_end query (Some conds) f =
           (If ∷ [], (conds, t.rest, record { word = a.token; more = a.rest; cut = a.cut; names = ap is_if a.is.word; are = t.is }, refl, (refl, refl, t.behind)));
     }
 
-parts_then : (line : List ℕ) (attrs : List Attr) (parts : List Part) (query next all : Query) (conds found : Option Conds) (tokens left : List Token) → AreAttributes line attrs query next tokens left → AreParts line parts next conds all found left → AreParts line (map Attribute attrs ++ parts) query conds all found tokens
+parts_then : (line : List ℕ) (attrs : List Attr) (parts : List RulePart) (query next all : Query) (conds found : Option Conds) (tokens left : List Token) → AreAttributes line attrs query next tokens left → AreParts line parts next conds all found left → AreParts line (map Attribute attrs ++ parts) query conds all found tokens
 parts_then line [] parts query next all conds found tokens left a p = subst (λ (q : Query). AreParts line parts q conds all found tokens) a.0 (subst (λ (t : List Token). AreParts line parts next conds all found t) (sym a.1) p)
 parts_then line (attr ∷ attrs) parts query next all conds found tokens left a p = (a.0, a.1, a.2, parts_then line attrs parts a.0 next all conds found a.1 left a.3 p)
 

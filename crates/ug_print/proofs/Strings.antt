@@ -9,7 +9,7 @@ use Rattle.ug_words.specs.Keywords.{operator_of}
 use Rattle.ug_rule.specs.Tokens.{string_by}
 use Rattle.ug_rule.specs.Values.{string_in}
 use Rattle.ug_print.specs.Bytes.{AreBytes}
-use Rattle.ug_hex.specs.Digits.{hex_two}
+use Rattle.ug_numerals.specs.Digits.{hex_two}
 use Rattle.ug_print.specs.Items.{byte_text, string_text}
 use Rattle.ug_print.proofs.Hexadecimal.{digit_lexed}
 use Rattle.ug_print.proofs.Pieces.{one_string}

@@ -9,9 +9,9 @@ use Rattle.ug_lex.specs.Grammar.{IsWordByte}
 use Rattle.ug_words.specs.declared.words.Clock.{Clock}
 use Rattle.ug_words.specs.declared.words.Clock.TheVariants.{Minute, Second}
 use Rattle.ug_words.specs.declared.words.DaySpan.{DaySpan}
-use Rattle.ug_words.specs.Words.{digits_of, first_second, has_colon_at, last_second, minute_from, minute_of, minute_of_hours, number_of, part_of, past_of, second_from, second_of_minute, seconds_of_time, span_at, span_by_dash, span_from, span_of, span_of_begin, time_at, time_of, up_to, with_digit}
+use Rattle.ug_words.specs.Words.{digits_of, first_second, has_colon_at, last_second, minute_from, minute_of, minute_of_hours, decimal_of, part_of, past_of, second_from, second_of_minute, seconds_of_time, span_at, span_by_dash, span_from, span_of, span_of_begin, time_at, time_of, number_up_to, with_decimal_digit}
 use Rattle.ug_words.proofs.Tests.{by_test}
-use Rattle.ug_print.specs.Items.{time_text, two_digits}
+use Rattle.ug_print.specs.Items.{time_text, two_decimal_digits}
 use Rattle.ug_print.proofs.ConditionsAgain.{WordFor}
 use Rattle.ug_words.proofs.Decimals.{IsDigit, Written, all-append, decimal_read, decimal_written, digit_more, most_number, number_fits}
 use Rattle.ug_print.proofs.Decimals.{digit_byte, digits_word, word_of_bytes}
@@ -20,12 +20,12 @@ use Rattle.ug_print.proofs.Decimals.{digit_byte, digits_word, word_of_bytes}
 
 part_fits : (most : ℕ) (text : List ℕ) (n : ℕ) → part_of most text ≡ Some n → n ≤ most
 unfolding part_of
-part_fits most text n h = elim (by_test (nat_eq (length text) 2) (up_to most (digits_of text)) None (Some n) h) [
+part_fits most text n h = elim (by_test (nat_eq (length text) 2) (number_up_to most (digits_of text)) None (Some n) h) [
   | inl p ↦ by (digits_of text) p.1
   | inr p ↦ let none : ⊥ = cc in absurd none
 ]
   where
-    by : (o : Option ℕ) → up_to most o ≡ Some n → n ≤ most
+    by : (o : Option ℕ) → number_up_to most o ≡ Some n → n ≤ most
     by None h = let none : ⊥ = cc in absurd none
     by (Some m) h = elim (by_test (nat_le m most) (Some m) None (Some n) h) [
       | inl p ↦ let same : m ≡ n = cc in let test : nat_le m most ≡ true = p.0 in grind arith
@@ -108,7 +108,7 @@ span_fits text span h = by_dash (position (nat_eq 45) text) h
 
 past_fits : (text : List ℕ) (n : ℕ) → past_of text ≡ Some n → n ≤ most_number
 unfolding past_of
-past_fits text n h = elim (by_test (has_colon_at 2 text) (seconds_of_time (time_of 99 text)) (number_of text) (Some n) h) [
+past_fits text n h = elim (by_test (has_colon_at 2 text) (seconds_of_time (time_of 99 text)) (decimal_of text) (Some n) h) [
   | inl p ↦ by (time_of 99 text) (λ c e. time_fits 99 text c e) p.1
   | inr p ↦ number_fits text n p.1
 ]
@@ -138,7 +138,7 @@ past_word text seconds h =
     let w : Written seconds (decimal seconds) = decimal_written seconds small in
     record {
       word = word_of_bytes (decimal seconds) (decimal_nonempty seconds small) (digits_word (decimal seconds) w.digits);
-      says = ap (λ (v : Bool). if v then seconds_of_time (time_of 99 (decimal seconds)) else number_of (decimal seconds)) (no_colon 2 (decimal seconds) w.digits) ∙ decimal_read seconds fits;
+      says = ap (λ (v : Bool). if v then seconds_of_time (time_of 99 (decimal seconds)) else decimal_of (decimal seconds)) (no_colon 2 (decimal seconds) w.digits) ∙ decimal_read seconds fits;
     }
 
 -- ---- times that are written
@@ -147,7 +147,7 @@ past_word text seconds h =
 abbrev pair : ℕ → List ℕ
 pair n = (48 + n / 10) ∷ (48 + n % 10) ∷ []
 
-pair_written : (n : ℕ) → n < 100 → two_digits n ≡ pair n
+pair_written : (n : ℕ) → n < 100 → two_decimal_digits n ≡ pair n
 pair_written n h =
     let P : Bool → Type 0 = λ v. nat_lt n 10 ≡ v → (if v then 48 ∷ decimal n else decimal n) ≡ pair n in
     let f : (v : Bool) → P v = λ v. elim v as P [
@@ -168,8 +168,8 @@ pair_read most n h k =
     let a : 0 * 10 + n / 10 ≡ n / 10 = omega arith in
     let b : n / 10 * 10 + n % 10 ≡ n = omega arith in
     let test : nat_le n most ≡ true = grind arith in
-    ap (λ (o : Option ℕ). up_to most (with_digit o (48 + n % 10))) (digit_more 0 (n / 10) (omega (arith, k)) (omega (arith, k)) ∙ ap Some a)
-    ∙ ap (up_to most) (digit_more (n / 10) (n % 10) (omega arith) (omega (arith, k)) ∙ ap Some b)
+    ap (λ (o : Option ℕ). number_up_to most (with_decimal_digit o (48 + n % 10))) (digit_more 0 (n / 10) (omega (arith, k)) (omega (arith, k)) ∙ ap Some a)
+    ∙ ap (number_up_to most) (digit_more (n / 10) (n % 10) (omega arith) (omega (arith, k)) ∙ ap Some b)
     ∙ ap (λ (v : Bool). if v then Some n else None) test
 
 abbrev clock_text : ℕ → ℕ → ℕ → List ℕ
@@ -207,8 +207,8 @@ time_written s l =
     let c : t ≤ 59 = omega arith in
     let sum : h * 3600 + m * 60 + t ≡ s = omega arith in
     let text : time_text s ≡ clock_text h m t =
-    ap (λ (p : List ℕ). p ++ 58 ∷ (two_digits m ++ 58 ∷ two_digits t)) (pair_written h (omega (arith, a)))
-    ∙ (ap (λ (p : List ℕ). pair h ++ 58 ∷ (p ++ 58 ∷ two_digits t)) (pair_written m (omega (arith, b)))
+    ap (λ (p : List ℕ). p ++ 58 ∷ (two_decimal_digits m ++ 58 ∷ two_decimal_digits t)) (pair_written h (omega (arith, a)))
+    ∙ (ap (λ (p : List ℕ). pair h ++ 58 ∷ (p ++ 58 ∷ two_decimal_digits t)) (pair_written m (omega (arith, b)))
     ∙ ap (λ (p : List ℕ). pair h ++ 58 ∷ (pair m ++ 58 ∷ p)) (pair_written t (omega (arith, c)))) in
     subst (TimeWritten s) (sym text) (record {
       bytes = pair_bytes h (58 ∷ (pair m ++ 58 ∷ pair t)) (omega (arith, a)) ((refl, refl), pair_bytes m (58 ∷ pair t) (omega (arith, b)) ((refl, refl), pair_bytes t [] (omega (arith, c)) tt));

@@ -1,6 +1,6 @@
 -- How the values and conditions of a rule are written: usbguard-rules.conf(5).
 use Rattle.std.specs.Prelude.{ℕ, zero, suc, ◌+◌, ◌*◌, ◌/◌, ◌%◌, ◌||◌, ◌&&◌, nat_eq, nat_le, nat_lt, if◌then◌else◌, List, [], ◌∷◌, ◌++◌, Option, None, Some, decimal, flat_map}
-use Rattle.ug_hex.specs.Digits.{hex_two, hex_four}
+use Rattle.ug_numerals.specs.Digits.{hex_two, hex_four}
 use Rattle.ug_types.specs.declared.rule.Id.{Id}
 use Rattle.ug_types.specs.declared.rule.Iface.{Iface}
 
@@ -26,12 +26,14 @@ byte_text b =
 abbrev pub string_text : List ℕ → List ℕ
 string_text text = 34 ∷ (flat_map byte_text text ++ 34 ∷ [])
 
-abbrev pub two_digits : ℕ → List ℕ
-two_digits n = if nat_lt n 10 then 48 ∷ decimal n else decimal n
+abbrev pub two_decimal_digits : ℕ → List ℕ
+two_decimal_digits n = if nat_lt n 10 then 48 ∷ decimal n else decimal n
 
 -- HH:MM:SS, of the seconds of a day
 abbrev pub time_text : ℕ → List ℕ
-time_text s = two_digits (s / 3600) ++ 58 ∷ (two_digits (s / 60 % 60) ++ 58 ∷ two_digits (s % 60))
+time_text s =
+    two_decimal_digits (s / 3600) ++ 58
+    ∷ (two_decimal_digits (s / 60 % 60) ++ 58 ∷ two_decimal_digits (s % 60))
 
 -- the decimal digits of n billionths, up to so many and until nothing is left
 abbrev pub billionths : ℕ → ℕ → List ℕ

@@ -39,11 +39,11 @@ is_alone EqualsOrdered n = false
 abbrev pub opening : Op → ℕ → List (List ℕ)
 opening op n = if is_alone op n then [] else operator_words op ++ codes "{" ∷ []
 
-abbrev pub closing : Op → ℕ → List (List ℕ)
-closing op n = if is_alone op n then [] else codes "}" ∷ []
+abbrev pub closing_brace : Op → ℕ → List (List ℕ)
+closing_brace op n = if is_alone op n then [] else codes "}" ∷ []
 
 abbrev pub set_words : Op → List (List ℕ) → List (List ℕ)
-set_words op items = opening op (length items) ++ items ++ closing op (length items)
+set_words op items = opening op (length items) ++ items ++ closing_brace op (length items)
 
 -- an attribute that is given: its name and its values
 abbrev pub attribute_words : {X : Type 0} → List ℕ → (X → List ℕ) → Option (Values X)

@@ -1,7 +1,7 @@
 // Conditions of rules as text.
 ghost use Rattle.std.specs.Prelude.{◌≡◌, ◌<◌, ◌++◌, ◌∷◌, [], All, IfOk, OnOk, List, codes, decimal, if◌then◌else◌, map};
 ghost use Rattle.ug_print.specs.Bytes.{CondOfBytes, CondsOfBytes, KindOfBytes, QueryOfBytes};
-ghost use Rattle.ug_print.specs.Items.{billionths, past_text, probability_text, time_text, two_digits};
+ghost use Rattle.ug_print.specs.Items.{billionths, past_text, probability_text, time_text, two_decimal_digits};
 ghost use Rattle.ug_print.specs.Words.{cond_text, conds_words, joined, kind_text, query_words};
 
 use crate::sets::{join, put_closing, put_opening, put_query, put_word};
@@ -26,7 +26,7 @@ fn put_decimal(out: &mut Vec<u8>, n: u32) -> Result<(), NoMemory>
 }
 
 fn put_two_digits(out: &mut Vec<u8>, n: u32) -> Result<(), NoMemory>
-    ensures { OnOk result (out.new.items ≡ out.old.items ++ two_digits n) }
+    ensures { OnOk result (out.new.items ≡ out.old.items ++ two_decimal_digits n) }
 {
     if n < 10 {
         out.push(b'0')?;

@@ -6,7 +6,7 @@ ghost use Rattle.ug_rule.specs.Grammar.{WellFormed};
 ghost use Rattle.ug_print.specs.Alike.{IsAlike};
 ghost use Rattle.ug_words.specs.WordGrammar.{id_with};
 ghost use Rattle.ug_print.specs.Bytes.{AreBytes, RuleOfBytes};
-ghost use Rattle.ug_print.specs.Generated.{equals, generated_of, interface_of, interfaces_of, query_of};
+ghost use Rattle.ug_print.specs.Generated.{equals, generated_of, interface_of_triple, interfaces_value, device_query};
 ghost use Rattle.ug_print.specs.Ranges.{RecordInRange, TripleInRange};
 
 use std::alloc::Global;
@@ -55,7 +55,7 @@ fn port_if(alloc: Global, port: &[u8], with_port: bool) -> Result<Option<Values<
 }
 
 fn interface(triple: Triple) -> Iface
-    ensures interface { result ≡ interface_of triple }
+    ensures interface { result ≡ interface_of_triple triple }
     ensures range { TripleInRange triple }
 {
     Iface {
@@ -66,7 +66,7 @@ fn interface(triple: Triple) -> Iface
 }
 
 fn put_interfaces(items: &mut List<Iface>, triples: &[Triple]) -> Result<(), NoMemory>
-    ensures items { OnOk result (items.new ≡ items.old ++ map interface_of triples.now) }
+    ensures items { OnOk result (items.new ≡ items.old ++ map interface_of_triple triples.now) }
     ensures range { OnOk result (All TripleInRange triples.now) }
 {
     for triple in triples {
@@ -76,7 +76,7 @@ fn put_interfaces(items: &mut List<Iface>, triples: &[Triple]) -> Result<(), NoM
 }
 
 fn interfaces(alloc: Global, triples: &[Triple]) -> Result<Option<Values<Iface>>, NoMemory>
-    ensures values { IfOk result (λ values. values ≡ interfaces_of triples.now) }
+    ensures values { IfOk result (λ values. values ≡ interfaces_value triples.now) }
     ensures range { OnOk result (All TripleInRange triples.now) }
 {
     if triples.is_empty() {
@@ -90,9 +90,9 @@ fn interfaces(alloc: Global, triples: &[Triple]) -> Result<Option<Values<Iface>>
     }))
 }
 
-#[tactic(auto, unfolding(crate::specs::Generated::query_of))]
+#[tactic(auto, unfolding(crate::specs::Generated::device_query))]
 fn query(alloc: Global, device: &DeviceRecord, with_port: bool) -> Result<Query, NoMemory>
-    ensures query { IfOk result (λ query. query ≡ query_of device.now with_port) }
+    ensures query { IfOk result (λ query. query ≡ device_query device.now with_port) }
     ensures range { OnOk result (RecordInRange device.now) }
 {
     Ok(Query {

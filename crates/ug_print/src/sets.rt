@@ -2,7 +2,7 @@
 ghost use Rattle.std.specs.Prelude.{◌≡◌, ◌++◌, ◌∷◌, [], All, IfOk, IfSome, OnOk, List, codes, flat_map, length, map};
 ghost use Rattle.ug_print.specs.Bytes.{AreBytes, QueryOfBytes, TextsOfBytes};
 ghost use Rattle.ug_print.specs.Items.{id_text, interface_text, string_text};
-ghost use Rattle.ug_print.specs.Words.{attribute_words, closing, is_alone, joined, label_words, opening, operator_words, query_words, spaced};
+ghost use Rattle.ug_print.specs.Words.{attribute_words, closing_brace, is_alone, joined, label_words, opening, operator_words, query_words, spaced};
 
 use crate::items::{print_id, print_interface, print_string};
 use std::alloc::Global;
@@ -78,7 +78,7 @@ pub fn put_closing(
     op: Op,
     count: usize,
 ) -> Result<(), NoMemory>
-    ensures { OnOk result (words.new ≡ words.old ++ closing op count) }
+    ensures { OnOk result (words.new ≡ words.old ++ closing_brace op count) }
 {
     if stands_alone(op, count) {
         return Ok(());

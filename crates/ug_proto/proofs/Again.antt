@@ -10,11 +10,11 @@ use Rattle.ug_types.specs.declared.verdict.Target.{Target}
 use Rattle.ug_types.specs.declared.verdict.Target.TheVariants as target
 use Rattle.ug_proto.specs.declared.request.Request.{Request}
 use Rattle.ug_proto.specs.declared.request.Request.TheVariants as request
-use Rattle.ug_decimals.specs.Numbers.{number_in}
-use Rattle.ug_proto.specs.Requests.{then_take, or_wrong, behind_next, next_place, next_read, unless_empty, ended, after_number, after_in, kind_in, get_read, set_read, permanence_read, device_read, rule_read, append_read, remove_read, named_read, request_read}
-use Rattle.ug_proto.specs.Splitting.{first_word, behind_word, IsPlainWord, IsRest}
+use Rattle.ug_numerals.specs.Numbers.{number_in}
+use Rattle.ug_proto.specs.Requests.{then_take, or_wrong, behind_next, next_place, next_read, unless_empty, nothing_behind, after_number, after_in, rule_kind_in, get_read, set_read, permanence_read, device_read, rule_at_end, append_read, remove_read, named_read, request_read}
+use Rattle.ug_proto.specs.Splitting.{word_in_front, behind_word, IsPlainWord, IsRest}
 use Rattle.ug_proto.specs.Texts.{permanence_words, kind_word, after_word, request_text, IsAfter, IsRequest}
-use Rattle.ug_decimals.proofs.Numerals.{is_number}
+use Rattle.ug_numerals.proofs.Numerals.{is_number}
 use Rattle.ug_proto.proofs.Numerals.{decimal_plain, decimal_no_end, zero_text}
 use Rattle.ug_proto.proofs.Reading.{read_written}
 use Rattle.ug_proto.proofs.Words.{first_plain, behind_plain}
@@ -32,17 +32,17 @@ plain_again (b ∷ word) h = refl
 
 get_again : (total : ℕ) (name : List ℕ) → IsPlainWord name → get_read total (32 ∷ (name ++ [])) ≡ Ok (request.GetParameter name)
 get_again total name h =
-    ap (λ (o : Result (List ℕ) ℕ). then_take o (λ n. ended total (behind_word (name ++ [])) (request.GetParameter n))) (next_again total name [] unless_empty name h.1 (inl refl) (plain_again name h.0))
-    ∙ ap (λ (l : List ℕ). ended total l (request.GetParameter name)) (behind_plain name [] h.1 (inl refl))
+    ap (λ (o : Result (List ℕ) ℕ). then_take o (λ n. nothing_behind total (behind_word (name ++ [])) (request.GetParameter n))) (next_again total name [] unless_empty name h.1 (inl refl) (plain_again name h.0))
+    ∙ ap (λ (l : List ℕ). nothing_behind total l (request.GetParameter name)) (behind_plain name [] h.1 (inl refl))
 
 set_again : (total : ℕ) (name value : List ℕ) → IsPlainWord name → IsPlainWord value → set_read total (32 ∷ (name ++ 32 ∷ (value ++ []))) ≡ Ok (request.SetParameter name value)
 set_again total name value h k =
     let more : List ℕ = 32 ∷ (value ++ []) in
     let rest : IsRest more = inr (value ++ [], refl) in
-    ap (λ (o : Result (List ℕ) ℕ). then_take o (λ n. then_take (next_read total (behind_word (name ++ more)) unless_empty) (λ v. ended total (behind_next (behind_word (name ++ more))) (request.SetParameter n v)))) (next_again total name more unless_empty name h.1 rest (plain_again name h.0))
-    ∙ ap (λ (l : List ℕ). then_take (next_read total l unless_empty) (λ v. ended total (behind_next l) (request.SetParameter name v))) (behind_plain name more h.1 rest)
-    ∙ ap (λ (o : Result (List ℕ) ℕ). then_take o (λ v. ended total (behind_word (value ++ [])) (request.SetParameter name v))) (next_again total value [] unless_empty value k.1 (inl refl) (plain_again value k.0))
-    ∙ ap (λ (l : List ℕ). ended total l (request.SetParameter name value)) (behind_plain value [] k.1 (inl refl))
+    ap (λ (o : Result (List ℕ) ℕ). then_take o (λ n. then_take (next_read total (behind_word (name ++ more)) unless_empty) (λ v. nothing_behind total (behind_next (behind_word (name ++ more))) (request.SetParameter n v)))) (next_again total name more unless_empty name h.1 rest (plain_again name h.0))
+    ∙ ap (λ (l : List ℕ). then_take (next_read total l unless_empty) (λ v. nothing_behind total (behind_next l) (request.SetParameter name v))) (behind_plain name more h.1 rest)
+    ∙ ap (λ (o : Result (List ℕ) ℕ). then_take o (λ v. nothing_behind total (behind_word (value ++ [])) (request.SetParameter name v))) (next_again total value [] unless_empty value k.1 (inl refl) (plain_again value k.0))
+    ∙ ap (λ (l : List ℕ). nothing_behind total l (request.SetParameter name value)) (behind_plain value [] k.1 (inl refl))
 
 permanence_rest : (permanent : Bool) → IsRest (permanence_words permanent)
 permanence_rest true = inr (codes "permanent", refl)
@@ -61,8 +61,8 @@ device_again total number t permanent h =
 
 remove_again : (total id : ℕ) → id < 2 ^ 64 → remove_read total (32 ∷ (decimal id ++ [])) ≡ Ok (request.RemoveRule id)
 remove_again total id h =
-    ap (λ (o : Result ℕ ℕ). then_take o (λ n. ended total (behind_word (decimal id ++ [])) (request.RemoveRule n))) (next_again total (decimal id) [] number_in id (decimal_plain id h) (inl refl) (is_number (decimal id) id h refl))
-    ∙ ap (λ (l : List ℕ). ended total l (request.RemoveRule id)) (behind_plain (decimal id) [] (decimal_plain id h) (inl refl))
+    ap (λ (o : Result ℕ ℕ). then_take o (λ n. nothing_behind total (behind_word (decimal id ++ [])) (request.RemoveRule n))) (next_again total (decimal id) [] number_in id (decimal_plain id h) (inl refl) (is_number (decimal id) id h refl))
+    ∙ ap (λ (l : List ℕ). nothing_behind total l (request.RemoveRule id)) (behind_plain (decimal id) [] (decimal_plain id h) (inl refl))
 
 not_zero : (n : ℕ) → 0 < n → nat_eq n 0 ≡ false
 not_zero n h = grind (arith, nat_tests)
@@ -89,11 +89,11 @@ after_plain after.End h k = by k
 after_plain after.Front h k = decimal_plain 0 low (subst (λ (l : List ℕ). Has l 32) (sym zero_text) k)
 after_plain (after.Rule id) h k = decimal_plain id h.1 k
 
-kind_again : (permanent : Bool) → kind_in (kind_word permanent) ≡ Some permanent
+kind_again : (permanent : Bool) → rule_kind_in (kind_word permanent) ≡ Some permanent
 kind_again true = refl
 kind_again false = refl
 
-kind_first : (permanent : Bool) (rule : List ℕ) → first_word (kind_word permanent ++ 32 ∷ rule) ≡ kind_word permanent
+kind_first : (permanent : Bool) (rule : List ℕ) → word_in_front (kind_word permanent ++ 32 ∷ rule) ≡ kind_word permanent
 kind_first true rule = refl
 kind_first false rule = refl
 
@@ -101,7 +101,7 @@ kind_behind : (permanent : Bool) (rule : List ℕ) → behind_word (kind_word pe
 kind_behind true rule = refl
 kind_behind false rule = refl
 
-rule_again : (total : ℕ) (rule : List ℕ) (a : After) (permanent : Bool) → rule ≢ [] → rule_read total (32 ∷ rule) a permanent ≡ Ok (request.AppendRule a permanent rule)
+rule_again : (total : ℕ) (rule : List ℕ) (a : After) (permanent : Bool) → rule ≢ [] → rule_at_end total (32 ∷ rule) a permanent ≡ Ok (request.AppendRule a permanent rule)
 rule_again total [] a permanent h = absurd (h refl)
 rule_again total (c ∷ rule) a permanent h = refl
 
@@ -110,11 +110,11 @@ append_again total a permanent rule h k =
     let text : List ℕ = kind_word permanent ++ 32 ∷ rule in
     let more : List ℕ = 32 ∷ text in
     let rest : IsRest more = inr (text, refl) in
-    ap (λ (o : Result After ℕ). then_take o (λ x. then_take (next_read total (behind_word (after_word a ++ more)) kind_in) (λ p. rule_read total (behind_next (behind_word (after_word a ++ more))) x p))) (next_again total (after_word a) more after_in a (after_plain a h) rest (after_again a h))
-    ∙ ap (λ (l : List ℕ). then_take (next_read total l kind_in) (λ p. rule_read total (behind_next l) a p)) (behind_plain (after_word a) more (after_plain a h) rest)
-    ∙ ap (λ (w : List ℕ). then_take (or_wrong (next_place total more) (kind_in w)) (λ p. rule_read total (behind_word text) a p)) (kind_first permanent rule)
-    ∙ ap (λ (o : Option Bool). then_take (or_wrong (next_place total more) o) (λ p. rule_read total (behind_word text) a p)) (kind_again permanent)
-    ∙ ap (λ (l : List ℕ). rule_read total l a permanent) (kind_behind permanent rule)
+    ap (λ (o : Result After ℕ). then_take o (λ x. then_take (next_read total (behind_word (after_word a ++ more)) rule_kind_in) (λ p. rule_at_end total (behind_next (behind_word (after_word a ++ more))) x p))) (next_again total (after_word a) more after_in a (after_plain a h) rest (after_again a h))
+    ∙ ap (λ (l : List ℕ). then_take (next_read total l rule_kind_in) (λ p. rule_at_end total (behind_next l) a p)) (behind_plain (after_word a) more (after_plain a h) rest)
+    ∙ ap (λ (w : List ℕ). then_take (or_wrong (next_place total more) (rule_kind_in w)) (λ p. rule_at_end total (behind_word text) a p)) (kind_first permanent rule)
+    ∙ ap (λ (o : Option Bool). then_take (or_wrong (next_place total more) o) (λ p. rule_at_end total (behind_word text) a p)) (kind_again permanent)
+    ∙ ap (λ (l : List ℕ). rule_at_end total l a permanent) (kind_behind permanent rule)
     ∙ rule_again total rule a permanent k
 
 pub read_again : (r : Request) → IsRequest r → request_read (request_text r) ≡ Ok r

@@ -3,17 +3,17 @@ use Rattle.std.proofs.Common.{◌≡◌, ◌≢◌, ℕ, zero, suc, ◌+◌, ◌
 use Rattle.std.specs.Prelude.{decimal, codes}
 use Rattle.std.proofs.lemmas.List.{append-nil, take-append-drop}
 use Rattle.ug_types.specs.Elements.{Has}
-use Rattle.ug_types.specs.declared.refusal.Refusal.{Refusal}
+use Rattle.ug_refusal.specs.declared.refusal.Refusal.{Refusal}
 use Rattle.ug_proto.specs.declared.reply.Reply.{Reply}
 use Rattle.ug_proto.specs.declared.reply.Reply.TheVariants.{Lines, Refused}
 use Rattle.ug_proto.specs.declared.reply.ReplyFault.{ReplyFault}
 use Rattle.ug_proto.specs.declared.reply.ReplyFault.TheVariants as fault
 use Rattle.ug_proto.specs.declared.scan.Stop.{Stop}
 use Rattle.ug_proto.specs.declared.scan.Stop.TheVariants as stop
-use Rattle.ug_proto.specs.AnswerParts.{IsUnended, AreLinesOf, answer_text, IsAnswer}
+use Rattle.ug_proto.specs.AnswerParts.{IsUnended, AreCountedLines, answer_text, IsAnswer}
 use Rattle.ug_proto.specs.RefusalParts.{number_then, IsNumberIn, refusal_line}
 use Rattle.ug_proto.specs.Replies.{ended_lines, reply_text, AreWholeLines, IsReply}
-use Rattle.ug_types.specs.Refusals.{IsRefusal}
+use Rattle.ug_refusal.specs.Refusals.{IsRefusal}
 use Rattle.ug_proto.specs.ReplyReading.{BeginsWithReply, IsReplyBegun, IsNoReply, ReadsReply}
 use Rattle.ug_proto.specs.Scanning.{IsTextBegun, NeverBecomes, IsTextThen, IsStop}
 use Rattle.ug_proto.proofs.OneReply.{one_reply, refused_first}
@@ -54,7 +54,7 @@ pub count_more : (lines : List (List ℕ)) (line : List ℕ) (n : ℕ) → lengt
 count_more lines line n h = omega (arith, length-append lines (line ∷ []), h)
 
 -- lines of which the next isn't ended
-pub lines_stop : (count i : ℕ) (bytes rest : List ℕ) (lines : List (List ℕ)) (s : Stop) → i < count → AreWholeLines lines → length lines ≡ i → bytes ≡ ended_lines lines ++ rest → IsUnended rest s → IsStop ended_lines (AreLinesOf count) bytes s
+pub lines_stop : (count i : ℕ) (bytes rest : List ℕ) (lines : List (List ℕ)) (s : Stop) → i < count → AreWholeLines lines → length lines ≡ i → bytes ≡ ended_lines lines ++ rest → IsUnended rest s → IsStop ended_lines (AreCountedLines count) bytes s
 lines_stop count i bytes rest lines stop.Short l h k e u =
     let later = empty_lines (count - (i + 1)) in record {
       it = lines ++ rest ∷ later;
@@ -80,16 +80,16 @@ count_stops bytes s h =
       answer_parts (empty_lines n) ∙ ap (λ (m : ℕ). number_then 10 m ++ ended_lines (empty_lines n)) (empty_length n),
     )) h
 
-pub answer_stops : (n : ℕ) (bytes behind : List ℕ) (s : Stop) → n < 2 ^ 64 → bytes ≡ number_then 10 n ++ behind → IsStop ended_lines (AreLinesOf n) behind s → IsStop answer_text IsAnswer bytes s
+pub answer_stops : (n : ℕ) (bytes behind : List ℕ) (s : Stop) → n < 2 ^ 64 → bytes ≡ number_then 10 n ++ behind → IsStop ended_lines (AreCountedLines n) behind s → IsStop answer_text IsAnswer bytes s
 answer_stops n bytes behind s l w h =
-    goes_on answer_text IsAnswer ended_lines (AreLinesOf n) bytes (number_then 10 n) behind s w
+    goes_on answer_text IsAnswer ended_lines (AreCountedLines n) bytes (number_then 10 n) behind s w
     (λ lines more rest c e.
     let same : n ≡ length lines = one_number 10 18446744073709551615 (omega arith) (omega arith) n (length lines) more (ended_lines lines ++ rest) (omega arith, omega (arith, l)) (omega arith, omega (arith, c.1))
     (e ∙ ap (λ (t : List ℕ). t ++ rest) (answer_parts lines) ∙ append_assoc (number_then 10 (length lines)) (ended_lines lines) rest) in
     (lines, (c.0, sym same), answer_parts lines ∙ ap (λ (m : ℕ). number_then 10 m ++ ended_lines lines) (sym same)))
     (λ lines c. (lines, (c.0, omega (arith, c.1, l)), answer_parts lines ∙ ap (λ (m : ℕ). number_then 10 m ++ ended_lines lines) c.1)) h
 
-pub answer_taken : (n : ℕ) (bytes behind rest : List ℕ) (lines : List (List ℕ)) → n < 2 ^ 64 → bytes ≡ number_then 10 n ++ behind → IsTextThen ended_lines (AreLinesOf n) behind lines rest → IsTextThen answer_text IsAnswer bytes lines rest
+pub answer_taken : (n : ℕ) (bytes behind rest : List ℕ) (lines : List (List ℕ)) → n < 2 ^ 64 → bytes ≡ number_then 10 n ++ behind → IsTextThen ended_lines (AreCountedLines n) behind lines rest → IsTextThen answer_text IsAnswer bytes lines rest
 answer_taken n bytes behind rest lines l w h = (
   (h.0.0, omega (arith, h.0.1, l)),
   w ∙ ap (λ (m : ℕ). number_then 10 m ++ behind) (sym h.0.1) ∙ ap (λ (t : List ℕ). number_then 10 (length lines) ++ t) h.1 ∙ sym (append_assoc (number_then 10 (length lines)) (ended_lines lines) rest)

@@ -11,12 +11,12 @@ use Rattle.ug_types.specs.declared.verdict.Target.TheVariants as target
 use Rattle.ug_proto.specs.declared.request.Request.{Request}
 use Rattle.ug_proto.specs.declared.request.Request.TheVariants as request
 use Rattle.ug_proto.specs.BadRequests.{BeginsRequest, FitsBefore, HasWrongWord, IsBadRequest}
-use Rattle.ug_decimals.specs.Numbers.{number_in}
-use Rattle.ug_proto.specs.Requests.{then_take, or_wrong, behind_next, next_place, next_read, unless_empty, ended, after_in, kind_in, permanence_in, get_read, set_read, permanence_read, device_read, rule_read, append_read, remove_read, named_read, request_read}
-use Rattle.ug_proto.specs.Splitting.{first_word, behind_word, IsRest}
+use Rattle.ug_numerals.specs.Numbers.{number_in}
+use Rattle.ug_proto.specs.Requests.{then_take, or_wrong, behind_next, next_place, next_read, unless_empty, nothing_behind, after_in, rule_kind_in, permanence_in, get_read, set_read, permanence_read, device_read, rule_at_end, append_read, remove_read, named_read, request_read}
+use Rattle.ug_proto.specs.Splitting.{word_in_front, behind_word, IsRest}
 use Rattle.ug_proto.specs.Texts.{request_text, IsRequest}
 use Rattle.ug_proto.proofs.Again.{next_again, reads}
-use Rattle.ug_decimals.proofs.Numerals.{is_number}
+use Rattle.ug_numerals.proofs.Numerals.{is_number}
 use Rattle.ug_proto.proofs.Numerals.{zero_text}
 use Rattle.ug_proto.proofs.Reading.{read_written}
 use Rattle.ug_proto.proofs.Words.{whole, no_space, is_rest, first_plain, behind_plain}
@@ -55,16 +55,16 @@ missing line place b e h = inr record {
   at = same_err line place (length line) h e;
 }
 
-wrong_word : (before text : List ℕ) → FitsBefore before → ((more : List ℕ) → IsRest more → (r : Request) → request_read (before ++ (first_word text ++ more)) ≡ Ok r → ⊥) → IsBadRequest (before ++ text) (length before)
+wrong_word : (before text : List ℕ) → FitsBefore before → ((more : List ℕ) → IsRest more → (r : Request) → request_read (before ++ (word_in_front text ++ more)) ≡ Ok r → ⊥) → IsBadRequest (before ++ text) (length before)
 wrong_word before text f never = inl record {
   before = before;
-  word = first_word text;
+  word = word_in_front text;
   behind = behind_word text;
   whole = ap (λ (l : List ℕ). before ++ l) (whole text);
   fits = f;
   plain = no_space text;
   rest = is_rest text;
-  wrong = λ b. never b.more b.rest b.request ((reads _ b.request).1 (sym (append_assoc before (first_word text) b.more) ∙ sym b.whole, b.can));
+  wrong = λ b. never b.more b.rest b.request ((reads _ b.request).1 (sym (append_assoc before (word_in_front text) b.more) ∙ sym b.whole, b.can));
   at = refl;
 }
 
@@ -80,7 +80,7 @@ next_tells : {X : Type 0} (front : List ℕ) (meaning : List ℕ → Option X) (
 next_tells {X} front meaning next b leaves tells text place h = by (meaning word) refl
   where
     word : List ℕ
-    word = first_word text
+    word = word_in_front text
 
     space : List ℕ
     space = front ++ 32 ∷ []
@@ -118,7 +118,7 @@ needs_word {X} front meaning next example r ok tells = record {
       (next_tells front meaning next begins (λ text. leaves (32 ∷ text) (inr (text, refl))) tells);
 }
 
-ends : (front : List ℕ) (r : Request) → TellsPlaces front (λ total rest. ended total rest r)
+ends : (front : List ℕ) (r : Request) → TellsPlaces front (λ total rest. nothing_behind total rest r)
 ends front r = record {
   tells = λ leaves.
       by_rest (IsBadWith front)
@@ -127,7 +127,7 @@ ends front r = record {
 }
 
 get_tells : TellsPlaces (codes "get-parameter") get_read
-get_tells = needs_word (codes "get-parameter") unless_empty (λ name total rest. ended total rest (request.GetParameter name)) (codes "x") (request.GetParameter (codes "x")) (λ total. refl)
+get_tells = needs_word (codes "get-parameter") unless_empty (λ name total rest. nothing_behind total rest (request.GetParameter name)) (codes "x") (request.GetParameter (codes "x")) (λ total. refl)
     (λ word name. ends (codes "get-parameter" ++ 32 ∷ word) (request.GetParameter name))
 
 set_tells : TellsPlaces (codes "set-parameter") set_read
@@ -136,7 +136,7 @@ set_tells = needs_word (codes "set-parameter") unless_empty value (codes "x y") 
     (λ second v. ends ((codes "set-parameter" ++ 32 ∷ word) ++ 32 ∷ second) (request.SetParameter name v)))
   where
     end : List ℕ → List ℕ → Reader
-    end name v total rest = ended total rest (request.SetParameter name v)
+    end name v total rest = nothing_behind total rest (request.SetParameter name v)
 
     value : List ℕ → Reader
     value name total rest = then_take (next_read total rest unless_empty) (λ v. end name v total (behind_next rest))
@@ -146,7 +146,7 @@ permanence_tells front number t = record {
   tells = λ leaves.
       by_rest (IsBadWith front)
       (λ place h. absurd (both (front ++ []) place (request.Device number t false) h (leaves [] (inl refl))))
-      (next_tells front permanence_in (λ permanent total rest. ended total rest (request.Device number t permanent)) (begins_by front [] (request.Device number t false) (inl refl) (leaves [] (inl refl)))
+      (next_tells front permanence_in (λ permanent total rest. nothing_behind total rest (request.Device number t permanent)) (begins_by front [] (request.Device number t false) (inl refl) (leaves [] (inl refl)))
       (λ text. leaves (32 ∷ text) (inr (text, refl))) (λ word permanent. ends (front ++ 32 ∷ word) (request.Device number t permanent)));
 }
 
@@ -159,12 +159,12 @@ device_tells front t = needs_word front number_in (λ number total rest. permane
     (λ word number. permanence_tells (front ++ 32 ∷ word) number t)
 
 remove_tells : TellsPlaces (codes "remove-rule") remove_read
-remove_tells = needs_word (codes "remove-rule") number_in (λ id total rest. ended total rest (request.RemoveRule id)) (codes "0") (request.RemoveRule 0)
-    (λ total. ap (λ (o : Option ℕ). then_take (or_wrong (next_place total (codes " 0")) o) (λ id. ended total [] (request.RemoveRule id))) zero_read)
+remove_tells = needs_word (codes "remove-rule") number_in (λ id total rest. nothing_behind total rest (request.RemoveRule id)) (codes "0") (request.RemoveRule 0)
+    (λ total. ap (λ (o : Option ℕ). then_take (or_wrong (next_place total (codes " 0")) o) (λ id. nothing_behind total [] (request.RemoveRule id))) zero_read)
     (λ word id. ends (codes "remove-rule" ++ 32 ∷ word) (request.RemoveRule id))
 
 -- an empty rule is missing, whether the space before it stands or not
-rule_tells : (front : List ℕ) (a : After) (permanent : Bool) → TellsPlaces front (λ total rest. rule_read total rest a permanent)
+rule_tells : (front : List ℕ) (a : After) (permanent : Bool) → TellsPlaces front (λ total rest. rule_at_end total rest a permanent)
 rule_tells front a permanent = record {
   tells = λ leaves.
       let spaces : List ℕ = 32 ∷ 32 ∷ [] in
@@ -181,14 +181,14 @@ rule_tells front a permanent = record {
 
 append_tells : TellsPlaces (codes "append-rule") append_read
 append_tells = needs_word (codes "append-rule") after_in kind (codes "end permanent x") (request.AppendRule after.End true (codes "x")) (λ total. refl)
-    (λ word a. needs_word (codes "append-rule" ++ 32 ∷ word) kind_in (rule a) (codes "permanent x") (request.AppendRule a true (codes "x")) (λ total. refl)
+    (λ word a. needs_word (codes "append-rule" ++ 32 ∷ word) rule_kind_in (rule a) (codes "permanent x") (request.AppendRule a true (codes "x")) (λ total. refl)
     (λ second permanent. rule_tells ((codes "append-rule" ++ 32 ∷ word) ++ 32 ∷ second) a permanent))
   where
     rule : After → Bool → Reader
-    rule a permanent total rest = rule_read total rest a permanent
+    rule a permanent total rest = rule_at_end total rest a permanent
 
     kind : After → Reader
-    kind a total rest = then_take (next_read total rest kind_in) (λ permanent. rule a permanent total (behind_next rest))
+    kind a total rest = then_take (next_read total rest rule_kind_in) (λ permanent. rule a permanent total (behind_next rest))
 
 no_first : (word : List ℕ) → ¬ Has word 32 → TellsPlaces word (λ total rest. Err 0)
 no_first word plain = record {
@@ -222,12 +222,12 @@ named_tells word plain =
 
 place_read : (line : List ℕ) (place : ℕ) → request_read line ≡ Err place → IsBadRequest line place
 place_read line place h =
-    let leaves : LeavesTo (first_word line) (named_read (first_word line)) = (λ rest i.
-    let n = first_plain (first_word line) rest (no_space line) i in
-    ap (λ (w : List ℕ). named_read w (length (first_word line ++ rest)) (behind_word (first_word line ++ rest))) n
-    ∙ ap (named_read (first_word line) (length (first_word line ++ rest))) (behind_plain (first_word line) rest (no_space line) i)) in
+    let leaves : LeavesTo (word_in_front line) (named_read (word_in_front line)) = (λ rest i.
+    let n = first_plain (word_in_front line) rest (no_space line) i in
+    ap (λ (w : List ℕ). named_read w (length (word_in_front line ++ rest)) (behind_word (word_in_front line ++ rest))) n
+    ∙ ap (named_read (word_in_front line) (length (word_in_front line ++ rest))) (behind_plain (word_in_front line) rest (no_space line) i)) in
     subst (λ (l : List ℕ). IsBadRequest l place) (sym (whole line))
-    ((named_tells (first_word line) (no_space line)).tells leaves (behind_word line) (is_rest line) place (ap request_read (sym (whole line)) ∙ h))
+    ((named_tells (word_in_front line) (no_space line)).tells leaves (behind_word line) (is_rest line) place (ap request_read (sym (whole line)) ∙ h))
 
 -- words in front of words that begin a request begin it too
 begins_front : (words rest : List ℕ) → IsRest rest → BeginsRequest (words ++ rest) → BeginsRequest words

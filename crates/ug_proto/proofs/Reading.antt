@@ -12,11 +12,11 @@ use Rattle.ug_types.specs.declared.verdict.Target.{Target}
 use Rattle.ug_types.specs.declared.verdict.Target.TheVariants as target
 use Rattle.ug_proto.specs.declared.request.Request.{Request}
 use Rattle.ug_proto.specs.declared.request.Request.TheVariants as request
-use Rattle.ug_decimals.specs.Numbers.{number_in}
-use Rattle.ug_proto.specs.Requests.{then_take, or_wrong, behind_next, next_place, next_read, unless_empty, ended, after_number, after_in, kind_in, permanence_in, get_read, set_read, permanence_read, device_read, rule_read, append_read, remove_read, named_read, request_read}
-use Rattle.ug_proto.specs.Splitting.{first_word, behind_word, IsPlainWord, IsRest}
+use Rattle.ug_numerals.specs.Numbers.{number_in}
+use Rattle.ug_proto.specs.Requests.{then_take, or_wrong, behind_next, next_place, next_read, unless_empty, nothing_behind, after_number, after_in, rule_kind_in, permanence_in, get_read, set_read, permanence_read, device_read, rule_at_end, append_read, remove_read, named_read, request_read}
+use Rattle.ug_proto.specs.Splitting.{word_in_front, behind_word, IsPlainWord, IsRest}
 use Rattle.ug_proto.specs.Texts.{device_word, permanence_words, kind_word, after_word, request_text, IsAfter, IsRequest}
-use Rattle.ug_decimals.proofs.Numerals.{number_found}
+use Rattle.ug_numerals.proofs.Numerals.{number_found}
 use Rattle.ug_proto.proofs.Numerals.{zero_text}
 use Rattle.ug_proto.proofs.Words.{whole, no_space, is_rest}
 
@@ -50,14 +50,14 @@ next_found {X} total [] meaning x i h = let none : ⊥ = cc in absurd none
 next_found {X} total (b ∷ text) meaning x (inl e) h = let none : ⊥ = cc in absurd none
 next_found {X} total (b ∷ text) meaning x (inr k) h =
     let space : b ≡ 32 = (let e : b ∷ text ≡ 32 ∷ k.0 = k.1 in cc) in record {
-      word = first_word text;
+      word = word_in_front text;
       is = ap (λ (c : ℕ). c ∷ text) space ∙ ap (λ (l : List ℕ). 32 ∷ l) (whole text);
-      means = meant (next_place total (b ∷ text)) (meaning (first_word text)) x h;
+      means = meant (next_place total (b ∷ text)) (meaning (word_in_front text)) x h;
       plain = no_space text;
       behind = is_rest text;
     }
 
-ended_found : (total : ℕ) (rest : List ℕ) (r s : Request) → ended total rest r ≡ Ok s → (rest ≡ []) × (r ≡ s)
+ended_found : (total : ℕ) (rest : List ℕ) (r s : Request) → nothing_behind total rest r ≡ Ok s → (rest ≡ []) × (r ≡ s)
 ended_found total [] r s h = (refl, same_request r s h)
 ended_found total (b ∷ text) r s h = absurd (not_ok _ s h)
 
@@ -80,7 +80,7 @@ Written word rest r = (word ++ rest ≡ request_text r) × IsRequest r
 get_written : (total : ℕ) (rest : List ℕ) (r : Request) → IsRest rest → get_read total rest ≡ Ok r → Written (codes "get-parameter") rest r
 unfolding request_text
 get_written total rest r i h =
-    let t = taken_ok (next_read total rest unless_empty) (λ name. ended total (behind_next rest) (request.GetParameter name)) r h in
+    let t = taken_ok (next_read total rest unless_empty) (λ name. nothing_behind total (behind_next rest) (request.GetParameter name)) r h in
     let p = plain_word rest t.0 (next_found total rest unless_empty t.0 i t.1) in
     let e = ended_found total (behind_next rest) (request.GetParameter t.0) r t.2 in
     subst (Written (codes "get-parameter") rest) e.1 (
@@ -91,10 +91,10 @@ get_written total rest r i h =
 set_written : (total : ℕ) (rest : List ℕ) (r : Request) → IsRest rest → set_read total rest ≡ Ok r → Written (codes "set-parameter") rest r
 unfolding request_text
 set_written total rest r i h =
-    let t = taken_ok (next_read total rest unless_empty) (λ name. then_take (next_read total (behind_next rest) unless_empty) (λ value. ended total (behind_next (behind_next rest)) (request.SetParameter name value))) r h in
+    let t = taken_ok (next_read total rest unless_empty) (λ name. then_take (next_read total (behind_next rest) unless_empty) (λ value. nothing_behind total (behind_next (behind_next rest)) (request.SetParameter name value))) r h in
     let n = next_found total rest unless_empty t.0 i t.1 in
     let p = plain_word rest t.0 n in
-    let u = taken_ok (next_read total (behind_next rest) unless_empty) (λ value. ended total (behind_next (behind_next rest)) (request.SetParameter t.0 value)) r t.2 in
+    let u = taken_ok (next_read total (behind_next rest) unless_empty) (λ value. nothing_behind total (behind_next (behind_next rest)) (request.SetParameter t.0 value)) r t.2 in
     let q = plain_word (behind_next rest) u.0 (next_found total (behind_next rest) unless_empty u.0 n.behind u.1) in
     let e = ended_found total (behind_next (behind_next rest)) (request.SetParameter t.0 u.0) r u.2 in
     subst (Written (codes "set-parameter") rest) e.1 (
@@ -113,7 +113,7 @@ permanence_written : (total : ℕ) (rest : List ℕ) (number : ℕ) (t : Target)
     → (permanent : Bool) × (rest ≡ permanence_words permanent) × (request.Device number t permanent ≡ r)
 permanence_written total [] number t r i h = (false, refl, same_request (request.Device number t false) r h)
 permanence_written total (b ∷ text) number t r i h =
-    let u = taken_ok (next_read total (b ∷ text) permanence_in) (λ permanent. ended total (behind_word text) (request.Device number t permanent)) r h in
+    let u = taken_ok (next_read total (b ∷ text) permanence_in) (λ permanent. nothing_behind total (behind_word text) (request.Device number t permanent)) r h in
     let n = next_found total (b ∷ text) permanence_in u.0 i u.1 in
     let p = permanent_found n.word u.0 n.means in
     let e = ended_found total (behind_word text) (request.Device number t u.0) r u.2 in (
@@ -134,7 +134,7 @@ device_written t total rest r i h =
       k.1,
     )
 
-kind_found : (word : List ℕ) (permanent : Bool) → kind_in word ≡ Some permanent → word ≡ kind_word permanent
+kind_found : (word : List ℕ) (permanent : Bool) → rule_kind_in word ≡ Some permanent → word ≡ kind_word permanent
 kind_found word permanent h = by (pointwise nat_eq word (codes "permanent")) (pointwise nat_eq word (codes "temporary")) refl refl h
   where
     by : (v u : Bool) → pointwise nat_eq word (codes "permanent") ≡ v → pointwise nat_eq word (codes "temporary") ≡ u → cond v (Some true) (cond u (Some false) None) ≡ Some permanent → word ≡ kind_word permanent
@@ -163,7 +163,7 @@ after_found word a h = by (pointwise nat_eq word (codes "end")) (number_in word)
     by false None e f k = absurd (none-some a k)
     by false (Some n) e f k = id n f (nat_eq n 0) refl k
 
-rule_written : (total : ℕ) (rest : List ℕ) (a : After) (permanent : Bool) (r : Request) → IsRest rest → rule_read total rest a permanent ≡ Ok r
+rule_written : (total : ℕ) (rest : List ℕ) (a : After) (permanent : Bool) (r : Request) → IsRest rest → rule_at_end total rest a permanent ≡ Ok r
     → (rule : List ℕ) × (rest ≡ 32 ∷ rule) × (rule ≢ []) × (request.AppendRule a permanent rule ≡ r)
 rule_written total [] a permanent r i h = absurd (not_ok total r h)
 rule_written total (b ∷ []) a permanent r i h = absurd (not_ok total r h)
@@ -175,11 +175,11 @@ rule_written total (b ∷ c ∷ rule) a permanent r (inr k) h =
 append_written : (total : ℕ) (rest : List ℕ) (r : Request) → IsRest rest → append_read total rest ≡ Ok r → Written (codes "append-rule") rest r
 unfolding request_text
 append_written total rest r i h =
-    let t = taken_ok (next_read total rest after_in) (λ a. then_take (next_read total (behind_next rest) kind_in) (λ permanent. rule_read total (behind_next (behind_next rest)) a permanent)) r h in
+    let t = taken_ok (next_read total rest after_in) (λ a. then_take (next_read total (behind_next rest) rule_kind_in) (λ permanent. rule_at_end total (behind_next (behind_next rest)) a permanent)) r h in
     let n = next_found total rest after_in t.0 i t.1 in
     let p = after_found n.word t.0 n.means in
-    let u = taken_ok (next_read total (behind_next rest) kind_in) (λ permanent. rule_read total (behind_next (behind_next rest)) t.0 permanent) r t.2 in
-    let m = next_found total (behind_next rest) kind_in u.0 n.behind u.1 in
+    let u = taken_ok (next_read total (behind_next rest) rule_kind_in) (λ permanent. rule_at_end total (behind_next (behind_next rest)) t.0 permanent) r t.2 in
+    let m = next_found total (behind_next rest) rule_kind_in u.0 n.behind u.1 in
     let k = kind_found m.word u.0 m.means in
     let w = rule_written total (behind_next (behind_next rest)) t.0 u.0 r m.behind u.2 in
     subst (Written (codes "append-rule") rest) w.3 (
@@ -191,7 +191,7 @@ append_written total rest r i h =
 remove_written : (total : ℕ) (rest : List ℕ) (r : Request) → IsRest rest → remove_read total rest ≡ Ok r → Written (codes "remove-rule") rest r
 unfolding request_text
 remove_written total rest r i h =
-    let t = taken_ok (next_read total rest number_in) (λ id. ended total (behind_next rest) (request.RemoveRule id)) r h in
+    let t = taken_ok (next_read total rest number_in) (λ id. nothing_behind total (behind_next rest) (request.RemoveRule id)) r h in
     let k = numbered rest t.0 (next_found total rest number_in t.0 i t.1) in
     let e = ended_found total (behind_next rest) (request.RemoveRule t.0) r t.2 in
     subst (Written (codes "remove-rule") rest) e.1 (
@@ -199,7 +199,7 @@ remove_written total rest r i h =
       k.1,
     )
 
-alone_written : (word : List ℕ) (s : Request) (total : ℕ) (rest : List ℕ) (r : Request) → word ++ [] ≡ request_text s → IsRequest s → ended total rest s ≡ Ok r → Written word rest r
+alone_written : (word : List ℕ) (s : Request) (total : ℕ) (rest : List ℕ) (r : Request) → word ++ [] ≡ request_text s → IsRequest s → nothing_behind total rest s ≡ Ok r → Written word rest r
 alone_written word s total rest r t w h =
     let e = ended_found total rest s r h in
     subst (Written word rest) e.1 (ap (λ (l : List ℕ). word ++ l) e.0 ∙ t, w)
@@ -228,5 +228,5 @@ named_written word total rest r i h =
 
 pub read_written : (line : List ℕ) (r : Request) → request_read line ≡ Ok r → (line ≡ request_text r) × IsRequest r
 read_written line r h =
-    let n = named_written (first_word line) (length line) (behind_word line) r (is_rest line) h in
+    let n = named_written (word_in_front line) (length line) (behind_word line) r (is_rest line) h in
     (whole line ∙ n.0, n.1)

@@ -7,25 +7,25 @@ use Rattle.ug_types.specs.declared.access.Section.{Section}
 use Rattle.ug_types.specs.declared.access.Section.TheVariants.{Devices}
 use Rattle.ug_types.specs.declared.access.Privilege.{Privilege}
 use Rattle.ug_types.specs.declared.access.Privilege.TheVariants.{Modify}
-use Rattle.ug_types.specs.declared.refusal.Refusal.{Refusal}
-use Rattle.ug_types.specs.declared.refusal.Refusal.TheVariants as refusal
-use Rattle.ug_types.specs.Refusals.{refusal_words, IsRefusal}
+use Rattle.ug_refusal.specs.declared.refusal.Refusal.{Refusal}
+use Rattle.ug_refusal.specs.declared.refusal.Refusal.TheVariants as refusal
+use Rattle.ug_refusal.specs.Refusals.{refusal_words, IsRefusal}
 use Rattle.ug_proto.specs.declared.scan.Stop.{Stop}
-use Rattle.ug_proto.specs.RefusalParts.{number_then, IsNumberIn, named_number, named_numbers, IsPairIn, denial_text, Anything, stands_number, refusal_number, refusal_rest, refusal_line, IsNumbered}
+use Rattle.ug_proto.specs.RefusalParts.{number_then, IsNumberIn, named_number, named_numbers, IsPairIn, denial_text, Anything, stands_number, refusal_number, refusal_rest, refusal_line, HasRefusalNumber}
 use Rattle.ug_proto.specs.Scanning.{IsTextThen, IsStop}
 use Rattle.ug_proto.proofs.RefusalScans.{one_number}
 use Rattle.ug_proto.proofs.Scans.{begins_with, goes_on}
 
 -- what stops at a part stops at the rest of a refusal of that number
 abbrev pub StopsAt : {X : Type 0} → (X → List ℕ) → (X → Type 0) → ℕ → Type 0
-StopsAt part Has_part n = (bytes : List ℕ) (s : Stop) → IsStop part Has_part bytes s → IsStop refusal_rest (IsNumbered n) bytes s
+StopsAt part Has_part n = (bytes : List ℕ) (s : Stop) → IsStop part Has_part bytes s → IsStop refusal_rest (HasRefusalNumber n) bytes s
 
 arm : {X : Type 0} (part : X → List ℕ) (Has_part : X → Type 0) (n : ℕ) (what : X → Refusal)
-    → ((x : X) → Has_part x → IsNumbered n (what x)) → ((x : X) → Has_part x → refusal_rest (what x) ≡ part x)
-    → ((r : Refusal) → IsNumbered n r → (x : X) × Has_part x × (what x ≡ r))
+    → ((x : X) → Has_part x → HasRefusalNumber n (what x)) → ((x : X) → Has_part x → refusal_rest (what x) ≡ part x)
+    → ((r : Refusal) → HasRefusalNumber n r → (x : X) × Has_part x × (what x ≡ r))
     → StopsAt part Has_part n
 arm {X} part Has_part n what f g only bytes s h =
-    goes_on refusal_rest (IsNumbered n) part Has_part bytes [] bytes s refl
+    goes_on refusal_rest (HasRefusalNumber n) part Has_part bytes [] bytes s refl
     (λ r more rest c e. let k = only r c in (k.0, k.1, ap refusal_rest (sym k.2) ∙ g k.0 k.1))
     (λ x k. (what x, f x k, g x k)) h
 
@@ -39,13 +39,13 @@ below : (n : ℕ) → IsNumberIn 0 most n → n < 2 ^ 64
 below n h = omega (arith, h.1)
 
 -- refusals with one number
-with_number : (name : List ℕ) (n : ℕ) (what : ℕ → Refusal) → ((x : ℕ) → x < 2 ^ 64 → IsNumbered n (what x)) → ((x : ℕ) → refusal_rest (what x) ≡ named_number name x)
-    → ((r : Refusal) → IsNumbered n r → (x : ℕ) × (x < 2 ^ 64) × (what x ≡ r)) → StopsAt (named_number name) (IsNumberIn 0 most) n
+with_number : (name : List ℕ) (n : ℕ) (what : ℕ → Refusal) → ((x : ℕ) → x < 2 ^ 64 → HasRefusalNumber n (what x)) → ((x : ℕ) → refusal_rest (what x) ≡ named_number name x)
+    → ((r : Refusal) → HasRefusalNumber n r → (x : ℕ) × (x < 2 ^ 64) × (what x ≡ r)) → StopsAt (named_number name) (IsNumberIn 0 most) n
 with_number name n what f g only =
     arm (named_number name) (IsNumberIn 0 most) n what (λ x k. f x (below x k)) (λ x k. g x) (λ r h. let k = only r h in (k.0, up_to k.0 k.1, k.2))
 
 -- refusals without numbers
-alone : (word : List ℕ) (n : ℕ) (what : Refusal) → IsNumbered n what → refusal_rest what ≡ word → ((r : Refusal) → IsNumbered n r → what ≡ r)
+alone : (word : List ℕ) (n : ℕ) (what : Refusal) → HasRefusalNumber n what → refusal_rest what ≡ word → ((r : Refusal) → HasRefusalNumber n r → what ≡ r)
     → StopsAt {X = Unit {0}} (λ _. word) (λ _. Unit {0}) n
 alone word n what f g only = arm {X = Unit {0}} (λ _. word) (λ _. Unit {0}) n (λ _. what) (λ x k. f) (λ x k. g) (λ r h. (tt, tt, only r h))
 
@@ -53,7 +53,7 @@ pub bad_request : StopsAt (named_number (codes "bad-request ")) (IsNumberIn 0 mo
 unfolding refusal_rest
 bad_request = with_number (codes "bad-request ") 1 refusal.BadRequest (λ x k. (k, refl)) (λ x. refl) only
   where
-    only : (r : Refusal) → IsNumbered 1 r → (x : ℕ) × (x < 2 ^ 64) × (refusal.BadRequest x ≡ r)
+    only : (r : Refusal) → HasRefusalNumber 1 r → (x : ℕ) × (x < 2 ^ 64) × (refusal.BadRequest x ≡ r)
     only (refusal.BadRequest x) h = (x, h.0, refl)
     only r h = absurd (omega (arith, h.1))
 
@@ -61,7 +61,7 @@ pub denied : StopsAt denial_text Anything 2
 unfolding refusal_rest
 denied = arm {X = Section × Privilege} denial_text Anything 2 (λ x. refusal.Denied x.0 x.1) (λ x k. (tt, refl)) (λ x k. refl) only
   where
-    only : (r : Refusal) → IsNumbered 2 r → (x : Section × Privilege) × Unit {0} × (refusal.Denied x.0 x.1 ≡ r)
+    only : (r : Refusal) → HasRefusalNumber 2 r → (x : Section × Privilege) × Unit {0} × (refusal.Denied x.0 x.1 ≡ r)
     only (refusal.Denied section privilege) h = ((section, privilege), tt, refl)
     only r h = absurd (omega (arith, h.1))
 
@@ -69,7 +69,7 @@ pub bad_rule : StopsAt (named_numbers (codes "bad-rule ")) (IsPairIn 255) 3
 unfolding refusal_rest
 bad_rule = arm {X = ℕ × ℕ} (named_numbers (codes "bad-rule ")) (IsPairIn 255) 3 (λ x. refusal.BadRule x.0 x.1) (λ x k. ((omega (arith, k.0.1), below x.1 k.1), refl)) (λ x k. refl) only
   where
-    only : (r : Refusal) → IsNumbered 3 r → (x : ℕ × ℕ) × IsPairIn 255 x × (refusal.BadRule x.0 x.1 ≡ r)
+    only : (r : Refusal) → HasRefusalNumber 3 r → (x : ℕ × ℕ) × IsPairIn 255 x × (refusal.BadRule x.0 x.1 ≡ r)
     only (refusal.BadRule a b) h = ((a, b), ((omega arith, omega (arith, h.0.0)), up_to b h.0.1), refl)
     only r h = absurd (omega (arith, h.1))
 
@@ -77,7 +77,7 @@ pub no_device : StopsAt (named_number (codes "no-device ")) (IsNumberIn 0 most) 
 unfolding refusal_rest
 no_device = with_number (codes "no-device ") 4 refusal.NoDevice (λ x k. (k, refl)) (λ x. refl) only
   where
-    only : (r : Refusal) → IsNumbered 4 r → (x : ℕ) × (x < 2 ^ 64) × (refusal.NoDevice x ≡ r)
+    only : (r : Refusal) → HasRefusalNumber 4 r → (x : ℕ) × (x < 2 ^ 64) × (refusal.NoDevice x ≡ r)
     only (refusal.NoDevice x) h = (x, h.0, refl)
     only r h = absurd (omega (arith, h.1))
 
@@ -85,7 +85,7 @@ pub no_rule : StopsAt (named_number (codes "no-rule ")) (IsNumberIn 0 most) 5
 unfolding refusal_rest
 no_rule = with_number (codes "no-rule ") 5 refusal.NoRule (λ x k. (k, refl)) (λ x. refl) only
   where
-    only : (r : Refusal) → IsNumbered 5 r → (x : ℕ) × (x < 2 ^ 64) × (refusal.NoRule x ≡ r)
+    only : (r : Refusal) → HasRefusalNumber 5 r → (x : ℕ) × (x < 2 ^ 64) × (refusal.NoRule x ≡ r)
     only (refusal.NoRule x) h = (x, h.0, refl)
     only r h = absurd (omega (arith, h.1))
 
@@ -93,7 +93,7 @@ pub bad_parameter : StopsAt {X = Unit {0}} (λ _. codes "bad-parameter\n") (λ _
 unfolding refusal_rest
 bad_parameter = alone (codes "bad-parameter\n") 6 refusal.BadParameter (tt, refl) refl only
   where
-    only : (r : Refusal) → IsNumbered 6 r → refusal.BadParameter ≡ r
+    only : (r : Refusal) → HasRefusalNumber 6 r → refusal.BadParameter ≡ r
     only refusal.BadParameter h = refl
     only r h = absurd (omega (arith, h.1))
 
@@ -101,7 +101,7 @@ pub bad_value : StopsAt {X = Unit {0}} (λ _. codes "bad-value\n") (λ _. Unit {
 unfolding refusal_rest
 bad_value = alone (codes "bad-value\n") 7 refusal.BadValue (tt, refl) refl only
   where
-    only : (r : Refusal) → IsNumbered 7 r → refusal.BadValue ≡ r
+    only : (r : Refusal) → HasRefusalNumber 7 r → refusal.BadValue ≡ r
     only refusal.BadValue h = refl
     only r h = absurd (omega (arith, h.1))
 
@@ -109,7 +109,7 @@ pub malformed_device : StopsAt (named_number (codes "malformed-device ")) (IsNum
 unfolding refusal_rest
 malformed_device = with_number (codes "malformed-device ") 8 refusal.MalformedDevice (λ x k. (k, refl)) (λ x. refl) only
   where
-    only : (r : Refusal) → IsNumbered 8 r → (x : ℕ) × (x < 2 ^ 64) × (refusal.MalformedDevice x ≡ r)
+    only : (r : Refusal) → HasRefusalNumber 8 r → (x : ℕ) × (x < 2 ^ 64) × (refusal.MalformedDevice x ≡ r)
     only (refusal.MalformedDevice x) h = (x, h.0, refl)
     only r h = absurd (omega (arith, h.1))
 
@@ -117,7 +117,7 @@ pub rules_full : StopsAt {X = Unit {0}} (λ _. codes "rules-full\n") (λ _. Unit
 unfolding refusal_rest
 rules_full = alone (codes "rules-full\n") 9 refusal.RulesFull (tt, refl) refl only
   where
-    only : (r : Refusal) → IsNumbered 9 r → refusal.RulesFull ≡ r
+    only : (r : Refusal) → HasRefusalNumber 9 r → refusal.RulesFull ≡ r
     only refusal.RulesFull h = refl
     only r h = absurd (omega (arith, h.1))
 
@@ -125,7 +125,7 @@ pub store_fault : StopsAt (named_number (codes "store-fault ")) (IsNumberIn 0 mo
 unfolding refusal_rest
 store_fault = with_number (codes "store-fault ") 10 refusal.StoreFault (λ x k. (k, refl)) (λ x. refl) only
   where
-    only : (r : Refusal) → IsNumbered 10 r → (x : ℕ) × (x < 2 ^ 64) × (refusal.StoreFault x ≡ r)
+    only : (r : Refusal) → HasRefusalNumber 10 r → (x : ℕ) × (x < 2 ^ 64) × (refusal.StoreFault x ≡ r)
     only (refusal.StoreFault x) h = (x, h.0, refl)
     only r h = absurd (omega (arith, h.1))
 
@@ -133,7 +133,7 @@ pub device_fault : StopsAt (named_numbers (codes "device-fault ")) (IsPairIn mos
 unfolding refusal_rest
 device_fault = arm {X = ℕ × ℕ} (named_numbers (codes "device-fault ")) (IsPairIn most) 11 (λ x. refusal.DeviceFault x.0 x.1) (λ x k. ((below x.0 k.0, below x.1 k.1), refl)) (λ x k. refl) only
   where
-    only : (r : Refusal) → IsNumbered 11 r → (x : ℕ × ℕ) × IsPairIn most x × (refusal.DeviceFault x.0 x.1 ≡ r)
+    only : (r : Refusal) → HasRefusalNumber 11 r → (x : ℕ × ℕ) × IsPairIn most x × (refusal.DeviceFault x.0 x.1 ≡ r)
     only (refusal.DeviceFault a b) h = ((a, b), (up_to a h.0.0, up_to b h.0.1), refl)
     only r h = absurd (omega (arith, h.1))
 
@@ -146,7 +146,7 @@ pub memory : StopsAt (named_number (codes "memory ")) (IsNumberIn 0 1) 12
 unfolding refusal_rest
 memory = arm (named_number (codes "memory ")) (IsNumberIn 0 1) 12 (λ x. refusal.Memory (nat_eq x 1)) (λ x k. (tt, refl)) (λ x k. ap (named_number (codes "memory ")) (stands x k)) only
   where
-    only : (r : Refusal) → IsNumbered 12 r → (x : ℕ) × IsNumberIn 0 1 x × (refusal.Memory (nat_eq x 1) ≡ r)
+    only : (r : Refusal) → HasRefusalNumber 12 r → (x : ℕ) × IsNumberIn 0 1 x × (refusal.Memory (nat_eq x 1) ≡ r)
     only (refusal.Memory false) h = (0, (omega arith, omega arith), refl)
     only (refusal.Memory true) h = (1, (omega arith, omega arith), refl)
     only r h = absurd (omega (arith, h.1))
@@ -155,12 +155,12 @@ pub probe_fault : StopsAt (named_number (codes "probe-fault ")) (IsNumberIn 0 mo
 unfolding refusal_rest
 probe_fault = with_number (codes "probe-fault ") 13 refusal.ProbeFault (λ x k. (k, refl)) (λ x. refl) only
   where
-    only : (r : Refusal) → IsNumbered 13 r → (x : ℕ) × (x < 2 ^ 64) × (refusal.ProbeFault x ≡ r)
+    only : (r : Refusal) → HasRefusalNumber 13 r → (x : ℕ) × (x < 2 ^ 64) × (refusal.ProbeFault x ≡ r)
     only (refusal.ProbeFault x) h = (x, h.0, refl)
     only r h = absurd (omega (arith, h.1))
 
-pub at_number : (n m : ℕ) (bytes : List ℕ) (s : Stop) → n ≡ m → IsStop refusal_rest (IsNumbered m) bytes s → IsStop refusal_rest (IsNumbered n) bytes s
-at_number n m bytes s e h = subst (λ (k : ℕ). IsStop refusal_rest (IsNumbered k) bytes s) (sym e) h
+pub at_number : (n m : ℕ) (bytes : List ℕ) (s : Stop) → n ≡ m → IsStop refusal_rest (HasRefusalNumber m) bytes s → IsStop refusal_rest (HasRefusalNumber n) bytes s
+at_number n m bytes s e h = subst (λ (k : ℕ). IsStop refusal_rest (HasRefusalNumber k) bytes s) (sym e) h
 
 two_digits : (n : ℕ) → 10 ≤ n → n < 100 → decimal n ≡ (48 + n / 10) ∷ (48 + n % 10) ∷ []
 two_digits n l h = decimal_step n l (omega (arith, h)) ∙ ap (λ (ds : List ℕ). ds ++ (48 + n % 10) ∷ []) (decimal_digit (n / 10) (omega (arith, h)))
@@ -231,9 +231,9 @@ number_stops bytes s h =
     (λ r c. (refusal_number r, numbers r, refusal_rest r, refl))
     (λ n k. let r = of_number n k in (r.0, r.1, refusal_rest r.0, ap (λ (m : ℕ). number_then 32 m ++ refusal_rest r.0) r.2)) h
 
-pub rest_stops : (n : ℕ) (bytes behind : List ℕ) (s : Stop) → IsNumberIn 1 13 n → bytes ≡ number_then 32 n ++ behind → IsStop refusal_rest (IsNumbered n) behind s → IsStop refusal_behind IsRefusal bytes s
+pub rest_stops : (n : ℕ) (bytes behind : List ℕ) (s : Stop) → IsNumberIn 1 13 n → bytes ≡ number_then 32 n ++ behind → IsStop refusal_rest (HasRefusalNumber n) behind s → IsStop refusal_behind IsRefusal bytes s
 rest_stops n bytes behind s k w h =
-    goes_on refusal_behind IsRefusal refusal_rest (IsNumbered n) bytes (number_then 32 n) behind s w
+    goes_on refusal_behind IsRefusal refusal_rest (HasRefusalNumber n) bytes (number_then 32 n) behind s w
     (λ r more rest c e.
     let u = numbers r in
     let same : n ≡ refusal_number r = one_number 32 13 (omega arith) (omega arith) n (refusal_number r) more (refusal_rest r ++ rest) (omega arith, k.1) (omega arith, u.1) (e ∙ append_assoc (number_then 32 (refusal_number r)) (refusal_rest r) rest) in
@@ -248,7 +248,7 @@ pub word_stops : (bytes : List ℕ) (s : Stop) → IsStop {X = Unit {0}} (λ _. 
 word_stops bytes s h =
     begins_with refusal_line IsRefusal (λ _. codes "refused ") (λ _. Unit {0}) bytes s (λ r c. (tt, tt, refusal_behind r, line_parts r)) (λ u c. (refusal.BadParameter, tt, refusal_behind refusal.BadParameter, line_parts refusal.BadParameter)) h
 
-pub line_taken : (bytes a b rest : List ℕ) (n : ℕ) (r : Refusal) → bytes ≡ codes "refused " ++ a → a ≡ number_then 32 n ++ b → IsTextThen refusal_rest (IsNumbered n) b r rest → IsTextThen refusal_line IsRefusal bytes r rest
+pub line_taken : (bytes a b rest : List ℕ) (n : ℕ) (r : Refusal) → bytes ≡ codes "refused " ++ a → a ≡ number_then 32 n ++ b → IsTextThen refusal_rest (HasRefusalNumber n) b r rest → IsTextThen refusal_line IsRefusal bytes r rest
 line_taken bytes a b rest n r e f h = (
   h.0.0,
   e ∙ ap (λ (l : List ℕ). codes "refused " ++ l) (f ∙ ap (λ (m : ℕ). number_then 32 m ++ b) (sym h.0.1) ∙ ap (λ (l : List ℕ). number_then 32 (refusal_number r) ++ l) h.1 ∙ sym (append_assoc (number_then 32 (refusal_number r)) (refusal_rest r) rest))

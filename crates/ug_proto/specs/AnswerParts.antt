@@ -11,8 +11,8 @@ IsUnended bytes stop.Short = ¬ Has bytes 10
 IsUnended bytes stop.Bad = ⊥
 IsUnended bytes stop.Memory = Unit {0}
 
-abbrev pub AreLinesOf : ℕ → List (List ℕ) → Type 0
-AreLinesOf count lines = AreWholeLines lines × (length lines ≡ count)
+abbrev pub AreCountedLines : ℕ → List (List ℕ) → Type 0
+AreCountedLines count lines = AreWholeLines lines × (length lines ≡ count)
 
 -- the number of lines, and they
 abbrev pub answer_text : List (List ℕ) → List ℕ

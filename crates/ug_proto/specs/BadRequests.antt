@@ -15,9 +15,11 @@ pub record BeginsRequest (words : List ℕ) : Type 0 where
 
 -- nothing, or words that begin a request, and a space
 abbrev pub FitsBefore : List ℕ → Type 0
-FitsBefore before = (before ≡ []) ⊎ ((words : List ℕ) × (before ≡ words ++ 32 ∷ []) × BeginsRequest words)
+FitsBefore before =
+    (before ≡ []) ⊎ ((words : List ℕ) × (before ≡ words ++ 32 ∷ []) × BeginsRequest words)
 
--- the words before that place begin a request, and no request goes on with the word there, which may be empty
+-- the words before that place begin a request, and no request goes on with the
+-- word there, which may be empty
 pub record HasWrongWord (line : List ℕ) (place : ℕ) : Type 0 where
   pub before : List ℕ
   pub word : List ℕ

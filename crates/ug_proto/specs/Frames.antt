@@ -17,7 +17,11 @@ CanRunOut Out_of_memory = Unit {0}
 
 -- the lines of a piece stand behind those before it
 abbrev pub with_piece : Frames → List ℕ → Frames
-with_piece old piece = record { lines = old.lines ++ lines_ended_in old.begun piece; begun = begun_after old.begun piece }
+with_piece old piece =
+    record {
+      lines = old.lines ++ lines_ended_in old.begun piece;
+      begun = begun_after old.begun piece;
+    }
 
 -- a front of a piece was taken, and then memory ran out
 pub record FeedsPart (old : Frames) (piece : List ℕ) (new : Frames) : Type 0 where

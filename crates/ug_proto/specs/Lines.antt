@@ -1,4 +1,5 @@
--- The lines of a stream. A newline, 10, ends a line and isn't part of it; 65,536 bytes without one end the stream.
+-- The lines of a stream. A newline, 10, ends a line and isn't part of it; 65,536
+-- bytes without one end the stream.
 use Rattle.std.specs.Prelude.{◌≡◌, ℕ, ◌<◌, List, [], ◌∷◌, ◌++◌, nat_eq, nat_lt, if◌then◌else◌, length, flat_map}
 use Rattle.ug_types.specs.Elements.{Has}
 

@@ -8,7 +8,8 @@ use Rattle.ug_proto.specs.Scanning.{IsTextBegun}
 
 -- the first n bytes are the text of that reply
 abbrev pub BeginsWithReply : List ℕ → Reply → ℕ → Type 0
-BeginsWithReply bytes reply n = IsReply reply × (n ≤ length bytes) × (take n bytes ≡ reply_text reply)
+BeginsWithReply bytes reply n =
+    IsReply reply × (n ≤ length bytes) × (take n bytes ≡ reply_text reply)
 
 -- the bytes are a proper prefix of a reply's text
 abbrev pub IsReplyBegun : List ℕ → Type 0
@@ -16,7 +17,8 @@ IsReplyBegun bytes = IsTextBegun reply_text IsReply bytes
 
 -- neither
 abbrev pub IsNoReply : List ℕ → Type 0
-IsNoReply bytes = (¬ IsReplyBegun bytes) × ((reply : Reply) (n : ℕ) → ¬ BeginsWithReply bytes reply n)
+IsNoReply bytes =
+    (¬ IsReplyBegun bytes) × ((reply : Reply) (n : ℕ) → ¬ BeginsWithReply bytes reply n)
 
 -- only want of memory may be told of any bytes
 abbrev pub ReadsReply : List ℕ → Result (Option (Reply × ℕ)) ReplyFault → Type 0

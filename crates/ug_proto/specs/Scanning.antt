@@ -4,7 +4,8 @@ use Rattle.ug_proto.specs.declared.scan.Stop.{Stop}
 use Rattle.ug_proto.specs.declared.scan.Stop.TheVariants as stop
 
 -- the bytes begin the text of a thing, and more of it is to come
-pub record IsTextBegun {X : Type 0} (text_of : X → List ℕ) (Can : X → Type 0) (bytes : List ℕ) : Type 0 where
+pub record IsTextBegun {X : Type 0} (text_of : X → List ℕ) (Can : X → Type 0)
+    (bytes : List ℕ) : Type 0 where
   pub it : X
   pub can : Can it
   pub more : List ℕ
@@ -13,7 +14,8 @@ pub record IsTextBegun {X : Type 0} (text_of : X → List ℕ) (Can : X → Type
 
 -- however the bytes go on, they don't begin with such a text
 abbrev pub NeverBecomes : {X : Type 0} → (X → List ℕ) → (X → Type 0) → List ℕ → Type 0
-NeverBecomes {X} text_of Can bytes = (it : X) (more rest : List ℕ) → Can it → bytes ++ more ≡ text_of it ++ rest → ⊥
+NeverBecomes {X} text_of Can bytes =
+    (it : X) (more rest : List ℕ) → Can it → bytes ++ more ≡ text_of it ++ rest → ⊥
 
 -- the text of that thing stands in front of that rest
 abbrev pub IsTextThen : {X : Type 0} → (X → List ℕ) → (X → Type 0) → List ℕ → X → List ℕ → Type 0

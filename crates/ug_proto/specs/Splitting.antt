@@ -3,9 +3,9 @@ use Rattle.std.specs.Prelude.{◌≡◌, ◌≢◌, ℕ, ◌⊎◌, nat_eq, if�
 use Rattle.ug_types.specs.Elements.{Has}
 
 -- the word that a text begins with, which may be empty
-abbrev pub first_word : List ℕ → List ℕ
-first_word [] = []
-first_word (b ∷ bytes) = if nat_eq b 32 then [] else b ∷ first_word bytes
+abbrev pub word_in_front : List ℕ → List ℕ
+word_in_front [] = []
+word_in_front (b ∷ bytes) = if nat_eq b 32 then [] else b ∷ word_in_front bytes
 
 -- what stands behind that word, from its space on
 abbrev pub behind_word : List ℕ → List ℕ

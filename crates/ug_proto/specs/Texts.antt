@@ -30,9 +30,11 @@ unfoldable pub request_text : Request → List ℕ
 request_text (request.GetParameter name) = codes "get-parameter " ++ name
 request_text (request.SetParameter name value) = codes "set-parameter " ++ (name ++ 32 ∷ value)
 request_text request.ListDevices = codes "list-devices"
-request_text (request.Device number target permanent) = device_word target ++ 32 ∷ (decimal number ++ permanence_words permanent)
+request_text (request.Device number target permanent) =
+    device_word target ++ 32 ∷ (decimal number ++ permanence_words permanent)
 request_text request.ListRules = codes "list-rules"
-request_text (request.AppendRule after permanent rule) = codes "append-rule " ++ (after_word after ++ 32 ∷ (kind_word permanent ++ 32 ∷ rule))
+request_text (request.AppendRule after permanent rule) =
+    codes "append-rule " ++ (after_word after ++ 32 ∷ (kind_word permanent ++ 32 ∷ rule))
 request_text (request.RemoveRule id) = codes "remove-rule " ++ decimal id
 request_text request.Watch = codes "watch"
 

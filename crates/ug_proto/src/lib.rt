@@ -22,4 +22,5 @@ pub use print::{print_reply, print_request};
 pub use read::parse_request;
 pub use reply::{Reply, ReplyFault};
 pub use request::{Request, RequestFault};
-pub use ug_types::{After, Refusal};
+pub use ug_refusal::Refusal;
+pub use ug_types::After;

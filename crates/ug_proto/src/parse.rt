@@ -2,17 +2,18 @@
 ghost use Rattle.std.specs.Prelude.{◌≡◌, ◌++◌, ◌∷◌, [], ◌≤◌, ℕ, List, length, IfOk, IfErr, IfSome, IfNone, codes};
 ghost use Rattle.ug_types.specs.Elements.{Has};
 ghost use Rattle.ug_proto.specs.Scanning.{IsTextThen, IsStop};
-ghost use Rattle.ug_proto.specs.RefusalParts.{IsNumberIn, named_number, named_numbers, IsPairIn, denial_text, refusal_rest, refusal_line, IsNumbered, Anything};
-ghost use Rattle.ug_proto.specs.AnswerParts.{IsUnended, AreLinesOf, answer_text, IsAnswer};
+ghost use Rattle.ug_proto.specs.RefusalParts.{IsNumberIn, named_number, named_numbers, IsPairIn, denial_text, refusal_rest, refusal_line, HasRefusalNumber, Anything};
+ghost use Rattle.ug_proto.specs.AnswerParts.{IsUnended, AreCountedLines, answer_text, IsAnswer};
 ghost use Rattle.ug_proto.specs.Replies.{ended_lines, reply_text, IsReply};
-ghost use Rattle.ug_types.specs.Refusals.{IsRefusal};
+ghost use Rattle.ug_refusal.specs.Refusals.{IsRefusal};
 ghost use Rattle.ug_proto.specs.ReplyReading.{ReadsReply};
 
 use crate::reply::{Reply, ReplyFault};
 use crate::scan::{Stop, split_at, take_number, take_word};
 use crate::spelled::take_spelled;
 use std::alloc::Global;
-use ug_types::{List, Privilege, Refusal, Section, Text};
+use ug_refusal::Refusal;
+use ug_types::{List, Privilege, Section, Text};
 
 const MAX: u64 = 18446744073709551615;
 
@@ -55,8 +56,9 @@ fn take_pair<'a>(text: &'a [u8], name: &[u8], most: u64) -> Result<(u64, u64, &'
 #[tactic(auto, unfolding(crate::specs::RefusalParts::refusal_rest))]
 fn take_numbered(number: u64, text: &[u8]) -> Result<(Refusal, &[u8]), Stop>
     ensures ok { IfOk result
-        (λ p. IsTextThen refusal_rest (IsNumbered number) text.now p.0 p.1.now) }
-    ensures err { IfErr result (λ stop. IsStop refusal_rest (IsNumbered number) text.now stop) }
+        (λ p. IsTextThen refusal_rest (HasRefusalNumber number) text.now p.0 p.1.now) }
+    ensures err { IfErr result (λ stop.
+        IsStop refusal_rest (HasRefusalNumber number) text.now stop) }
 {
     match number {
         1 => {
@@ -141,8 +143,9 @@ fn take_line(alloc: Global, text: &[u8]) -> Result<(Text, &[u8]), Stop>
 }
 
 fn take_lines(alloc: Global, count: u64, text: &[u8]) -> Result<(List<Text>, &[u8]), Stop>
-    ensures ok { IfOk result (λ p. IsTextThen ended_lines (AreLinesOf count) text.now p.0 p.1.now) }
-    ensures err { IfErr result (λ stop. IsStop ended_lines (AreLinesOf count) text.now stop) }
+    ensures ok { IfOk result (λ p.
+        IsTextThen ended_lines (AreCountedLines count) text.now p.0 p.1.now) }
+    ensures err { IfErr result (λ stop. IsStop ended_lines (AreCountedLines count) text.now stop) }
 {
     let mut lines = List::new(alloc);
     let mut rest = text;

@@ -1,6 +1,6 @@
 // Requests and replies as they are written.
 ghost use Rattle.std.specs.Prelude.{◌≡◌, ◌++◌, ◌∷◌, [], IfOk, OnOk, decimal};
-ghost use Rattle.ug_types.specs.Refusals.{refusal_words};
+ghost use Rattle.ug_refusal.specs.Refusals.{refusal_words};
 ghost use Rattle.ug_proto.specs.Texts as texts;
 ghost use Rattle.ug_proto.specs.Texts.{device_word, permanence_words, after_word, request_text};
 ghost use Rattle.ug_proto.specs.Replies.{ended_lines, reply_text};
@@ -9,7 +9,8 @@ use crate::reply::Reply;
 use crate::request::Request;
 use itoa::Buffer;
 use std::alloc::Global;
-use ug_types::{After, NoMemory, Refusal, Target, Text};
+use ug_refusal::Refusal;
+use ug_types::{After, NoMemory, Target, Text};
 
 fn put_number(out: &mut Vec<u8>, number: u64) -> Result<(), NoMemory>
     ensures { OnOk result (out.new.items ≡ out.old.items ++ decimal number) }
@@ -60,7 +61,8 @@ fn put_device(
     target: Target,
     permanent: bool,
 ) -> Result<(), NoMemory>
-    ensures { OnOk result (out.new.items ≡ out.old.items ++ (device_word target ++ 32 ∷ (decimal number ++ permanence_words permanent))) }
+    ensures { OnOk result (out.new.items ≡ out.old.items
+        ++ (device_word target ++ 32 ∷ (decimal number ++ permanence_words permanent))) }
 {
     out.extend_from_slice(word_for_device(target))?;
     out.extend_from_slice(b" ")?;
@@ -69,7 +71,8 @@ fn put_device(
 }
 
 fn put_rule(out: &mut Vec<u8>, after: After, permanent: bool, rule: &[u8]) -> Result<(), NoMemory>
-    ensures { OnOk result (out.new.items ≡ out.old.items ++ (after_word after ++ 32 ∷ (texts.kind_word permanent ++ 32 ∷ rule.now))) }
+    ensures { OnOk result (out.new.items ≡ out.old.items
+        ++ (after_word after ++ 32 ∷ (texts.kind_word permanent ++ 32 ∷ rule.now))) }
 {
     put_after(out, after)?;
     out.extend_from_slice(b" ")?;
@@ -130,7 +133,8 @@ fn put_lines(out: &mut Vec<u8>, lines: &[Text]) -> Result<(), NoMemory>
 }
 
 fn put_refusal(out: &mut Vec<u8>, refusal: &Refusal) -> Result<(), NoMemory>
-    ensures { OnOk result (out.new.items ≡ out.old.items ++ (refusal_words refusal.now ++ 10 ∷ [])) }
+    ensures { OnOk result (out.new.items ≡ out.old.items
+        ++ (refusal_words refusal.now ++ 10 ∷ [])) }
 {
     let words = refusal.words();
     out.extend_from_slice(words.bytes())?;

@@ -1,13 +1,13 @@
 // Requests from their lines.
 ghost use Rattle.std.specs.Prelude.{◌≡◌, ◌≤◌, ◌<◌, IfOk, IfErr, Ok, length};
 ghost use Rattle.ug_proto.specs.Requests as requests;
-ghost use Rattle.ug_proto.specs.Requests.{unless_empty, after_in, kind_in, permanence_in, get_read, set_read, permanence_read, device_read, rule_read, append_read, remove_read, named_read, request_read, IsWrongAt};
-ghost use Rattle.ug_decimals.specs.Numbers.{number_in};
+ghost use Rattle.ug_proto.specs.Requests.{unless_empty, after_in, rule_kind_in, permanence_in, get_read, set_read, permanence_read, device_read, rule_at_end, append_read, remove_read, named_read, request_read, IsWrongAt};
+ghost use Rattle.ug_numerals.specs.Numbers.{number_in};
 
 use crate::request::{Request, RequestFault};
 use crate::split::{behind_word, first_word};
 use std::alloc::Global;
-use ug_decimals::parse_decimal;
+use ug_numerals::parse_decimal;
 use ug_types::{After, Target, Text};
 
 // The next word of a line of that length, of which the rest begins with a space where it isn't empty.
@@ -50,8 +50,10 @@ fn bad_next(total: usize, rest: &[u8]) -> RequestFault
 
 fn next_text(total: usize, rest: &[u8]) -> Result<&[u8], RequestFault>
     requires { length rest.now ≤ total }
-    ensures ok { IfOk result (λ word. requests.next_read total rest.now unless_empty ≡ Ok word.now) }
-    ensures err { IfErr result (λ fault. IsWrongAt fault (requests.next_read total rest.now unless_empty)) }
+    ensures ok { IfOk result (λ word. requests.next_read total rest.now unless_empty
+        ≡ Ok word.now) }
+    ensures err { IfErr result (λ fault.
+        IsWrongAt fault (requests.next_read total rest.now unless_empty)) }
 {
     let word = next_word(total, rest)?;
     if word.is_empty() {
@@ -63,7 +65,8 @@ fn next_text(total: usize, rest: &[u8]) -> Result<&[u8], RequestFault>
 fn next_number(total: usize, rest: &[u8]) -> Result<u64, RequestFault>
     requires { length rest.now ≤ total }
     ensures ok { IfOk result (λ n. requests.next_read total rest.now number_in ≡ Ok n) }
-    ensures err { IfErr result (λ fault. IsWrongAt fault (requests.next_read total rest.now number_in)) }
+    ensures err { IfErr result (λ fault.
+        IsWrongAt fault (requests.next_read total rest.now number_in)) }
 {
     let word = next_word(total, rest)?;
     match parse_decimal(word) {
@@ -89,7 +92,8 @@ fn after(word: &[u8]) -> Option<After>
 fn next_after(total: usize, rest: &[u8]) -> Result<After, RequestFault>
     requires { length rest.now ≤ total }
     ensures ok { IfOk result (λ a. requests.next_read total rest.now after_in ≡ Ok a) }
-    ensures err { IfErr result (λ fault. IsWrongAt fault (requests.next_read total rest.now after_in)) }
+    ensures err { IfErr result (λ fault.
+        IsWrongAt fault (requests.next_read total rest.now after_in)) }
 {
     let word = next_word(total, rest)?;
     match after(word) {
@@ -100,7 +104,7 @@ fn next_after(total: usize, rest: &[u8]) -> Result<After, RequestFault>
 
 // Whether a rule is permanent.
 fn kind(word: &[u8]) -> Option<bool>
-    ensures { result ≡ kind_in word.now }
+    ensures { result ≡ rule_kind_in word.now }
 {
     if word == b"permanent".as_slice() {
         return Some(true);
@@ -113,8 +117,9 @@ fn kind(word: &[u8]) -> Option<bool>
 
 fn next_kind(total: usize, rest: &[u8]) -> Result<bool, RequestFault>
     requires { length rest.now ≤ total }
-    ensures ok { IfOk result (λ k. requests.next_read total rest.now kind_in ≡ Ok k) }
-    ensures err { IfErr result (λ fault. IsWrongAt fault (requests.next_read total rest.now kind_in)) }
+    ensures ok { IfOk result (λ k. requests.next_read total rest.now rule_kind_in ≡ Ok k) }
+    ensures err { IfErr result (λ fault.
+        IsWrongAt fault (requests.next_read total rest.now rule_kind_in)) }
 {
     let word = next_word(total, rest)?;
     match kind(word) {
@@ -125,8 +130,9 @@ fn next_kind(total: usize, rest: &[u8]) -> Result<bool, RequestFault>
 
 fn end(total: usize, rest: &[u8], request: Request) -> Result<Request, RequestFault>
     requires { length rest.now ≤ total }
-    ensures ok { IfOk result (λ r. requests.ended total rest.now request ≡ Ok r) }
-    ensures err { IfErr result (λ fault. IsWrongAt fault (requests.ended total rest.now request)) }
+    ensures ok { IfOk result (λ r. requests.nothing_behind total rest.now request ≡ Ok r) }
+    ensures err { IfErr result (λ fault.
+        IsWrongAt fault (requests.nothing_behind total rest.now request)) }
 {
     if rest.is_empty() {
         return Ok(request);
@@ -166,7 +172,8 @@ fn permanence(
 ) -> Result<Request, RequestFault>
     requires { length rest.now ≤ total }
     ensures ok { IfOk result (λ r. permanence_read total rest.now number target ≡ Ok r) }
-    ensures err { IfErr result (λ fault. IsWrongAt fault (permanence_read total rest.now number target)) }
+    ensures err { IfErr result (λ fault.
+        IsWrongAt fault (permanence_read total rest.now number target)) }
 {
     if rest.is_empty() {
         return Ok(Request::Device {
@@ -205,8 +212,9 @@ fn rule(
     after: After,
     permanent: bool,
 ) -> Result<Request, RequestFault>
-    ensures ok { IfOk result (λ r. rule_read total rest.now after permanent ≡ Ok r) }
-    ensures err { IfErr result (λ fault. IsWrongAt fault (rule_read total rest.now after permanent)) }
+    ensures ok { IfOk result (λ r. rule_at_end total rest.now after permanent ≡ Ok r) }
+    ensures err { IfErr result (λ fault.
+        IsWrongAt fault (rule_at_end total rest.now after permanent)) }
 {
     if rest.len() < 2 {
         return Err(RequestFault::Bad(total as u64));

@@ -1,5 +1,6 @@
 // What a request is answered.
-use ug_types::{List, Refusal, Text};
+use ug_refusal::Refusal;
+use ug_types::{List, Text};
 
 /// A reply.
 #[derive(Drop)]

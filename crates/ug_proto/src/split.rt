@@ -4,7 +4,7 @@ ghost use Rattle.ug_proto.specs.Splitting as splitting;
 
 // How many bytes stand before the first space.
 fn word_length(text: &[u8]) -> usize
-    ensures is { result ≡ length (splitting.first_word text.now) }
+    ensures is { result ≡ length (splitting.word_in_front text.now) }
     ensures within { result ≤ length text.now }
 {
     for (i, byte) in text.iter().enumerate() {
@@ -18,7 +18,7 @@ fn word_length(text: &[u8]) -> usize
 /// The word that the text begins with, which may be empty.
 #[tactic(auto, using(crate::proofs::Words::taken_word))]
 pub fn first_word(text: &[u8]) -> &[u8]
-    ensures { result.now ≡ splitting.first_word text.now }
+    ensures { result.now ≡ splitting.word_in_front text.now }
 {
     &text[..word_length(text)]
 }

@@ -6,22 +6,22 @@ use Rattle.ug_types.specs.declared.record.DeviceRecord.{DeviceRecord}
 use Rattle.ug_types.specs.declared.record.Judged.{Judged}
 use Rattle.ug_types.specs.declared.record.Judged.TheVariants.{Good, Malformed}
 use Rattle.ug_descr.specs.declared.descriptors.Descr.{Descr}
-use Rattle.ug_descr.specs.Reading.{Fault, decoded, triples_of}
+use Rattle.ug_descr.specs.Reading.{PlacedFault, decoded, triples_of}
 use Rattle.ug_hash.specs.Hash.{hash_of}
 
 -- the file without one newline at its end
-abbrev pub text_of : List ℕ → List ℕ
-text_of [] = []
-text_of (b ∷ []) = if nat_eq b 10 then [] else b ∷ []
-text_of (b ∷ c ∷ bytes) = b ∷ text_of (c ∷ bytes)
+abbrev pub without_newline : List ℕ → List ℕ
+without_newline [] = []
+without_newline (b ∷ []) = if nat_eq b 10 then [] else b ∷ []
+without_newline (b ∷ c ∷ bytes) = b ∷ without_newline (c ∷ bytes)
 
 -- the hash of a device, from its files and what its descriptors say
 abbrev pub hash_under : Attrs → Descr → List ℕ
 hash_under attrs descr =
-    hash_of (text_of attrs.product) descr.vendor descr.product
-    (text_of attrs.serial) attrs.descriptors
+    hash_of (without_newline attrs.product) descr.vendor descr.product
+    (without_newline attrs.serial) attrs.descriptors
 
-abbrev pub hash_or_empty : Attrs → Result Descr Fault → List ℕ
+abbrev pub hash_or_empty : Attrs → Result Descr PlacedFault → List ℕ
 hash_or_empty attrs (Ok descr) = hash_under attrs descr
 hash_or_empty attrs (Err fault) = []
 
@@ -41,16 +41,16 @@ abbrev pub record_with : List ℕ → Attrs → List ℕ → Descr → DeviceRec
 record_with name attrs parent_hash descr = record {
   vendor = descr.vendor;
   product = descr.product;
-  serial = text_of attrs.serial;
-  name = text_of attrs.product;
+  serial = without_newline attrs.serial;
+  name = without_newline attrs.product;
   hash = hash_under attrs descr;
   parent_hash = parent_hash;
   via_port = name;
   interfaces = triples_of descr;
-  connect = text_of attrs.connect;
+  connect = without_newline attrs.connect;
 }
 
-abbrev pub judged_by : List ℕ → Attrs → List ℕ → Result Descr Fault → Judged
+abbrev pub judged_by : List ℕ → Attrs → List ℕ → Result Descr PlacedFault → Judged
 judged_by name attrs parent_hash (Ok descr) = Good (record_with name attrs parent_hash descr)
 judged_by name attrs parent_hash (Err fault) = Malformed fault.kind fault.place
 

@@ -1,6 +1,6 @@
 // The text of a file.
 ghost use Rattle.std.specs.Prelude.{◌≡◌, IfOk};
-ghost use Rattle.ug_record.specs.Records.{text_of as file_text};
+ghost use Rattle.ug_record.specs.Records.{without_newline as file_text};
 
 use std::alloc::Global;
 use ug_types::{NoMemory, Text};

@@ -2,8 +2,8 @@
 ghost use Rattle.std.specs.Prelude.{◌≡◌, ℕ, List, [], ◌∷◌, ◌++◌, Bool, true, false, Option, Some, None};
 ghost use Rattle.ug_types.specs.declared.record.Attrs.{Attrs};
 ghost use Rattle.ug_descr.specs.declared.descriptors.Descr.{Descr};
-ghost use Rattle.ug_descr.specs.Grammar.{Good as WellFormed, Bad};
-ghost use Rattle.ug_record.specs.Records.{text_of as file_text, judged_of, judged_under, parent_hash_of, child_hash_of, hash_under, record_with};
+ghost use Rattle.ug_descr.specs.Grammar.{IsWellFormed as WellFormed, IsMalformed};
+ghost use Rattle.ug_record.specs.Records.{without_newline as file_text, judged_of, judged_under, parent_hash_of, child_hash_of, hash_under, record_with};
 
 use ug_types::Judged;
 
@@ -24,7 +24,7 @@ pub fn judged_by_descriptors()
         → judged_of name attrs parent
         ≡ Judged.Good (record_with name attrs (parent_hash_of parent) descr) }
     ensures bad { (name : List ℕ) (attrs : Attrs) (parent : Option Attrs) (kind place : ℕ)
-        → attrs.too_long ≡ false → Bad attrs.descriptors kind place
+        → attrs.too_long ≡ false → IsMalformed attrs.descriptors kind place
         → judged_of name attrs parent ≡ Judged.Malformed kind place }
 {}
 
@@ -34,7 +34,7 @@ pub fn child_hash_by_descriptors()
     ensures too_long { (attrs : Attrs) → child_hash_of attrs true ≡ [] }
     ensures good { (attrs : Attrs) (descr : Descr) → WellFormed attrs.descriptors descr
         → child_hash_of attrs false ≡ hash_under attrs descr }
-    ensures bad { (attrs : Attrs) (kind place : ℕ) → Bad attrs.descriptors kind place
+    ensures bad { (attrs : Attrs) (kind place : ℕ) → IsMalformed attrs.descriptors kind place
         → child_hash_of attrs false ≡ [] }
 {}
 

@@ -11,7 +11,7 @@ use Rattle.ug_rule.specs.declared.queries.Named.{Named}
 use Rattle.ug_rule.specs.Faults.{fault_at, on_ok}
 use Rattle.ug_rule.specs.Grammar.{IsSet, IsValue, IsText, Tells, IsAttribute, AreAttributes, AllAttributes}
 use Rattle.ug_words.specs.Keywords.{attribute_of}
-use Rattle.ug_rule.specs.Queries.{is_given, with_attribute, once, name_by, name_of, attributes_from, attributes_of}
+use Rattle.ug_rule.specs.Queries.{is_attribute_given, with_attribute, attribute_once, name_by, attribute_name_of, attributes_from, attributes_of}
 use Rattle.ug_rule.specs.Tokens.{word_of, first_word}
 use Rattle.ug_rule.specs.Values.{id_in, interface_in, string_in, item_of, value_of, text_of}
 use Rattle.ug_rule.proofs.Attributes.{named_first, ends}
@@ -94,10 +94,10 @@ tells_shorter line attr.Label query next tokens rest t = omega (arith, ap length
 
 -- ---- attributes
 
-named_by_first : (line : List ℕ) (token : Token) (tokens : List Token) (attr : Attr) → attribute_of (word_of line token) ≡ Some attr → name_of line (token ∷ tokens) ≡ (Some (record { attr = attr; place = token.start }), tokens)
+named_by_first : (line : List ℕ) (token : Token) (tokens : List Token) (attr : Attr) → attribute_of (word_of line token) ≡ Some attr → attribute_name_of line (token ∷ tokens) ≡ (Some (record { attr = attr; place = token.start }), tokens)
 named_by_first line token tokens attr e = ap (λ o. name_by o token tokens) e
 
-none_named : (line : List ℕ) (tokens : List Token) → attribute_of (first_word line tokens) ≡ None → name_of line tokens ≡ (None, tokens)
+none_named : (line : List ℕ) (tokens : List Token) → attribute_of (first_word line tokens) ≡ None → attribute_name_of line tokens ≡ (None, tokens)
 none_named line [] e = refl
 none_named line (token ∷ tokens) e = ap (λ o. name_by o token tokens) e
 
@@ -114,7 +114,7 @@ last_told n line ending query all tokens rest h e q =
     let r : tokens ≡ rest = sym (ap (λ p. p.1) s) in
     record { attrs = []; are = (ap (λ p. p.0) s, r); last = ap (λ l. attribute_of (first_word line l)) (sym r) ∙ e }
 
-one_told : (n : ℕ) (line : List ℕ) (ending : Ending) (query next all : Query) (attr : Attr) (token : Token) (tokens left rest : List Token) → AllTold n line ending → length tokens ≤ n → attribute_of (word_of line token) ≡ Some attr → is_given attr query ≡ false → with_attribute line ending attr query tokens ≡ Ok (next, left) → attributes_from n line ending next left ≡ Ok (all, rest) → AllAttributes line query all (token ∷ tokens) rest
+one_told : (n : ℕ) (line : List ℕ) (ending : Ending) (query next all : Query) (attr : Attr) (token : Token) (tokens left rest : List Token) → AllTold n line ending → length tokens ≤ n → attribute_of (word_of line token) ≡ Some attr → is_attribute_given attr query ≡ false → with_attribute line ending attr query tokens ≡ Ok (next, left) → attributes_from n line ending next left ≡ Ok (all, rest) → AllAttributes line query all (token ∷ tokens) rest
 one_told n line ending query next all attr token tokens left rest again h e f w q =
     let t : Tells line attr query next tokens left = attribute_told line ending attr query next tokens left w in
     let a : AllAttributes line next all left rest = again next all left rest (omega (arith, h, tells_shorter line attr query next tokens left t)) q in
@@ -127,8 +127,8 @@ one_told n line ending query next all attr token tokens left rest again h e f w 
 some_told : (n : ℕ) (line : List ℕ) (ending : Ending) (query all : Query) (attr : Attr) (token : Token) (tokens rest : List Token) → AllTold n line ending → length tokens ≤ n → attribute_of (word_of line token) ≡ Some attr → attributes_from (suc n) line ending query (token ∷ tokens) ≡ Ok (all, rest) → AllAttributes line query all (token ∷ tokens) rest
 some_told n line ending query all attr token tokens rest again h e q =
     let named : Named = record { attr = attr; place = token.start } in
-    let s = by_step (once line ending named query tokens) (λ p. attributes_from n line ending p.0 p.1) (all, rest) (sym (named_first n line ending query (token ∷ tokens) tokens named (named_by_first line token tokens attr e)) ∙ q) in
-    elim (by_test (is_given attr query) (Err (fault_at Repeated token.start)) (with_attribute line ending attr query tokens) (Ok s.0) s.1) [
+    let s = by_step (attribute_once line ending named query tokens) (λ p. attributes_from n line ending p.0 p.1) (all, rest) (sym (named_first n line ending query (token ∷ tokens) tokens named (named_by_first line token tokens attr e)) ∙ q) in
+    elim (by_test (is_attribute_given attr query) (Err (fault_at Repeated token.start)) (with_attribute line ending attr query tokens) (Ok s.0) s.1) [
       | inl p ↦ let none : ⊥ = cc in absurd none
       | inr p ↦ one_told n line ending query s.0.0 all attr token tokens s.0.1 rest again h e p.0 p.1 s.2
     ]
@@ -156,8 +156,8 @@ all_read zero line ending (attr ∷ attrs) query all tokens rest h a e = absurd 
 all_read (suc n) line ending (attr ∷ attrs) query all tokens rest h a e =
     let one : IsAttribute line attr query a.0 tokens a.1 = a.2 in
     let named : Named = record { attr = attr; place = one.name.start } in
-    let first : name_of line tokens ≡ (Some named, one.more) = ap (name_of line) one.cut ∙ named_by_first line one.name one.more attr one.names in
-    let given : once line ending named query one.more ≡ Ok (a.0, a.1) = rw one.once (attribute_tells line ending attr query a.0 one.more a.1 one.tells) in
+    let first : attribute_name_of line tokens ≡ (Some named, one.more) = ap (attribute_name_of line) one.cut ∙ named_by_first line one.name one.more attr one.names in
+    let given : attribute_once line ending named query one.more ≡ Ok (a.0, a.1) = rw one.once (attribute_tells line ending attr query a.0 one.more a.1 one.tells) in
     let less : length a.1 ≤ n = omega (arith, h, ap length one.cut, tells_shorter line attr query a.0 one.more a.1 one.tells) in
     named_first n line ending query tokens one.more named first
     ∙ ap (λ r. on_ok r (λ p. attributes_from n line ending p.0 p.1)) given

@@ -8,12 +8,12 @@ use Rattle.ug_types.specs.declared.rule.Op.{Op}
 use Rattle.ug_types.specs.declared.rule.Op.TheVariants.{Equals}
 use Rattle.ug_rule.specs.declared.fault.Ending.{Ending}
 use Rattle.ug_rule.specs.declared.fault.FaultKind.TheVariants.{BadCondition}
-use Rattle.ug_rule.specs.Conditions.{condition_from, conds_from, joined, cond_set_of, set_behind, single_of, conditions_behind, conditions_of}
+use Rattle.ug_rule.specs.Conditions.{condition_from, conds_from, conditions_joined, cond_set_of, set_behind, single_of, conditions_behind, conditions_of}
 use Rattle.ug_rule.specs.Faults.{fault_at, within, on_ok}
 use Rattle.ug_rule.specs.Grammar.{IsCondition, AreConditions, IsCondSet, IsOneCondition, IsOperatorConds, IsConditions}
 use Rattle.ug_words.specs.Keywords.{operator_of}
 use Rattle.ug_rule.specs.Tokens.{word_of, is_open, is_close}
-use Rattle.ug_rule.specs.Values.{filled, brace_of}
+use Rattle.ug_rule.specs.Values.{some_items, brace_of}
 use Rattle.ug_rule.proofs.Cases.{by_step, same_ok}
 use Rattle.ug_words.proofs.Tests.{by_test}
 use Rattle.ug_rule.proofs.CondSets.{behind}
@@ -32,7 +32,7 @@ record Ends (line : List ℕ) (before all : List Cond) (tokens rest : List Token
   is : all ≡ before ++ conds
   some : 0 < length all
 
-filled_ends : (line : List ℕ) (before all : List Cond) (brace : Token) (tokens rest : List Token) → is_close brace.kind ≡ true → filled before brace.start tokens ≡ Ok (all, rest) → Ends line before all (brace ∷ tokens) rest
+filled_ends : (line : List ℕ) (before all : List Cond) (brace : Token) (tokens rest : List Token) → is_close brace.kind ≡ true → some_items before brace.start tokens ≡ Ok (all, rest) → Ends line before all (brace ∷ tokens) rest
 filled_ends line [] all brace tokens rest c h = let none : ⊥ = cc in absurd none
 filled_ends line (cond ∷ before) all brace tokens rest c h =
     let e = same_ok (cond ∷ before, tokens) (all, rest) h in
@@ -61,7 +61,7 @@ unfolding conds_from
 conds_end zero line ending before all [] rest h = let none : ⊥ = cc in absurd none
 conds_end zero line ending before all (token ∷ tokens) rest h = let none : ⊥ = cc in absurd none
 conds_end (suc n) line ending before all [] rest h = let none : ⊥ = cc in absurd none
-conds_end (suc n) line ending before all (token ∷ tokens) rest h = elim (by_test (is_close token.kind) (filled before token.start tokens) (on_ok (condition_from line ending token tokens) (λ p. conds_from n line ending (before ++ p.0 ∷ []) p.1)) (Ok (all, rest)) h) [
+conds_end (suc n) line ending before all (token ∷ tokens) rest h = elim (by_test (is_close token.kind) (some_items before token.start tokens) (on_ok (condition_from line ending token tokens) (λ p. conds_from n line ending (before ++ p.0 ∷ []) p.1)) (Ok (all, rest)) h) [
   | inl p ↦ filled_ends line before all token tokens rest p.0 p.1
   | inr p ↦
       let s = by_step (condition_from line ending token tokens) (λ p. conds_from n line ending (before ++ p.0 ∷ []) p.1) (all, rest) p.1 in
@@ -85,11 +85,11 @@ conds_read (suc n) line ending before (cond ∷ conds) brace tokens rest l a c h
     behind n line ending before tokens r.token r.more r.cut
     ∙ rw r.no_close (rw r.reads (conds_read n line ending (before ++ cond ∷ []) conds brace a.0 rest less a.2 c more ∙ ap (λ l. Ok (l, rest)) all))
 
-set_cut : (line : List ℕ) (ending : Ending) (op : Op) (conds : Conds) (tokens rest : List Token) → cond_set_of line ending op tokens ≡ Ok (conds, rest) → (items : List Cond) × IsCondSet line items tokens rest × (conds ≡ joined op items)
+set_cut : (line : List ℕ) (ending : Ending) (op : Op) (conds : Conds) (tokens rest : List Token) → cond_set_of line ending op tokens ≡ Ok (conds, rest) → (items : List Cond) × IsCondSet line items tokens rest × (conds ≡ conditions_joined op items)
 unfolding cond_set_of
 set_cut line ending op conds tokens rest h =
-    let s = by_step (conds_from (length tokens) line ending [] tokens) (λ p. Ok (joined op p.0, p.1)) (conds, rest) h in
-    let e : (joined op s.0.0, s.0.1) ≡ (conds, rest) = same_ok (joined op s.0.0, s.0.1) (conds, rest) s.2 in
+    let s = by_step (conds_from (length tokens) line ending [] tokens) (λ p. Ok (conditions_joined op p.0, p.1)) (conds, rest) h in
+    let e : (conditions_joined op s.0.0, s.0.1) ≡ (conds, rest) = same_ok (conditions_joined op s.0.0, s.0.1) (conds, rest) s.2 in
     let d : Ends line [] s.0.0 tokens s.0.1 = conds_end (length tokens) line ending [] s.0.0 tokens s.0.1 s.1 in
     let a : AreConditions line d.conds tokens (d.brace ∷ rest) = subst (λ l. AreConditions line d.conds tokens (d.brace ∷ l)) (ap (λ p. p.1) e) d.are in (
       s.0.0,
@@ -97,18 +97,18 @@ set_cut line ending op conds tokens rest h =
       sym (ap (λ p. p.0) e),
     )
 
-set_reads : (line : List ℕ) (ending : Ending) (op : Op) (conds : Conds) (items : List Cond) (tokens rest : List Token) → IsCondSet line items tokens rest → conds ≡ joined op items → cond_set_of line ending op tokens ≡ Ok (conds, rest)
+set_reads : (line : List ℕ) (ending : Ending) (op : Op) (conds : Conds) (items : List Cond) (tokens rest : List Token) → IsCondSet line items tokens rest → conds ≡ conditions_joined op items → cond_set_of line ending op tokens ≡ Ok (conds, rest)
 unfolding cond_set_of
 set_reads line ending op conds items tokens rest s e =
-    ap (λ r. on_ok r (λ p. Ok (joined op p.0, p.1))) (conds_read (length tokens) line ending [] items s.brace tokens rest (omega arith) s.are s.closes s.some)
+    ap (λ r. on_ok r (λ p. Ok (conditions_joined op p.0, p.1))) (conds_read (length tokens) line ending [] items s.brace tokens rest (omega arith) s.are s.closes s.some)
     ∙ ap (λ c. Ok (c, rest)) (sym e)
 
 -- ---- one condition or a set
 
 single_cut : (line : List ℕ) (ending : Ending) (conds : Conds) (token : Token) (tokens rest : List Token) → single_of line ending token tokens ≡ Ok (conds, rest) → IsOneCondition line conds (token ∷ tokens) rest
 single_cut line ending conds token tokens rest h =
-    let s = by_step (condition_from line ending token tokens) (λ p. Ok (joined Equals (p.0 ∷ []), p.1)) (conds, rest) h in
-    let e : (joined Equals (s.0.0 ∷ []), s.0.1) ≡ (conds, rest) = same_ok (joined Equals (s.0.0 ∷ []), s.0.1) (conds, rest) s.2 in
+    let s = by_step (condition_from line ending token tokens) (λ p. Ok (conditions_joined Equals (p.0 ∷ []), p.1)) (conds, rest) h in
+    let e : (conditions_joined Equals (s.0.0 ∷ []), s.0.1) ≡ (conds, rest) = same_ok (conditions_joined Equals (s.0.0 ∷ []), s.0.1) (conds, rest) s.2 in
     record {
       cond = s.0.0;
       one = subst (λ l. IsCondition line s.0.0 (token ∷ tokens) l) (ap (λ p. p.1) e) (condition_cut line ending s.0.0 token tokens s.0.1 s.1);

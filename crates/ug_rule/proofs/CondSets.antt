@@ -10,7 +10,7 @@ use Rattle.ug_rule.specs.declared.fault.Stop.TheVariants.{Bad, Memory}
 use Rattle.ug_rule.specs.Conditions.{condition_from, conds_behind, conds_from}
 use Rattle.ug_rule.specs.Faults.{missing, on_ok}
 use Rattle.ug_rule.specs.Tokens.{is_close, Reads}
-use Rattle.ug_rule.specs.Values.{filled}
+use Rattle.ug_rule.specs.Values.{some_items}
 
 abbrev Walk : Type 0
 Walk = Result (List Cond × List Token) Fault
@@ -23,10 +23,10 @@ behind n line ending conds tokens token rest e = rw e refl
 
 pub closes_here : (n : ℕ) (line : List ℕ) (ending : Ending) (conds : List Cond) (tokens : List Token) (token : Token) (rest : List Token) (read : Walk)
     → tokens ≡ token ∷ rest → length tokens ≤ n → is_close token.kind ≡ true
-    → conds_from n line ending conds tokens ≡ read → filled conds token.start rest ≡ read
+    → conds_from n line ending conds tokens ≡ read → some_items conds token.start rest ≡ read
 closes_here zero line ending conds tokens token rest read e h k q = absurd (omega (arith, h, ap length e))
 closes_here (suc n) line ending conds tokens token rest read e h k q =
-    ap (λ (b : Bool). if b then filled conds token.start rest else on_ok (condition_from line ending token rest) (λ p. conds_from n line ending (conds ++ p.0 ∷ []) p.1)) (sym k)
+    ap (λ (b : Bool). if b then some_items conds token.start rest else on_ok (condition_from line ending token rest) (λ p. conds_from n line ending (conds ++ p.0 ∷ []) p.1)) (sym k)
     ∙ sym (behind n line ending conds tokens token rest e) ∙ q
 
 more_here : (n : ℕ) (line : List ℕ) (ending : Ending) (conds : List Cond) (tokens : List Token) (token : Token) (rest : List Token) (read : Walk)
@@ -34,7 +34,7 @@ more_here : (n : ℕ) (line : List ℕ) (ending : Ending) (conds : List Cond) (t
     → conds_from (suc n) line ending conds tokens ≡ read
     → on_ok (condition_from line ending token rest) (λ p. conds_from n line ending (conds ++ p.0 ∷ []) p.1) ≡ read
 more_here n line ending conds tokens token rest read e k q =
-    ap (λ (b : Bool). if b then filled conds token.start rest else on_ok (condition_from line ending token rest) (λ p. conds_from n line ending (conds ++ p.0 ∷ []) p.1)) (sym k)
+    ap (λ (b : Bool). if b then some_items conds token.start rest else on_ok (condition_from line ending token rest) (λ p. conds_from n line ending (conds ++ p.0 ∷ []) p.1)) (sym k)
     ∙ sym (behind n line ending conds tokens token rest e) ∙ q
 
 pub goes_on : (n : ℕ) (line : List ℕ) (ending : Ending) (conds : List Cond) (tokens : List Token) (token : Token) (rest : List Token) (cond : Cond) (left : List Token) (read : Walk)

@@ -10,11 +10,11 @@ use Rattle.ug_rule.specs.declared.fault.Fault.{Fault}
 use Rattle.ug_rule.specs.declared.fault.FaultKind.TheVariants.{BadCondition, ConditionInQuery}
 use Rattle.ug_words.specs.declared.keywords.CondName.{CondName}
 use Rattle.ug_words.specs.declared.keywords.CondName.TheVariants as name
-use Rattle.ug_rule.specs.Conditions.{next_of, opened, closed, argument_of, perhaps_of, in_span, localtime_of, matches_closed, matches_of, chance_or_half, kind_of, named_of, condition_from}
+use Rattle.ug_rule.specs.Conditions.{next_of, opened, closed, argument_of, perhaps_of, in_span, localtime_of, matches_closed, matches_of, chance_or_half, kind_of, named_condition, condition_from}
 use Rattle.ug_rule.specs.Faults.{fault_at, on_ok, required}
-use Rattle.ug_rule.specs.Grammar.{IsArgument, MayHaveArgument, HasQuery, Argues, IsNamed, IsCondition, IsQueryTo}
+use Rattle.ug_rule.specs.Grammar.{IsArgument, MayHaveArgument, HasQuery, Argues, IsNamedCondition, IsCondition, IsQueryTo}
 use Rattle.ug_words.specs.Keywords.{operator_of, condition_of}
-use Rattle.ug_rule.specs.Queries.{is_blank, query_of, stray}
+use Rattle.ug_rule.specs.Queries.{is_empty_query, query_of, stray}
 use Rattle.ug_rule.specs.Tokens.{word_of, is_open, is_close, is_paren_open, is_paren_close, is_bang}
 use Rattle.ug_words.specs.Words.{span_of, past_of, chance_of}
 use Rattle.ug_rule.proofs.Cases.{by_step, same_ok, by_found}
@@ -90,10 +90,10 @@ localtime_reads line ending kind tokens rest a = rw a.1.cut (rw a.1.opens (rw a.
 
 -- ---- queries in parentheses
 
-matches_closed_cut : (line : List ℕ) (ending : Ending) (query : Query) (kind : CondKind) (tokens rest : List Token) → matches_closed line ending query tokens ≡ Ok (kind, rest) → (closing : Token) × (tokens ≡ closing ∷ rest) × (is_paren_close closing.kind ≡ true) × (is_blank query ≡ false) × (kind ≡ condition.AllowedMatches query)
+matches_closed_cut : (line : List ℕ) (ending : Ending) (query : Query) (kind : CondKind) (tokens rest : List Token) → matches_closed line ending query tokens ≡ Ok (kind, rest) → (closing : Token) × (tokens ≡ closing ∷ rest) × (is_paren_close closing.kind ≡ true) × (is_empty_query query ≡ false) × (kind ≡ condition.AllowedMatches query)
 matches_closed_cut line ending query kind [] rest h = let none : ⊥ = cc in absurd none
-matches_closed_cut line ending query kind (closing ∷ tokens) rest h = elim (by_test (is_paren_close closing.kind) (if is_blank query then Err (fault_at BadCondition closing.start) else Ok (condition.AllowedMatches query, tokens)) (Err (stray ConditionInQuery line closing)) (Ok (kind, rest)) h) [
-  | inl p ↦ elim (by_test (is_blank query) (Err (fault_at BadCondition closing.start)) (Ok (condition.AllowedMatches query, tokens)) (Ok (kind, rest)) p.1) [
+matches_closed_cut line ending query kind (closing ∷ tokens) rest h = elim (by_test (is_paren_close closing.kind) (if is_empty_query query then Err (fault_at BadCondition closing.start) else Ok (condition.AllowedMatches query, tokens)) (Err (stray ConditionInQuery line closing)) (Ok (kind, rest)) h) [
+  | inl p ↦ elim (by_test (is_empty_query query) (Err (fault_at BadCondition closing.start)) (Ok (condition.AllowedMatches query, tokens)) (Ok (kind, rest)) p.1) [
     | inl q ↦ let none : ⊥ = cc in absurd none
     | inr q ↦
         let e : (condition.AllowedMatches query, tokens) ≡ (kind, rest) = same_ok (condition.AllowedMatches query, tokens) (kind, rest) q.1 in
@@ -161,8 +161,8 @@ kind_reads name.False line ending kind tokens rest a = ap (λ k. Ok (k, tokens))
 abbrev pub of_kind : Bool → CondKind → Cond
 of_kind negated kind = record { negated = negated; kind = kind }
 
-named_cut : (line : List ℕ) (ending : Ending) (negated : Bool) (cond : Cond) (token : Token) (tokens rest : List Token) → named_of line ending negated token tokens ≡ Ok (cond, rest) → (kind : CondKind) × IsNamed line kind (token ∷ tokens) rest × (cond ≡ of_kind negated kind)
-unfolding named_of
+named_cut : (line : List ℕ) (ending : Ending) (negated : Bool) (cond : Cond) (token : Token) (tokens rest : List Token) → named_condition line ending negated token tokens ≡ Ok (cond, rest) → (kind : CondKind) × IsNamedCondition line kind (token ∷ tokens) rest × (cond ≡ of_kind negated kind)
+unfolding named_condition
 named_cut line ending negated cond token tokens rest h =
     let s = by_step (required (condition_of (word_of line token)) BadCondition token.start) (λ name. on_ok (kind_of name line ending tokens) (λ p. Ok (of_kind negated p.0, p.1))) (cond, rest) h in
     let t = by_step (kind_of s.0 line ending tokens) (λ p. Ok (of_kind negated p.0, p.1)) (cond, rest) s.2 in
@@ -173,21 +173,21 @@ named_cut line ending negated cond token tokens rest h =
       sym (ap (λ p. p.0) e),
     )
 
-named_reads : (line : List ℕ) (ending : Ending) (negated : Bool) (cond : Cond) (kind : CondKind) (name : CondName) (word : Token) (tokens rest : List Token) → condition_of (word_of line word) ≡ Some name → Argues line name kind tokens rest → cond ≡ of_kind negated kind → named_of line ending negated word tokens ≡ Ok (cond, rest)
-unfolding named_of
+named_reads : (line : List ℕ) (ending : Ending) (negated : Bool) (cond : Cond) (kind : CondKind) (name : CondName) (word : Token) (tokens rest : List Token) → condition_of (word_of line word) ≡ Some name → Argues line name kind tokens rest → cond ≡ of_kind negated kind → named_condition line ending negated word tokens ≡ Ok (cond, rest)
+unfolding named_condition
 named_reads line ending negated cond kind name word tokens rest n a e =
     rw n (ap (λ r. on_ok r (λ p. Ok (of_kind negated p.0, p.1))) (kind_reads name line ending kind tokens rest a) ∙ ap (λ c. Ok (c, rest)) (sym e))
 
 pub condition_cut : (line : List ℕ) (ending : Ending) (cond : Cond) (token : Token) (tokens rest : List Token) → condition_from line ending token tokens ≡ Ok (cond, rest) → IsCondition line cond (token ∷ tokens) rest
 unfolding condition_from
-condition_cut line ending cond token tokens rest h = elim (by_test (is_bang token.kind) (on_ok (next_of ending tokens) (λ p. named_of line ending true p.0 p.1)) (named_of line ending false token tokens) (Ok (cond, rest)) h) [
+condition_cut line ending cond token tokens rest h = elim (by_test (is_bang token.kind) (on_ok (next_of ending tokens) (λ p. named_condition line ending true p.0 p.1)) (named_condition line ending false token tokens) (Ok (cond, rest)) h) [
   | inl p ↦ negated tokens p.0 p.1
   | inr p ↦
       let n = named_cut line ending false cond token tokens rest p.1 in
       inl (record { kind = n.0; named = n.1; is = n.2 })
 ]
   where
-    negated : (tokens : List Token) → is_bang token.kind ≡ true → on_ok (next_of ending tokens) (λ p. named_of line ending true p.0 p.1) ≡ Ok (cond, rest) → IsCondition line cond (token ∷ tokens) rest
+    negated : (tokens : List Token) → is_bang token.kind ≡ true → on_ok (next_of ending tokens) (λ p. named_condition line ending true p.0 p.1) ≡ Ok (cond, rest) → IsCondition line cond (token ∷ tokens) rest
     negated [] b k = let none : ⊥ = cc in absurd none
     negated (word ∷ tokens) b k =
         let n = named_cut line ending true cond word tokens rest k in
@@ -221,7 +221,7 @@ pub record Reads (line : List ℕ) (ending : Ending) (cond : Cond) (tokens rest 
 pub condition_reads : (line : List ℕ) (ending : Ending) (cond : Cond) (tokens rest : List Token) → IsCondition line cond tokens rest → Reads line ending cond tokens rest
 unfolding condition_from
 condition_reads line ending cond tokens rest (inl c) =
-    let n : IsNamed line c.kind tokens rest = c.named in
+    let n : IsNamedCondition line c.kind tokens rest = c.named in
     let plain : is_bang n.word.kind ≡ false = rw (condition_word line n.word n.name n.names) refl in
     record {
       token = n.word;
@@ -234,7 +234,7 @@ condition_reads line ending cond tokens rest (inl c) =
       less = argues_shorter line n.name c.kind n.more rest n.argues;
     }
 condition_reads line ending cond tokens rest (inr c) =
-    let n : IsNamed line c.kind c.more rest = c.named in
+    let n : IsNamedCondition line c.kind c.more rest = c.named in
     record {
       token = c.bang;
       more = c.more;

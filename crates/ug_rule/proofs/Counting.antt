@@ -8,7 +8,7 @@ use Rattle.ug_types.specs.declared.text_fault.TextFault.{TextFault}
 use Rattle.ug_lines.specs.LineReading.{then_on, lines_read, text_read, LeadsTo}
 use Rattle.ug_lines.specs.Lines.{lines_of}
 use Rattle.ug_rule.specs.declared.fault.Fault.{Fault}
-use Rattle.ug_rule.specs.Files.{line_read, added, adding_line, counted, counting_line, file_read, IsCount}
+use Rattle.ug_rule.specs.Files.{line_read, added, adding_line, rules_counted, counting_line, file_read, IsCount}
 
 abbrev Rules : Type 0
 Rules = Result (List Rule) TextFault
@@ -17,7 +17,7 @@ abbrev lengths : Rules → Result ℕ TextFault
 lengths (Ok rules) = Ok (length rules)
 lengths (Err fault) = Err fault
 
-one_counted : (number : ℕ) (rules : List Rule) (read : Result (Option Rule) Fault) → counted number (length rules) read ≡ lengths (added number rules read)
+one_counted : (number : ℕ) (rules : List Rule) (read : Result (Option Rule) Fault) → rules_counted number (length rules) read ≡ lengths (added number rules read)
 one_counted number rules (Ok None) = refl
 one_counted number rules (Ok (Some rule)) = ap (λ (n : ℕ). Ok n) (sym (length-append rules (rule ∷ [])))
 one_counted number rules (Err fault) = refl

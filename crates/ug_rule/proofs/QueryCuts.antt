@@ -7,7 +7,7 @@ use Rattle.ug_rule.specs.declared.fault.Ending.{Ending}
 use Rattle.ug_rule.specs.declared.fault.FaultKind.TheVariants.{BadValue}
 use Rattle.ug_words.specs.declared.keywords.Attr.{Attr}
 use Rattle.ug_rule.specs.Faults.{on_ok}
-use Rattle.ug_rule.specs.Grammar.{AreAttributes, AllAttributes, Begins, IsQueryTo}
+use Rattle.ug_rule.specs.Grammar.{AreAttributes, AllAttributes, BeginsQuery, IsQueryTo}
 use Rattle.ug_words.specs.Keywords.{attribute_of}
 use Rattle.ug_rule.specs.Queries.{no_query, has_colon, id_query, attributes_of, bare_at, bare_of, query_of}
 use Rattle.ug_rule.specs.Tokens.{word_of, first_word}
@@ -18,7 +18,7 @@ use Rattle.ug_words.proofs.Tests.{by_test}
 
 -- ---- the id in front
 
-bare_at_cut : (line : List ℕ) (query : Query) (token : Token) (tokens rest : List Token) → has_colon (word_of line token) ≡ true → bare_at line (token ∷ tokens) ≡ Ok (query, rest) → Begins line query (token ∷ tokens) rest
+bare_at_cut : (line : List ℕ) (query : Query) (token : Token) (tokens rest : List Token) → has_colon (word_of line token) ≡ true → bare_at line (token ∷ tokens) ≡ Ok (query, rest) → BeginsQuery line query (token ∷ tokens) rest
 bare_at_cut line query token tokens rest c h =
     let s = by_step (single_of (id_in line) token tokens) (λ p. Ok (id_query p.0, p.1)) (query, rest) h in
     let t = by_step (item_of (id_in line) token) (λ item. Ok (valued Equals (item ∷ []), tokens)) s.0 s.1 in
@@ -33,7 +33,7 @@ bare_at_cut line query token tokens rest c h =
       is = sym (ap (λ p. p.0) e) ∙ ap (λ p. id_query p.0) (sym values);
     })
 
-pub bare_cut : (line : List ℕ) (query : Query) (tokens rest : List Token) → bare_of line tokens ≡ Ok (query, rest) → Begins line query tokens rest
+pub bare_cut : (line : List ℕ) (query : Query) (tokens rest : List Token) → bare_of line tokens ≡ Ok (query, rest) → BeginsQuery line query tokens rest
 unfolding bare_of
 bare_cut line query [] rest h =
     let e : (no_query, []) ≡ (query, rest) = same_ok (no_query, []) (query, rest) h in
@@ -45,7 +45,7 @@ bare_cut line query (token ∷ tokens) rest h = elim (by_test (has_colon (word_o
       inr (p.0, sym (ap (λ p. p.0) e), ap (λ p. p.1) e)
 ]
 
-pub bare_reads : (line : List ℕ) (query : Query) (tokens rest : List Token) → Begins line query tokens rest → bare_of line tokens ≡ Ok (query, rest)
+pub bare_reads : (line : List ℕ) (query : Query) (tokens rest : List Token) → BeginsQuery line query tokens rest → bare_of line tokens ≡ Ok (query, rest)
 unfolding bare_of
 bare_reads line query tokens rest (inl b) = rw b.cut (rw b.colon (rw b.says (ap (λ q. Ok (q, rest)) (sym b.is))))
 bare_reads line query tokens rest (inr b) = rw b.0 (ap (λ q. Ok (q, tokens)) (sym b.1) ∙ ap (λ l. Ok (query, l)) b.2)
@@ -72,7 +72,7 @@ attributes_shorter line [] query all tokens rest a = omega (arith, ap length a.1
 attributes_shorter line (attr ∷ attrs) query all tokens rest a =
     omega (arith, ap length a.2.cut, tells_shorter line attr query a.0 a.2.more a.1 a.2.tells, attributes_shorter line attrs a.0 all a.1 rest a.3)
 
-begins_shorter : (line : List ℕ) (query : Query) (tokens rest : List Token) → Begins line query tokens rest → length rest ≤ length tokens
+begins_shorter : (line : List ℕ) (query : Query) (tokens rest : List Token) → BeginsQuery line query tokens rest → length rest ≤ length tokens
 begins_shorter line query tokens rest (inl b) = omega (arith, ap length b.cut)
 begins_shorter line query tokens rest (inr b) = omega (arith, ap length b.2)
 

@@ -13,10 +13,10 @@ use Rattle.ug_rule.specs.declared.fault.FaultKind.TheVariants.{NoTarget, BadValu
 use Rattle.ug_words.specs.declared.keywords.Attr.{Attr}
 use Rattle.ug_rule.specs.Conditions.{conditions_of}
 use Rattle.ug_rule.specs.Faults.{missing, on_ok, required}
-use Rattle.ug_rule.specs.Grammar.{AreAttributes, AllAttributes, IsConditions, IsQuery, IsQueryTo, IsIf, Part, Attribute, If, AreParts, IsRule, Says, Asks, WellFormed}
+use Rattle.ug_rule.specs.Grammar.{AreAttributes, AllAttributes, IsConditions, IsQuery, IsQueryTo, IsIf, RulePart, Attribute, If, AreParts, IsRule, Says, Asks, WellFormed}
 use Rattle.ug_words.specs.Keywords.{attribute_of, is_if}
 use Rattle.ug_types.specs.Targets.{target_of}
-use Rattle.ug_rule.specs.Queries.{attributes_of, query_of, query_ends, is_blank}
+use Rattle.ug_rule.specs.Queries.{attributes_of, query_of, query_ends, is_empty_query}
 use Rattle.ug_rule.specs.Rules.{end_of, some_conds, conds_of, rule_ends, parts_of, rule_of, rule_read, whole_query, query_read}
 use Rattle.ug_rule.specs.Tokens.{word_of, first_word, read_by, tokens_read}
 use Rattle.ug_rule.proofs.AttributeCuts.{attributes_cut, attributes_read, no_word}
@@ -28,9 +28,9 @@ use Rattle.ug_rule.proofs.QueryCuts.{query_cut, query_reads}
 
 -- ---- queries
 
-ends_cut : (line : List ℕ) (ending : Ending) (query all : Query) (tokens : List Token) → query_ends line ending query tokens ≡ Ok all → (tokens ≡ []) × (query ≡ all) × (is_blank query ≡ false)
+ends_cut : (line : List ℕ) (ending : Ending) (query all : Query) (tokens : List Token) → query_ends line ending query tokens ≡ Ok all → (tokens ≡ []) × (query ≡ all) × (is_empty_query query ≡ false)
 ends_cut line ending query all (token ∷ tokens) h = let none : ⊥ = cc in absurd none
-ends_cut line ending query all [] h = elim (by_test (is_blank query) (Err (missing BadValue ending)) (Ok query) (Ok all) h) [
+ends_cut line ending query all [] h = elim (by_test (is_empty_query query) (Err (missing BadValue ending)) (Ok query) (Ok all) h) [
   | inl p ↦ let none : ⊥ = cc in absurd none
   | inr p ↦ (refl, same_ok query all p.1, p.0)
 ]
@@ -41,7 +41,7 @@ whole_cut line query tokens h =
     let s = by_step (query_of line (end_of line) tokens) (λ p. query_ends line (end_of line) p.0 p.1) query h in
     let q = query_cut line (end_of line) s.0.0 tokens s.0.1 s.1 in
     let e = ends_cut line (end_of line) s.0.0 query s.0.1 s.2 in
-    (subst (λ q. IsQueryTo line q tokens []) e.1 (subst (λ l. IsQueryTo line s.0.0 tokens l) e.0 q.0), subst (λ q. is_blank q ≡ false) e.1 e.2)
+    (subst (λ q. IsQueryTo line q tokens []) e.1 (subst (λ l. IsQueryTo line s.0.0 tokens l) e.0 q.0), subst (λ q. is_empty_query q ≡ false) e.1 e.2)
 
 pub whole_reads : (line : List ℕ) (query : Query) (tokens : List Token) → IsQuery line query tokens → whole_query line tokens ≡ Ok query
 unfolding whole_query
@@ -78,7 +78,7 @@ none_reads line ending = refl
 -- ---- parts in any order
 
 abbrev SomeParts : List ℕ → Query → Option Conds → Query → Option Conds → List Token → Type 0
-SomeParts line query conds all found tokens = (parts : List Part) × AreParts line parts query conds all found tokens
+SomeParts line query conds all found tokens = (parts : List RulePart) × AreParts line parts query conds all found tokens
 
 attributes_first : (line : List ℕ) (attrs : List Attr) (query next all : Query) (conds found : Option Conds) (tokens left : List Token) → AreAttributes line attrs query next tokens left → SomeParts line next conds all found left → SomeParts line query conds all found tokens
 attributes_first line [] query next all conds found tokens left a p =
@@ -100,7 +100,7 @@ behind_cut line ending query all found tokens rest h k =
     ]
 
 -- no second `if`
-only_attributes : (line : List ℕ) (parts : List Part) (query all : Query) (conds : Conds) (found : Option Conds) (tokens : List Token) → AreParts line parts query (Some conds) all found tokens → (attrs : List Attr) × AreAttributes line attrs query all tokens [] × (found ≡ Some conds)
+only_attributes : (line : List ℕ) (parts : List RulePart) (query all : Query) (conds : Conds) (found : Option Conds) (tokens : List Token) → AreParts line parts query (Some conds) all found tokens → (attrs : List Attr) × AreAttributes line attrs query all tokens [] × (found ≡ Some conds)
 only_attributes line [] query all conds found tokens a = ([], (a.0, a.2), a.1)
 only_attributes line (Attribute attr ∷ parts) query all conds found tokens a =
     let r = only_attributes line parts a.0 all conds found a.1 a.3 in
@@ -130,7 +130,7 @@ none_left line ending query all found tokens q f t = record {
   more = attributes_read line ending all all [] [] (record { attrs = []; are = (refl, refl); last = no_word line });
 }
 
-if_left : (line : List ℕ) (ending : Ending) (query all : Query) (conds : Conds) (found : Option Conds) (parts : List Part) (tokens rest : List Token) → IsIf line conds tokens rest → AreParts line parts query (Some conds) all found rest → Read line ending query all found tokens
+if_left : (line : List ℕ) (ending : Ending) (query all : Query) (conds : Conds) (found : Option Conds) (parts : List RulePart) (tokens rest : List Token) → IsIf line conds tokens rest → AreParts line parts query (Some conds) all found rest → Read line ending query all found tokens
 if_left line ending query all conds found parts tokens rest i p =
     let a = only_attributes line parts query all conds found rest p in
     record {
@@ -144,7 +144,7 @@ if_left line ending query all conds found parts tokens rest i p =
       more = attributes_read line ending query all rest [] (record { attrs = a.0; are = a.1; last = no_word line });
     }
 
-parts_read : (line : List ℕ) (ending : Ending) (parts : List Part) (query all : Query) (found : Option Conds) (tokens : List Token) → AreParts line parts query None all found tokens → Read line ending query all found tokens
+parts_read : (line : List ℕ) (ending : Ending) (parts : List RulePart) (query all : Query) (found : Option Conds) (tokens : List Token) → AreParts line parts query None all found tokens → Read line ending query all found tokens
 parts_read line ending [] query all found tokens a = none_left line ending query all found tokens a.0 a.1 a.2
 parts_read line ending (Attribute attr ∷ parts) query all found tokens a =
     let r : Read line ending a.0 all found a.1 = parts_read line ending parts a.0 all found a.1 a.3 in

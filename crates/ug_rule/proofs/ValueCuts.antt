@@ -11,7 +11,7 @@ use Rattle.ug_rule.specs.Faults.{fault_at, on_ok, within}
 use Rattle.ug_rule.specs.Grammar.{AreItems, IsSet, IsSingle, IsOperatorSet, IsValue}
 use Rattle.ug_words.specs.Keywords.{operator_of}
 use Rattle.ug_rule.specs.Tokens.{word_of, is_open, is_close}
-use Rattle.ug_rule.specs.Values.{item_of, filled, items_of, valued, set_of, brace_of, behind_operator, single_of, value_behind, value_of}
+use Rattle.ug_rule.specs.Values.{item_of, some_items, items_of, valued, set_of, brace_of, behind_operator, single_of, value_behind, value_of}
 use Rattle.ug_rule.proofs.Cases.{by_step, same_ok, by_found}
 use Rattle.ug_words.proofs.Tests.{by_test}
 
@@ -28,7 +28,7 @@ record Ends {X : Type 0} (reads : Token → Option X) (before all : List X) (tok
   is : all ≡ before ++ items
   some : 0 < length all
 
-filled_ends : {X : Type 0} (reads : Token → Option X) (before all : List X) (brace : Token) (tokens rest : List Token) → is_close brace.kind ≡ true → filled before brace.start tokens ≡ Ok (all, rest) → Ends reads before all (brace ∷ tokens) rest
+filled_ends : {X : Type 0} (reads : Token → Option X) (before all : List X) (brace : Token) (tokens rest : List Token) → is_close brace.kind ≡ true → some_items before brace.start tokens ≡ Ok (all, rest) → Ends reads before all (brace ∷ tokens) rest
 filled_ends reads [] all brace tokens rest c h = let none : ⊥ = cc in absurd none
 filled_ends reads (item ∷ before) all brace tokens rest c h =
     let e = same_ok (item ∷ before, tokens) (all, rest) h in
@@ -59,14 +59,14 @@ longer reads before all item token tokens rest c r e = record {
 items_end : {X : Type 0} (reads : Token → Option X) (ending : Ending) (before all : List X) (tokens rest : List Token) → items_of reads ending before tokens ≡ Ok (all, rest) → Ends reads before all tokens rest
 unfolding items_of
 items_end reads ending before all [] rest h = let none : ⊥ = cc in absurd none
-items_end reads ending before all (token ∷ tokens) rest h = elim (by_test (is_close token.kind) (filled before token.start tokens) (on_ok (item_of reads token) (λ item. items_of reads ending (before ++ item ∷ []) tokens)) (Ok (all, rest)) h) [
+items_end reads ending before all (token ∷ tokens) rest h = elim (by_test (is_close token.kind) (some_items before token.start tokens) (on_ok (item_of reads token) (λ item. items_of reads ending (before ++ item ∷ []) tokens)) (Ok (all, rest)) h) [
   | inl p ↦ filled_ends reads before all token tokens rest p.0 p.1
   | inr p ↦
       let s = by_step (item_of reads token) (λ item. items_of reads ending (before ++ item ∷ []) tokens) (all, rest) p.1 in
       longer reads before all s.0 token tokens rest p.0 (by_found (reads token) BadValue token.start s.0 s.1) (items_end reads ending (before ++ s.0 ∷ []) all tokens rest s.2)
 ]
 
-pub filled_some : {X : Type 0} (all : List X) (place : ℕ) (rest : List Token) → 0 < length all → filled all place rest ≡ Ok (all, rest)
+pub filled_some : {X : Type 0} (all : List X) (place : ℕ) (rest : List Token) → 0 < length all → some_items all place rest ≡ Ok (all, rest)
 filled_some [] place rest h = absurd (omega arith)
 filled_some (item ∷ items) place rest h = refl
 

@@ -54,14 +54,15 @@ required None kind place = Err (fault_at kind place)
 required (Some x) kind place = Ok x
 
 -- an answer is what was read, unless memory was refused
-abbrev pub Answers : {X : Type 0} → Result X Stop → Result X Fault → Type 0
-Answers (Ok x) read = read ≡ Ok x
-Answers (Err (Bad fault)) read = read ≡ Err fault
-Answers (Err Memory) read = Unit {0}
+abbrev pub AnswersRead : {X : Type 0} → Result X Stop → Result X Fault → Type 0
+AnswersRead (Ok x) read = read ≡ Ok x
+AnswersRead (Err (Bad fault)) read = read ≡ Err fault
+AnswersRead (Err Memory) read = Unit {0}
 
 -- the same, with the number of the fault's kind
-abbrev pub Gives : {X : Type 0} → Result X RuleFault → Result X Fault → Type 0
-Gives (Ok x) read = read ≡ Ok x
-Gives (Err (rule_fault.Bad kind place)) (Ok x) = ⊥
-Gives (Err (rule_fault.Bad kind place)) (Err fault) = (kind ≡ kind_number fault.kind) × (place ≡ fault.place)
-Gives (Err rule_fault.Memory) read = Unit {0}
+abbrev pub GivesNumbered : {X : Type 0} → Result X RuleFault → Result X Fault → Type 0
+GivesNumbered (Ok x) read = read ≡ Ok x
+GivesNumbered (Err (rule_fault.Bad kind place)) (Ok x) = ⊥
+GivesNumbered (Err (rule_fault.Bad kind place)) (Err fault) =
+    (kind ≡ kind_number fault.kind) × (place ≡ fault.place)
+GivesNumbered (Err rule_fault.Memory) read = Unit {0}

@@ -38,13 +38,13 @@ abbrev pub file_read : List ℕ → Result (List Rule) TextFault
 file_read text = text_read adding_line [] text
 
 -- the number of rules with that of a line
-abbrev pub counted : ℕ → ℕ → Result (Option Rule) Fault → Result ℕ TextFault
-counted number count (Ok None) = Ok count
-counted number count (Ok (Some rule)) = Ok (count + 1)
-counted number count (Err fault) = Err (fault_on number fault)
+abbrev pub rules_counted : ℕ → ℕ → Result (Option Rule) Fault → Result ℕ TextFault
+rules_counted number count (Ok None) = Ok count
+rules_counted number count (Ok (Some rule)) = Ok (count + 1)
+rules_counted number count (Err fault) = Err (fault_on number fault)
 
 abbrev pub counting_line : ℕ → ℕ → List ℕ → Result ℕ TextFault
-counting_line number count line = counted number count (line_read line)
+counting_line number count line = rules_counted number count (line_read line)
 
 -- so many rules were read
 abbrev pub IsCount : ℕ → Result (List Rule) TextFault → Type 0

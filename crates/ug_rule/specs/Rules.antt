@@ -27,7 +27,8 @@ some_conds p = Ok (Some p.0, p.1)
 -- `if` and its conditions, or none
 unfoldable pub conds_of : List ℕ → Ending → List Token → Result (Option Conds × List Token) Fault
 conds_of line ending tokens =
-    if is_if (first_word line tokens) then on_ok (conditions_of line ending (behind_first tokens)) some_conds
+    if is_if (first_word line tokens)
+    then on_ok (conditions_of line ending (behind_first tokens)) some_conds
     else Ok (None, tokens)
 
 -- nothing stands behind the parts of a rule
@@ -47,7 +48,8 @@ parts_of line target tokens =
 unfoldable pub rule_of : List ℕ → List Token → Result Rule Fault
 rule_of line [] = Err (fault_at NoTarget (length line))
 rule_of line (token ∷ rest) =
-    on_ok (required (target_of (word_of line token)) NoTarget token.start) (λ target. parts_of line target rest)
+    on_ok (required (target_of (word_of line token)) NoTarget token.start) (λ target.
+    parts_of line target rest)
 
 -- the rule of a line, or its first fault
 abbrev pub rule_read : List ℕ → Result Rule Fault
@@ -56,7 +58,8 @@ rule_read line = on_ok (tokens_read line) (rule_of line)
 -- ---- one query
 
 unfoldable pub whole_query : List ℕ → List Token → Result Query Fault
-whole_query line tokens = on_ok (query_of line (end_of line) tokens) (λ p. query_ends line (end_of line) p.0 p.1)
+whole_query line tokens =
+    on_ok (query_of line (end_of line) tokens) (λ p. query_ends line (end_of line) p.0 p.1)
 
 -- the query of a line, or its first fault
 abbrev pub query_read : List ℕ → Result Query Fault

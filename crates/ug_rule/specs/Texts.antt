@@ -20,5 +20,7 @@ lexical_fault (lexing.BadByte place) = fault_at BadByte place
 -- the rules of lines, each of which is a rule, or has no token since it is blank or a comment
 pub data AreRules : List (List ℕ) → List Rule → Type 0 where
   NoLines : AreRules [] []
-  Blank : (line : List ℕ) (lines : List (List ℕ)) (rules : List Rule) → IsBlankLine line → AreRules lines rules → AreRules (line ∷ lines) rules
-  OneMore : (line : List ℕ) (rule : Rule) (lines : List (List ℕ)) (rules : List Rule) → Says line rule → AreRules lines rules → AreRules (line ∷ lines) (rule ∷ rules)
+  Blank : (line : List ℕ) (lines : List (List ℕ)) (rules : List Rule) → IsBlankLine line
+      → AreRules lines rules → AreRules (line ∷ lines) rules
+  OneMore : (line : List ℕ) (rule : Rule) (lines : List (List ℕ)) (rules : List Rule)
+      → Says line rule → AreRules lines rules → AreRules (line ∷ lines) (rule ∷ rules)

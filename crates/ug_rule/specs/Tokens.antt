@@ -113,13 +113,15 @@ abbrev pub tokens_read : List ℕ → Result (List Token) Fault
 tokens_read line = read_by (tokens_of line)
 
 -- an answer is what was read up to the tokens that are left, unless memory was refused
-abbrev pub Reads : {X : Type 0} → Result X Stop → List Token → Result (X × List Token) Fault → Type 0
+abbrev pub Reads : {X : Type 0} → Result X Stop → List Token → Result (X × List Token) Fault
+    → Type 0
 Reads (Ok x) rest read = read ≡ Ok (x, rest)
 Reads (Err (Bad fault)) rest read = read ≡ Err fault
 Reads (Err Memory) rest read = Unit {0}
 
 -- the same, where what is read is written behind a reference
-abbrev pub ReadsInto : {X : Type 0} → Result (Unit {0}) Stop → X → List Token → Result (X × List Token) Fault → Type 0
+abbrev pub ReadsInto : {X : Type 0} → Result (Unit {0}) Stop → X → List Token
+    → Result (X × List Token) Fault → Type 0
 ReadsInto (Ok done) x rest read = read ≡ Ok (x, rest)
 ReadsInto (Err (Bad fault)) x rest read = read ≡ Err fault
 ReadsInto (Err Memory) x rest read = Unit {0}

@@ -73,7 +73,8 @@ fn close_query(
     ending: Ending,
     query: Query,
 ) -> Result<CondKind, Stop>
-    ensures is { Reads result tokens.new (conditions.matches_closed line.now ending query tokens.old) }
+    ensures is { Reads result tokens.new
+        (conditions.matches_closed line.now ending query tokens.old) }
     ensures shorter { length tokens.new ≤ length tokens.old }
 {
     let Some(token) = tokens.next() else {
@@ -105,7 +106,8 @@ fn allowed_matches(
 
 #[tactic(auto, unfolding(crate::specs::Conditions::argument_of))]
 fn past_argument(line: &[u8], tokens: &mut Tokens, ending: Ending) -> Result<u32, Stop>
-    ensures is { Reads result tokens.new (conditions.argument_of past_of line.now ending tokens.old) }
+    ensures is { Reads result tokens.new
+        (conditions.argument_of past_of line.now ending tokens.old) }
     ensures shorter { length tokens.new ≤ length tokens.old }
 {
     let token = next(tokens, ending)?;
@@ -117,7 +119,8 @@ fn past_argument(line: &[u8], tokens: &mut Tokens, ending: Ending) -> Result<u32
 
 #[tactic(auto, unfolding(crate::specs::Conditions::argument_of))]
 fn chance_argument(line: &[u8], tokens: &mut Tokens, ending: Ending) -> Result<u32, Stop>
-    ensures is { Reads result tokens.new (conditions.argument_of chance_of line.now ending tokens.old) }
+    ensures is { Reads result tokens.new
+        (conditions.argument_of chance_of line.now ending tokens.old) }
     ensures shorter { length tokens.new ≤ length tokens.old }
 {
     let token = next(tokens, ending)?;
@@ -130,7 +133,8 @@ fn chance_argument(line: &[u8], tokens: &mut Tokens, ending: Ending) -> Result<u
 // Seconds in parentheses, or none.
 #[tactic(auto, unfolding(crate::specs::Conditions::perhaps_of))]
 fn perhaps_past(line: &[u8], tokens: &mut Tokens, ending: Ending) -> Result<Option<u32>, Stop>
-    ensures is { Reads result tokens.new (conditions.perhaps_of past_of line.now ending tokens.old) }
+    ensures is { Reads result tokens.new
+        (conditions.perhaps_of past_of line.now ending tokens.old) }
     ensures shorter { length tokens.new ≤ length tokens.old }
 {
     if !tokens.take_paren() {
@@ -142,7 +146,8 @@ fn perhaps_past(line: &[u8], tokens: &mut Tokens, ending: Ending) -> Result<Opti
 // A probability in parentheses, or none.
 #[tactic(auto, unfolding(crate::specs::Conditions::perhaps_of))]
 fn perhaps_chance(line: &[u8], tokens: &mut Tokens, ending: Ending) -> Result<Option<u32>, Stop>
-    ensures is { Reads result tokens.new (conditions.perhaps_of chance_of line.now ending tokens.old) }
+    ensures is { Reads result tokens.new
+        (conditions.perhaps_of chance_of line.now ending tokens.old) }
     ensures shorter { length tokens.new ≤ length tokens.old }
 {
     if !tokens.take_paren() {
@@ -183,7 +188,7 @@ fn kind(
 }
 
 // A condition whose name the token is.
-#[tactic(auto, unfolding(crate::specs::Conditions::named_of))]
+#[tactic(auto, unfolding(crate::specs::Conditions::named_condition))]
 fn named(
     alloc: Global,
     line: &[u8],
@@ -192,7 +197,8 @@ fn named(
     negated: bool,
     token: Token,
 ) -> Result<Cond, Stop>
-    ensures is { Reads result tokens.new (conditions.named_of line.now ending negated token tokens.old) }
+    ensures is { Reads result tokens.new
+        (conditions.named_condition line.now ending negated token tokens.old) }
     ensures shorter { length tokens.new ≤ length tokens.old }
 {
     let place = token.start as u64;
@@ -214,7 +220,8 @@ fn condition_from(
     ending: Ending,
     token: Token,
 ) -> Result<Cond, Stop>
-    ensures is { Reads result tokens.new (conditions.condition_from line.now ending token tokens.old) }
+    ensures is { Reads result tokens.new
+        (conditions.condition_from line.now ending token tokens.old) }
     ensures shorter { length tokens.new ≤ length tokens.old }
 {
     if !matches!(token.kind, TokenKind::Bang) {
@@ -231,7 +238,8 @@ fn items(
     tokens: &mut Tokens,
     ending: Ending,
 ) -> Result<List<Cond>, Stop>
-    ensures is { Reads result tokens.new (conditions.conds_from (length tokens.old) line.now ending [] tokens.old) }
+    ensures is { Reads result tokens.new
+        (conditions.conds_from (length tokens.old) line.now ending [] tokens.old) }
     ensures shorter { length tokens.new ≤ length tokens.old }
 {
     let mut items = List::new(alloc);

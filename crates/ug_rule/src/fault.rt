@@ -1,7 +1,7 @@
 // Why a text is no rule.
 ghost use Rattle.std.specs.Prelude.{◌≡◌};
 ghost use Rattle.ug_rule.specs.Faults as faults;
-ghost use Rattle.ug_rule.specs.Faults.{kind_number, fault_at, Answers, Gives};
+ghost use Rattle.ug_rule.specs.Faults.{kind_number, fault_at, AnswersRead, GivesNumbered};
 
 use thiserror::Error;
 use ug_types::NoMemory;
@@ -125,7 +125,7 @@ impl Ending {
 
 /// What is there, or a fault.
 pub fn required<T: Drop>(found: Option<T>, kind: FaultKind, place: u64) -> Result<T, Stop>
-    ensures { Answers result (faults.required found kind place) }
+    ensures { AnswersRead result (faults.required found kind place) }
 {
     match found {
         Some(value) => Ok(value),
@@ -135,7 +135,7 @@ pub fn required<T: Drop>(found: Option<T>, kind: FaultKind, place: u64) -> Resul
 
 /// The answer of a public call.
 pub fn answer<T: Drop>(read: Result<T, Stop>) -> Result<T, RuleFault>
-    ensures { (asked : _) → Answers read asked → Gives result asked }
+    ensures { (asked : _) → AnswersRead read asked → GivesNumbered result asked }
 {
     match read {
         Ok(value) => Ok(value),

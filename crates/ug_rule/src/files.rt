@@ -2,7 +2,7 @@
 ghost use Rattle.std.specs.Prelude.{◌≡◌, IfOk, IfErr};
 ghost use Rattle.ug_types.specs.TextFaults.{IsTextFault};
 ghost use Rattle.ug_lines.specs.LineReading.{LeadsTo};
-ghost use Rattle.ug_rule.specs.Faults.{Answers};
+ghost use Rattle.ug_rule.specs.Faults.{AnswersRead};
 ghost use Rattle.ug_rule.specs.Files as files;
 ghost use Rattle.ug_rule.specs.TextLines.{rule_on_line};
 
@@ -15,7 +15,7 @@ use ug_types::{FileFault, Rule, TextFault};
 
 // The rule of a line that is neither blank nor a comment.
 fn read_line(alloc: Global, line: &[u8]) -> Result<Option<Rule>, Stop>
-    ensures { Answers result (files.line_read line.now) }
+    ensures { AnswersRead result (files.line_read line.now) }
 {
     let tokens = read(alloc, line)?;
     if tokens.as_slice().is_empty() {

@@ -1,6 +1,6 @@
 // The attributes of a rule: usbguard-rules.conf(5).
 ghost use Rattle.std.specs.Prelude.{◌≡◌, ◌≤◌, ◌<◌, length, IfSome};
-ghost use Rattle.ug_rule.specs.Faults.{Answers};
+ghost use Rattle.ug_rule.specs.Faults.{AnswersRead};
 ghost use Rattle.ug_rule.specs.Tokens.{Reads, ReadsInto};
 ghost use Rattle.ug_rule.specs.Queries as queries;
 
@@ -36,7 +36,7 @@ pub fn empty_query() -> Query
 }
 
 fn is_given(attr: Attr, query: &Query) -> bool
-    ensures { result ≡ queries.is_given attr query.now }
+    ensures { result ≡ queries.is_attribute_given attr query.now }
 {
     match attr {
         Attr::Id => query.id.is_some(),
@@ -52,9 +52,9 @@ fn is_given(attr: Attr, query: &Query) -> bool
 }
 
 /// Whether no attribute is given.
-#[tactic(auto, unfolding(crate::specs::Queries::is_blank))]
+#[tactic(auto, unfolding(crate::specs::Queries::is_empty_query))]
 pub fn is_blank(query: &Query) -> bool
-    ensures { result ≡ queries.is_blank query.now }
+    ensures { result ≡ queries.is_empty_query query.now }
 {
     query.id.is_none()
         && query.serial.is_none()
@@ -76,7 +76,8 @@ fn add_attribute(
     attr: Attr,
     query: &mut Query,
 ) -> Result<(), Stop>
-    ensures is { ReadsInto result query.new tokens.new (queries.with_attribute line.now ending attr query.old tokens.old) }
+    ensures is { ReadsInto result query.new tokens.new
+        (queries.with_attribute line.now ending attr query.old tokens.old) }
     ensures shorter { length tokens.new ≤ length tokens.old }
 {
     match attr {
@@ -102,7 +103,8 @@ fn add_once(
     named: Named,
     query: &mut Query,
 ) -> Result<(), Stop>
-    ensures is { ReadsInto result query.new tokens.new (queries.once line.now ending named query.old tokens.old) }
+    ensures is { ReadsInto result query.new tokens.new
+        (queries.attribute_once line.now ending named query.old tokens.old) }
     ensures shorter { length tokens.new ≤ length tokens.old }
 {
     if is_given(named.attr, query) {
@@ -113,7 +115,7 @@ fn add_once(
 
 // The name of an attribute at the front.
 fn next_name(line: &[u8], tokens: &mut Tokens) -> Option<Named>
-    ensures is { queries.name_of line.now tokens.old ≡ (result, tokens.new) }
+    ensures is { queries.attribute_name_of line.now tokens.old ≡ (result, tokens.new) }
     ensures shorter { IfSome result (λ _. length tokens.new < length tokens.old) }
     ensures bound { length tokens.new ≤ length tokens.old }
 {
@@ -137,7 +139,8 @@ pub fn add_attributes(
     ending: Ending,
     query: &mut Query,
 ) -> Result<(), Stop>
-    ensures is { ReadsInto result query.new tokens.new (queries.attributes_of line.now ending query.old tokens.old) }
+    ensures is { ReadsInto result query.new tokens.new
+        (queries.attributes_of line.now ending query.old tokens.old) }
     ensures shorter { length tokens.new ≤ length tokens.old }
 {
     while let Some(named) = next_name(line, tokens) {
@@ -224,7 +227,7 @@ pub fn query_ends(
     ending: Ending,
     query: Query,
 ) -> Result<Query, Stop>
-    ensures { Answers result (queries.query_ends line.now ending query tokens.old) }
+    ensures { AnswersRead result (queries.query_ends line.now ending query tokens.old) }
 {
     match tokens.next() {
         Some(token) => Err(stray(FaultKind::ConditionInQuery, line, &token)),

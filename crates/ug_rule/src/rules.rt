@@ -1,6 +1,6 @@
 // Rules and queries of whole lines: usbguard-rules.conf(5).
 ghost use Rattle.std.specs.Prelude.{◌≡◌};
-ghost use Rattle.ug_rule.specs.Faults.{Answers, Gives};
+ghost use Rattle.ug_rule.specs.Faults.{AnswersRead, GivesNumbered};
 ghost use Rattle.ug_rule.specs.Rules as rules;
 ghost use Rattle.ug_rule.specs.Tokens.{Reads};
 
@@ -40,7 +40,7 @@ fn conds(
 }
 
 fn rule_ends(line: &[u8], tokens: &mut Tokens, rule: Rule) -> Result<Rule, Stop>
-    ensures { Answers result (rules.rule_ends line.now rule tokens.old) }
+    ensures { AnswersRead result (rules.rule_ends line.now rule tokens.old) }
 {
     match tokens.next() {
         Some(token) => Err(stray(FaultKind::Repeated, line, &token)),
@@ -51,7 +51,7 @@ fn rule_ends(line: &[u8], tokens: &mut Tokens, rule: Rule) -> Result<Rule, Stop>
 // What stands behind the target.
 #[tactic(auto, unfolding(crate::specs::Rules::parts_of))]
 fn parts(alloc: Global, line: &[u8], tokens: &mut Tokens, target: Target) -> Result<Rule, Stop>
-    ensures { Answers result (rules.parts_of line.now target tokens.old) }
+    ensures { AnswersRead result (rules.parts_of line.now target tokens.old) }
 {
     let ending = end_of(line);
     let mut query = query(alloc, line, tokens, ending)?;
@@ -71,7 +71,7 @@ fn parts(alloc: Global, line: &[u8], tokens: &mut Tokens, target: Target) -> Res
 /// The rule that the tokens of a line are.
 #[tactic(auto, unfolding(crate::specs::Rules::rule_of))]
 pub fn rule(alloc: Global, line: &[u8], tokens: List<Token>) -> Result<Rule, Stop>
-    ensures { Answers result (rules.rule_of line.now tokens) }
+    ensures { AnswersRead result (rules.rule_of line.now tokens) }
 {
     let mut tokens = Tokens::new(tokens);
     match tokens.next() {
@@ -89,7 +89,7 @@ pub fn rule(alloc: Global, line: &[u8], tokens: List<Token>) -> Result<Rule, Sto
 }
 
 fn read_rule(alloc: Global, line: &[u8]) -> Result<Rule, Stop>
-    ensures { Answers result (rules.rule_read line.now) }
+    ensures { AnswersRead result (rules.rule_read line.now) }
 {
     let tokens = read(alloc, line)?;
     rule(alloc, line, tokens)
@@ -97,7 +97,7 @@ fn read_rule(alloc: Global, line: &[u8]) -> Result<Rule, Stop>
 
 #[tactic(auto, unfolding(crate::specs::Rules::whole_query))]
 fn whole_query(alloc: Global, line: &[u8], tokens: List<Token>) -> Result<Query, Stop>
-    ensures { Answers result (rules.whole_query line.now tokens) }
+    ensures { AnswersRead result (rules.whole_query line.now tokens) }
 {
     let mut tokens = Tokens::new(tokens);
     let ending = end_of(line);
@@ -106,7 +106,7 @@ fn whole_query(alloc: Global, line: &[u8], tokens: List<Token>) -> Result<Query,
 }
 
 fn read_query(alloc: Global, line: &[u8]) -> Result<Query, Stop>
-    ensures { Answers result (rules.query_read line.now) }
+    ensures { AnswersRead result (rules.query_read line.now) }
 {
     let tokens = read(alloc, line)?;
     whole_query(alloc, line, tokens)
@@ -115,14 +115,14 @@ fn read_query(alloc: Global, line: &[u8]) -> Result<Query, Stop>
 /// The rule of a line without its newline, or the line's first fault. A line that is blank or a comment has no target,
 /// and is refused so at its length. Linear in the number of bytes.
 pub fn parse_rule(alloc: Global, line: &[u8]) -> Result<Rule, RuleFault>
-    ensures exact { Gives result (rules.rule_read line.now) }
+    ensures exact { GivesNumbered result (rules.rule_read line.now) }
 {
     answer(read_rule(alloc, line))
 }
 
 /// The attributes of a line without a target and conditions, at least one. Linear in the number of bytes.
 pub fn parse_query(alloc: Global, line: &[u8]) -> Result<Query, RuleFault>
-    ensures exact { Gives result (rules.query_read line.now) }
+    ensures exact { GivesNumbered result (rules.query_read line.now) }
 {
     answer(read_query(alloc, line))
 }

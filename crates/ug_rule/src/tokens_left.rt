@@ -1,6 +1,6 @@
 // The tokens that are still to be read.
 ghost use Rattle.std.specs.Prelude.{◌≡◌, ◌≤◌, [], ◌∷◌, ◌-◌, length, take, drop, true, false, IfSome, IfNone};
-ghost use Rattle.ug_rule.specs.Faults.{Answers};
+ghost use Rattle.ug_rule.specs.Faults.{AnswersRead};
 ghost use Rattle.ug_rule.specs.Tokens.{word_of, first_word, is_open, is_close, starts_with_paren, behind_first, tokens_read};
 
 use crate::fault::{FaultKind, Stop};
@@ -120,7 +120,7 @@ impl Tokens {
 
 /// The tokens of a line.
 pub fn read(alloc: Global, line: &[u8]) -> Result<List<Token>, Stop>
-    ensures { Answers result (tokens_read line.now) }
+    ensures { AnswersRead result (tokens_read line.now) }
 {
     match tokens(alloc, line) {
         Ok(list) => Ok(list),

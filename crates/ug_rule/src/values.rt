@@ -1,6 +1,6 @@
 // The value of an attribute: usbguard-rules.conf(5).
 ghost use Rattle.std.specs.Prelude.{◌≡◌, ◌≤◌, [], ◌∷◌, length, IfOk};
-ghost use Rattle.ug_rule.specs.Faults.{Answers};
+ghost use Rattle.ug_rule.specs.Faults.{AnswersRead};
 ghost use Rattle.ug_rule.specs.Tokens.{Reads};
 ghost use Rattle.ug_rule.specs.Values as values;
 
@@ -56,7 +56,7 @@ impl FromToken for Text {
 }
 
 fn item<T: FromToken>(line: &[u8], token: Token) -> Result<T, Stop>
-    ensures { Answers result (values.item_of (T.in_token line.now) token) }
+    ensures { AnswersRead result (values.item_of (T.in_token line.now) token) }
 {
     let place = token.start as u64;
     required(T::from_token(line, token), FaultKind::BadValue, place)
@@ -81,7 +81,7 @@ fn without_room<T: Drop>(list: List<T>) -> List<T>
 }
 
 pub fn filled<T: Drop>(items: List<T>, place: u64) -> Result<List<T>, Stop>
-    ensures { (rest : _) → Reads result rest (values.filled items place rest) }
+    ensures { (rest : _) → Reads result rest (values.some_items items place rest) }
 {
     if items.as_slice().is_empty() {
         return Err(Stop::at(FaultKind::EmptySet, place));
@@ -97,7 +97,8 @@ fn items<T: FromToken>(
     tokens: &mut Tokens,
     ending: Ending,
 ) -> Result<List<T>, Stop>
-    ensures is { Reads result tokens.new (values.items_of (T.in_token line.now) ending [] tokens.old) }
+    ensures is { Reads result tokens.new
+        (values.items_of (T.in_token line.now) ending [] tokens.old) }
     ensures shorter { length tokens.new ≤ length tokens.old }
 {
     let mut items = List::new(alloc);
@@ -118,7 +119,8 @@ fn set<T: FromToken>(
     ending: Ending,
     op: Op,
 ) -> Result<Values<T>, Stop>
-    ensures is { Reads result tokens.new (values.set_of (T.in_token line.now) ending op tokens.old) }
+    ensures is { Reads result tokens.new
+        (values.set_of (T.in_token line.now) ending op tokens.old) }
     ensures shorter { length tokens.new ≤ length tokens.old }
 {
     let items = items(alloc, line, tokens, ending)?;
@@ -159,7 +161,8 @@ fn behind_operator<T: FromToken>(
     ending: Ending,
     op: Op,
 ) -> Result<Values<T>, Stop>
-    ensures is { Reads result tokens.new (values.behind_operator (T.in_token line.now) ending op tokens.old) }
+    ensures is { Reads result tokens.new
+        (values.behind_operator (T.in_token line.now) ending op tokens.old) }
     ensures shorter { length tokens.new ≤ length tokens.old }
 {
     let place = brace(tokens, ending, FaultKind::BadValue)?;
@@ -174,7 +177,8 @@ pub fn value<T: FromToken>(
     tokens: &mut Tokens,
     ending: Ending,
 ) -> Result<Values<T>, Stop>
-    ensures is { Reads result tokens.new (values.value_of line.now (T.in_token line.now) ending tokens.old) }
+    ensures is { Reads result tokens.new
+        (values.value_of line.now (T.in_token line.now) ending tokens.old) }
     ensures shorter { length tokens.new ≤ length tokens.old }
 {
     match tokens.next() {

@@ -13,7 +13,7 @@ use Rattle.ug_lines.specs.Equations.{AreBlanks, BeginsBare, IsTextOf, IsSkipped}
 use Rattle.ug_lines.specs.Lines.{lines_of}
 use Rattle.ug_lines.specs.Splitting.{IsLine, Open}
 use Rattle.ug_lines.proofs.TextLines.{split_only}
-use Rattle.ug_equations.specs.Entries.{AreEntries, IsSkippedLine}
+use Rattle.ug_lines.specs.Entries.{AreEntries, IsSkippedLine}
 use Rattle.ug_acl.specs.declared.draft.Given.{Given}
 use Rattle.ug_acl.specs.Grammar.{GivesAccess, GivesGrant}
 use Rattle.ug_acl.specs.Lines.{given_to}

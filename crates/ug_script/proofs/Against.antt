@@ -3,13 +3,13 @@ use Rattle.std.proofs.Common.{◌≡◌, ℕ, Bool, true, false, cond, nat_eq, L
 use Rattle.std.proofs.lemmas.Bool.{both_ways}
 use Rattle.std.proofs.lemmas.Option.{same_Some}
 use Rattle.std.specs.Cmp.Lexicographic.{pointwise, same_text}
-use Rattle.ug_decimals.proofs.Numerals.{text_itself}
+use Rattle.ug_numerals.proofs.Numerals.{text_itself}
 use Rattle.ug_sysfs.specs.World.{World, moved}
-use Rattle.ug_console.specs.Fold.{Fault, BadLine, InputTooLong, Writes, Refused, Stage, Going, Halted, of_first, plays}
-use Rattle.ug_console.specs.Refusals.{AtEnd, AtLine, RefusesLines, fault_in}
-use Rattle.ug_console.specs.Runs.{Steps}
-use Rattle.ug_console.specs.declared.machine.Ran.{Ran}
-use Rattle.ug_console.specs.declared.machine.Ran.TheVariants as ran
+use Rattle.ug_command_io.specs.Fold.{LineRefusal, BadLine, InputTooLong, Writes, Refused, Stage, Going, Halted, of_first, plays}
+use Rattle.ug_command_io.specs.Refusals.{AtEnd, AtLine, RefusesLines, fault_in}
+use Rattle.ug_command_io.specs.Runs.{Steps}
+use Rattle.ug_command_io.specs.declared.machine.Ran.{Ran}
+use Rattle.ug_command_io.specs.declared.machine.Ran.TheVariants as ran
 use Rattle.ug_core.specs.Event.{has_numbers}
 use Rattle.ug_script.specs.declared.step.SetupLine.{SetupLine}
 use Rattle.ug_script.specs.declared.step.Step.{Step}
@@ -26,14 +26,14 @@ use Rattle.ug_script.proofs.Summed.{summed, sums_up}
 -- ---- a refused line
 
 -- a line that is taken isn't refused, and one that is refused is so for its fault
-unrefused : {M : Type 0} (text : List ℕ) (u next : M) (h0 h1 : Option (List ℕ)) (r : Ran) (fault : Fault) → Steps (Writes text u) next h0 h1 r → fault_in r ≡ Some fault → ⊥
+unrefused : {M : Type 0} (text : List ℕ) (u next : M) (h0 h1 : Option (List ℕ)) (r : Ran) (fault : LineRefusal) → Steps (Writes text u) next h0 h1 r → fault_in r ≡ Some fault → ⊥
 unrefused text u next h0 h1 ran.Done fault s e = cc
 unrefused text u next h0 h1 ran.Bad fault s e = s
 unrefused text u next h0 h1 ran.TooLong fault s e = s
 unrefused text u next h0 h1 ran.SinkFailed fault s e = cc
 unrefused text u next h0 h1 ran.Memory fault s e = cc
 
-same_fault : {M : Type 0} (f : Fault) (u next : M) (h0 h1 : Option (List ℕ)) (r : Ran) (fault : Fault) → Steps (Refused f u) next h0 h1 r → fault_in r ≡ Some fault → f ≡ fault
+same_fault : {M : Type 0} (f : LineRefusal) (u next : M) (h0 h1 : Option (List ℕ)) (r : Ran) (fault : LineRefusal) → Steps (Refused f u) next h0 h1 r → fault_in r ≡ Some fault → f ≡ fault
 same_fault f u next h0 h1 ran.Done fault s e = absurd s
 same_fault f u next h0 h1 ran.Bad fault s e = s.0 ∙ same_Some BadLine fault e
 same_fault f u next h0 h1 ran.TooLong fault s e = s.0 ∙ same_Some InputTooLong fault e
@@ -49,34 +49,34 @@ unstarted setup (Started d disk) e = let none : ⊥ = cc in absurd none
 other_line : (line : List ℕ) → pointwise nat_eq line header ≡ false → line ≡ header → ⊥
 other_line line e same = both_ways (pointwise nat_eq line header) e (subst (λ (l : List ℕ). pointwise nat_eq line l ≡ true) same (text_itself line))
 
-header_fault : (w : World) (line : List ℕ) (next : Option Script × World) (h0 h1 : Option (List ℕ)) (r : Ran) (fault : Fault) (b : Bool) → pointwise nat_eq line header ≡ b → Steps (cond b (quiet fresh w) (Refused BadLine (None, w))) next h0 h1 r → fault_in r ≡ Some fault → SpeaksAgainst (None, w) line fault
+header_fault : (w : World) (line : List ℕ) (next : Option Script × World) (h0 h1 : Option (List ℕ)) (r : Ran) (fault : LineRefusal) (b : Bool) → pointwise nat_eq line header ≡ b → Steps (cond b (quiet fresh w) (Refused BadLine (None, w))) next h0 h1 r → fault_in r ≡ Some fault → SpeaksAgainst (None, w) line fault
 header_fault w line next h0 h1 r fault true is s e = absurd (unrefused [] (Some fresh, w) next h0 h1 r fault s e)
-header_fault w line next h0 h1 r fault false is s e = subst (λ (f : Fault). SpeaksAgainst (None, w) line f) (same_fault BadLine (None, w) next h0 h1 r fault s e) (NoHeader w line (other_line line is))
+header_fault w line next h0 h1 r fault false is s e = subst (λ (f : LineRefusal). SpeaksAgainst (None, w) line f) (same_fault BadLine (None, w) next h0 h1 r fault s e) (NoHeader w line (other_line line is))
 
 -- what speaks against a line, if it isn't the numbers
-abbrev Speaks : Option Script × World → List ℕ → Fault → Type 0
+abbrev Speaks : Option Script × World → List ℕ → LineRefusal → Type 0
 Speaks p line fault = SpeaksAgainst p line fault ⊎ LacksNumbers p line
 
-added_fault : (s : Script) (w : World) (line : List ℕ) (setup : SetupLine) (next : Option Script × World) (h0 h1 : Option (List ℕ)) (r : Ran) (fault : Fault) (o : Option SetupState) → step_of_line line ≡ Some (step.Setup setup) → one_line_more setup s.setup ≡ o → Steps (line_added o s w) next h0 h1 r → fault_in r ≡ Some fault → SpeaksAgainst (Some s, w) line fault
+added_fault : (s : Script) (w : World) (line : List ℕ) (setup : SetupLine) (next : Option Script × World) (h0 h1 : Option (List ℕ)) (r : Ran) (fault : LineRefusal) (o : Option SetupState) → step_of_line line ≡ Some (step.Setup setup) → one_line_more setup s.setup ≡ o → Steps (line_added o s w) next h0 h1 r → fault_in r ≡ Some fault → SpeaksAgainst (Some s, w) line fault
 added_fault s w line setup next h0 h1 r fault (Some more) asked is q e = absurd (unrefused [] (Some (record s { setup = more }), w) next h0 h1 r fault q e)
-added_fault s w line setup next h0 h1 r fault None asked is q e = subst (λ (f : Fault). SpeaksAgainst (Some s, w) line f) (same_fault BadLine (Some s, w) next h0 h1 r fault q e) (NotTaken s w line setup asked is)
+added_fault s w line setup next h0 h1 r fault None asked is q e = subst (λ (f : LineRefusal). SpeaksAgainst (Some s, w) line f) (same_fault BadLine (Some s, w) next h0 h1 r fault q e) (NotTaken s w line setup asked is)
 
-setup_fault : (s : Script) (w : World) (line : List ℕ) (setup : SetupLine) (next : Option Script × World) (h0 h1 : Option (List ℕ)) (r : Ran) (fault : Fault) (b : Bool) → step_of_line line ≡ Some (step.Setup setup) → takes_setup s.phase ≡ b → Steps (cond b (line_added (one_line_more setup s.setup) s w) (bad s w)) next h0 h1 r → fault_in r ≡ Some fault → SpeaksAgainst (Some s, w) line fault
+setup_fault : (s : Script) (w : World) (line : List ℕ) (setup : SetupLine) (next : Option Script × World) (h0 h1 : Option (List ℕ)) (r : Ran) (fault : LineRefusal) (b : Bool) → step_of_line line ≡ Some (step.Setup setup) → takes_setup s.phase ≡ b → Steps (cond b (line_added (one_line_more setup s.setup) s w) (bad s w)) next h0 h1 r → fault_in r ≡ Some fault → SpeaksAgainst (Some s, w) line fault
 setup_fault s w line setup next h0 h1 r fault true asked is q e = added_fault s w line setup next h0 h1 r fault (one_line_more setup s.setup) asked refl q e
-setup_fault s w line setup next h0 h1 r fault false asked is q e = subst (λ (f : Fault). SpeaksAgainst (Some s, w) line f) (same_fault BadLine (Some s, w) next h0 h1 r fault q e) (BehindSetup s w line setup asked is)
+setup_fault s w line setup next h0 h1 r fault false asked is q e = subst (λ (f : LineRefusal). SpeaksAgainst (Some s, w) line f) (same_fault BadLine (Some s, w) next h0 h1 r fault q e) (BehindSetup s w line setup asked is)
 
 -- an event, or a restart
-start_fault : (s : Script) (w : World) (line : List ℕ) (asked : Step) (fault : Fault) → step_of_line line ≡ Some asked → starts_daemon asked ≡ true → (r : Ran) → (r ≡ ran.Bad → LacksNumbers (Some s, w) line) → (r ≡ ran.TooLong → can_start s.setup s.phase ≡ false) → fault_in r ≡ Some fault → Speaks (Some s, w) line fault
+start_fault : (s : Script) (w : World) (line : List ℕ) (asked : Step) (fault : LineRefusal) → step_of_line line ≡ Some asked → starts_daemon asked ≡ true → (r : Ran) → (r ≡ ran.Bad → LacksNumbers (Some s, w) line) → (r ≡ ran.TooLong → can_start s.setup s.phase ≡ false) → fault_in r ≡ Some fault → Speaks (Some s, w) line fault
 start_fault s w line asked fault is starts ran.Done numbers short e = let none : ⊥ = cc in absurd none
 start_fault s w line asked fault is starts ran.Bad numbers short e = inr (numbers refl)
 start_fault s w line asked fault is starts ran.TooLong numbers short e =
     let k = unstarted s.setup s.phase (short refl) in
-    inl (subst (λ (f : Fault). SpeaksAgainst (Some s, w) line f) (same_Some InputTooLong fault e) (NoRoom s w line asked is starts k.0 k.1))
+    inl (subst (λ (f : LineRefusal). SpeaksAgainst (Some s, w) line f) (same_Some InputTooLong fault e) (NoRoom s w line asked is starts k.0 k.1))
 start_fault s w line asked fault is starts ran.SinkFailed numbers short e = let none : ⊥ = cc in absurd none
 start_fault s w line asked fault is starts ran.Memory numbers short e = let none : ⊥ = cc in absurd none
 
-step_fault : (s : Script) (w : World) (line : List ℕ) (next : Option Script × World) (h0 h1 : Option (List ℕ)) (r : Ran) (fault : Fault) (o : Option Step) → step_of_line line ≡ o → Steps (taken_if o s w) next h0 h1 r → StartsAgain o s w r → fault_in r ≡ Some fault → Speaks (Some s, w) line fault
-step_fault s w line next h0 h1 r fault None is q why e = inl (subst (λ (f : Fault). SpeaksAgainst (Some s, w) line f) (same_fault BadLine (Some s, w) next h0 h1 r fault q e) (NoStep s w line is))
+step_fault : (s : Script) (w : World) (line : List ℕ) (next : Option Script × World) (h0 h1 : Option (List ℕ)) (r : Ran) (fault : LineRefusal) (o : Option Step) → step_of_line line ≡ o → Steps (taken_if o s w) next h0 h1 r → StartsAgain o s w r → fault_in r ≡ Some fault → Speaks (Some s, w) line fault
+step_fault s w line next h0 h1 r fault None is q why e = inl (subst (λ (f : LineRefusal). SpeaksAgainst (Some s, w) line f) (same_fault BadLine (Some s, w) next h0 h1 r fault q e) (NoStep s w line is))
 step_fault s w line next h0 h1 r fault (Some step.Skip) is q why e = absurd (unrefused [] (Some s, w) next h0 h1 r fault q e)
 step_fault s w line next h0 h1 r fault (Some (step.Setup setup)) is q why e = inl (setup_fault s w line setup next h0 h1 r fault (takes_setup s.phase) is refl q e)
 step_fault s w line next h0 h1 r fault (Some (step.Move action)) is q why e = absurd (unrefused [] (Some (with_setup_closed s), with_devices (moved action w.kernel.devices) w) next h0 h1 r fault q e)
@@ -84,18 +84,18 @@ step_fault s w line next h0 h1 r fault (Some (step.Schedule plan)) is q why e = 
 step_fault s w line next h0 h1 r fault (Some (step.Event event)) is q why e = start_fault s w line (step.Event event) fault is refl r (λ f. (event, is, why.0 f)) why.1 e
 step_fault s w line next h0 h1 r fault (Some step.Restart) is q why e = start_fault s w line step.Restart fault is refl r (λ f. absurd (why.0 f)) why.1 e
 
-pub line_fault : (p : Option Script × World) (line : List ℕ) (next : Option Script × World) (h0 h1 : Option (List ℕ)) (r : Ran) → Steps (script_step p line) next h0 h1 r → ((s : Script) → p.0 ≡ Some s → StartsAgain (step_of_line line) s p.1 r) → (fault : Fault) → fault_in r ≡ Some fault → Speaks p line fault
+pub line_fault : (p : Option Script × World) (line : List ℕ) (next : Option Script × World) (h0 h1 : Option (List ℕ)) (r : Ran) → Steps (script_step p line) next h0 h1 r → ((s : Script) → p.0 ≡ Some s → StartsAgain (step_of_line line) s p.1 r) → (fault : LineRefusal) → fault_in r ≡ Some fault → Speaks p line fault
 line_fault (None, w) line next h0 h1 r q why fault e = inl (header_fault w line next h0 h1 r fault (pointwise nat_eq line header) refl q e)
 line_fault (Some s, w) line next h0 h1 r q why fault e = step_fault s w line next h0 h1 r fault (step_of_line line) refl q (why s refl) e
 
 -- ---- a whole script
 
-unnumbered : (first : World) → StaysLawful first → first.faults ≡ 0 → (p : Option Script × World) (line : List ℕ) (fault : Fault) (lines : List (List ℕ)) (n : ℕ) (text : List ℕ) → plays script_step (Going 0 [] (None, first)) lines ≡ Going n text p → Speaks p line fault → SpeaksAgainst p line fault
+unnumbered : (first : World) → StaysLawful first → first.faults ≡ 0 → (p : Option Script × World) (line : List ℕ) (fault : LineRefusal) (lines : List (List ℕ)) (n : ℕ) (text : List ℕ) → plays script_step (Going 0 [] (None, first)) lines ≡ Going n text p → Speaks p line fault → SpeaksAgainst p line fault
 unnumbered first lawful none p line fault lines n text played (inl k) = k
 unnumbered first lawful none (None, w) line fault lines n text played (inr k) = absurd k
 unnumbered first lawful none (Some s, w) line fault lines n text played (inr k) = absurd (both_ways (has_numbers (daemon_in s) w.faults (disk_in s).faults) k.2 ((lawful lines n text s w played).numbers none))
 
-pub script_refused : (first : World) (lines : List (List ℕ)) (fault : Fault) → StaysLawful first → first.faults ≡ 0 → RefusesLines script_step (of_first script_end) Speaks (Going 0 [] (None, first)) lines fault → RefusesScript first lines
+pub script_refused : (first : World) (lines : List (List ℕ)) (fault : LineRefusal) → StaysLawful first → first.faults ≡ 0 → RefusesLines script_step (of_first script_end) Speaks (Going 0 [] (None, first)) lines fault → RefusesScript first lines
 script_refused first lines fault lawful none (AtLine r) = (
   fault,
   AtLine (record {
@@ -114,7 +114,7 @@ script_refused first lines fault lawful none (AtEnd n text p played more) = (fau
 
 -- ---- with the numbers in place of the journal
 
-abbrev pub SumSpeaks : Summary × World → List ℕ → Fault → Type 0
+abbrev pub SumSpeaks : Summary × World → List ℕ → LineRefusal → Type 0
 SumSpeaks p line fault = Speaks (p.0.0, p.1) line fault
 
 -- where the same lines lead without them
@@ -140,7 +140,7 @@ no_end : (p : Summary × World) → summary_end p ≡ None → script_end p.0.0 
 no_end ((None, t), w) e = refl
 no_end ((Some s, t), w) e = let none : ⊥ = cc in absurd none
 
-pub summary_refused : (first : World) (lines : List (List ℕ)) (fault : Fault) → StaysLawful first → first.faults ≡ 0 → RefusesLines summary_step summary_end SumSpeaks (Going 0 [] ((None, no_totals), first)) lines fault → RefusesScript first lines
+pub summary_refused : (first : World) (lines : List (List ℕ)) (fault : LineRefusal) → StaysLawful first → first.faults ≡ 0 → RefusesLines summary_step summary_end SumSpeaks (Going 0 [] ((None, no_totals), first)) lines fault → RefusesScript first lines
 summary_refused first lines fault lawful none (AtLine r) =
     let u = unsummed_at first r.earlier r.count r.text r.machine r.played in (
       fault,
@@ -162,7 +162,7 @@ summary_refused first lines fault lawful none (AtEnd n text p played more) =
 
 -- ---- each of them is refused
 
-one_refused : (p : Option Script × World) (line : List ℕ) (fault : Fault) → SpeaksAgainst p line fault → (next : Option Script × World) × (script_step p line ≡ Refused fault next)
+one_refused : (p : Option Script × World) (line : List ℕ) (fault : LineRefusal) → SpeaksAgainst p line fault → (next : Option Script × World) × (script_step p line ≡ Refused fault next)
 one_refused _ _ _ (NoHeader w line other) = by_header (pointwise nat_eq line header) refl
   where
     by_header : (b : Bool) → pointwise nat_eq line header ≡ b → (next : Option Script × World) × (cond b (quiet fresh w) (Refused BadLine (None, w)) ≡ Refused BadLine next)

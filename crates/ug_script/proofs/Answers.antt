@@ -2,18 +2,18 @@
 use Rattle.std.proofs.Common.{◌≡◌, ℕ, ◌+◌, ◌≤◌, nat_lt, length, Bool, true, false, not, ◌&&◌, ◌||◌, cond, List, [], ◌∷◌, ◌++◌, Option, Some, None, Result, Ok, Err, refl, sym, ◌∙◌, ap, subst, append_assoc, append-nil, arith}
 use Rattle.std.specs.List.{list_any}
 use Rattle.ug_types.specs.Principals.{Named}
-use Rattle.ug_types.specs.declared.refusal.Refusal.{Refusal}
-use Rattle.ug_types.specs.Parameters.{parameter_of, value_of, value_word}
-use Rattle.ug_types.specs.declared.parameter.Parameter.{Parameter}
-use Rattle.ug_types.specs.declared.parameter.ParameterName.{ParameterName}
+use Rattle.ug_refusal.specs.declared.refusal.Refusal.{Refusal}
+use Rattle.ug_parameter.specs.Parameters.{parameter_of, parameter_with, value_word}
+use Rattle.ug_parameter.specs.declared.parameter.Parameter.{Parameter}
+use Rattle.ug_parameter.specs.declared.parameter.ParameterName.{ParameterName}
 use Rattle.ug_types.specs.declared.rule.After.{After}
 use Rattle.ug_types.specs.declared.rule.After.TheVariants as after
 use Rattle.ug_types.specs.declared.rule.Rule.{Rule}
 use Rattle.ug_types.specs.declared.verdict.Target.{Target}
 use Rattle.ug_kernel.specs.declared.calls.Probe.{Probe}
 use Rattle.ug_kernel.specs.declared.calls.Probe.TheVariants as probe
-use Rattle.ug_kernel.specs.Along.{Made, answered, failures, count_calls}
-use Rattle.ug_kernel.specs.Calls.{Ask_alive, Told}
+use Rattle.ug_kernel.specs.Along.{Made, made_with, failures, count_calls}
+use Rattle.ug_kernel.specs.Calls.{Ask_alive, ToldAnswer}
 use Rattle.ug_kernel.specs.Tree.{Return}
 use Rattle.ug_kernel.proofs.Ways.{Ways, ways_last}
 use Rattle.ug_audit.specs.declared.entry.Entry.{Entry}
@@ -24,7 +24,7 @@ use Rattle.ug_policy.specs.declared.entry.RuleEntry.{RuleEntry}
 use Rattle.ug_rule.specs.Rules.{rule_read}
 use Rattle.ug_rule.specs.declared.fault.Fault.{Fault}
 use Rattle.ug_core.specs.DeviceRows.{device_rows}
-use Rattle.ug_rules.specs.RuleRows.{rule_rows}
+use Rattle.ug_ruleset.specs.RuleRows.{rule_rows}
 use Rattle.ug_proto.specs.declared.request.Request.{Request}
 use Rattle.ug_proto.specs.declared.request.Request.TheVariants as request
 use Rattle.ug_proto.specs.Privileges.{needs}
@@ -40,18 +40,18 @@ use Rattle.ug_table.specs.declared.standing.Settled.TheVariants as settled
 use Rattle.ug_table.specs.declared.standing.Standing.{Standing}
 use Rattle.ug_table.proofs.Ordered.{EndsOrder, ordering_ways}
 use Rattle.ug_table.proofs.PartCalls.{has_want, are_short}
-use Rattle.ug_play.specs.Play.{entry_tells_memory, is_short_reply, names_somebody, tells_memory, NameNobody}
-use Rattle.ug_play.proofs.Plays.{refused}
-use Rattle.ug_play.proofs.Sweeps.{Sums, sweeping_sums, nobody_told, nobody_more}
-use Rattle.ug_play.proofs.Wants.{memory_more}
-use Rattle.ug_core.specs.Answering.{acting, answer_of, answered_with, asking, asking_of, by_edit, by_name, by_permanent, by_probe, by_record, by_request, by_rule, by_setting, by_standing, by_value, changing as choosing, deed_after, if_granted, if_read, if_room, if_rule_made, if_rule_read, reply_to, telling, unless}
+use Rattle.ug_simulation.specs.Play.{entry_tells_memory, is_short_reply, names_somebody, tells_memory, NameNobody}
+use Rattle.ug_simulation.proofs.Plays.{refused}
+use Rattle.ug_simulation.proofs.Sweeps.{Sums, sweeping_sums, nobody_told, nobody_more}
+use Rattle.ug_simulation.proofs.Wants.{memory_more}
+use Rattle.ug_core.specs.Answering.{acting, answer_of, answered_with, asking, asking_of, by_edit, by_name, by_permanent, by_probe, by_record, by_request, by_rule, by_setting, by_standing, by_value, changing as choosing, deed_after, if_granted, if_read, if_reply_room, if_rule_made, if_rule_read, reply_to, telling, unless}
 use Rattle.ug_core.specs.Storing.{stored_with, with_changes}
 use Rattle.ug_core.specs.declared.storing.Stored.{Stored}
 use Rattle.ug_core.specs.declared.storing.Stored.TheVariants as stored
 use Rattle.ug_types.specs.declared.saved.Saved.TheVariants as saved
-use Rattle.ug_core.specs.Changes.{change_entry, change_lines, edit_for, parameter_at, verdict_edit}
-use Rattle.ug_rules.specs.RulePlaces.{first_of, has_rule, if_few, if_taken, if_there, made_rule}
-use Rattle.ug_rules.specs.declared.edit.Edit.TheVariants.{Insert, Remove, Retarget}
+use Rattle.ug_core.specs.Changes.{change_entry, change_lines, edit_for, ordered_mark, parameter_at, verdict_edit}
+use Rattle.ug_ruleset.specs.RulePlaces.{first_of, has_rule, if_few, if_taken, if_there, made_rule}
+use Rattle.ug_ruleset.specs.declared.edit.Edit.TheVariants.{Insert, Remove, Retarget}
 use Rattle.std.specs.Prelude.{decimal}
 use Rattle.std.proofs.lemmas.Option.{same_Some}
 use Rattle.ug_types.specs.declared.record.DeviceRecord.{DeviceRecord}
@@ -86,9 +86,9 @@ Does ss ok ms change (deed.SetVerdict number verdict on lines) = (ok ≡ true) �
 abbrev pub Asks : List Standing → Bool → List Made → Choice → Type 0
 Asks ss ok ms c = Does ss ok ms c.change c.deed
 
-module _ (ss : List Standing) (p : Judging) (number : ℕ) (verdict : Target) (x : Standing) (t : Told Probe) (at : numbered number ss ≡ Some x) where
+module _ (ss : List Standing) (p : Judging) (number : ℕ) (verdict : Target) (x : Standing) (t : ToldAnswer Probe) (at : numbered number ss ≡ Some x) where
   abbrev Behind : Bool → List Made → Choice → Type 0
-  Behind ok ms c = Asks ss ok (answered (Ask_alive x.held.0) t ∷ ms) c
+  Behind ok ms c = Asks ss ok (made_with (Ask_alive x.held.0) t ∷ ms) c
 
   edit_asks : (on : Bool) (device : DeviceRecord) (o : Option ℕ) → Behind true [] (by_edit p number verdict on (edit_for device p.classes.with_port verdict o))
   edit_asks on device (Some id) = (refl, refl, omega arith, (x, at))
@@ -122,7 +122,7 @@ standing_asks ss p number verdict permanent (Some x) at = λ t. found_asks ss p 
 telling_asks : (ss : List Standing) (rows : List (List ℕ)) → Ways (telling rows) (Asks ss)
 telling_asks ss rows = by_room
   where
-    by_room : (b : Bool) → Ways (if_room rows b) (λ ok ms c. Asks ss (b && ok) ms c)
+    by_room : (b : Bool) → Ways (if_reply_room rows b) (λ ok ms c. Asks ss (b && ok) ms c)
     by_room true = (refl, refl)
     by_room false = (refl, omega arith)
 
@@ -136,7 +136,7 @@ value_asks ss (Some to) = (refl, refl)
 
 setting_asks : (ss : List Standing) (o : Option ParameterName) (value : List ℕ) → Asks ss true [] (by_setting o value)
 setting_asks ss None value = (refl, omega arith)
-setting_asks ss (Some set) value = value_asks ss (value_of set value)
+setting_asks ss (Some set) value = value_asks ss (parameter_with set value)
 
 -- a change that isn't refused
 unless_asks : (ss : List Standing) (o : Option Refusal) (change : Change) (rows : List (List ℕ)) → ((r : Refusal) → o ≡ Some r → is_short_reply (Err r) ≡ false) → Asks ss true [] (unless o (choosing change (deed.Tell rows)))
@@ -162,7 +162,7 @@ taken_long (after.Rule id) rules r h = by_there (has_rule id rules) h
 
 rule_asks : (ss : List Standing) (p : Judging) (place : After) (permanent : Bool) (r : Result Rule Fault) → Asks ss true [] (by_rule p place permanent r)
 rule_asks ss p place permanent (Err bad) = (refl, omega arith)
-rule_asks ss p place permanent (Ok rule) = unless_asks ss (if_taken place p.rules) (Rules (Insert place rule (not permanent))) (decimal p.next ∷ []) (taken_long place p.rules)
+rule_asks ss p place permanent (Ok rule) = unless_asks ss (if_taken place p.rules) (Rules (Insert place rule (ordered_mark permanent))) (decimal p.next ∷ []) (taken_long place p.rules)
 
 append_asks : (ss : List Standing) (p : Judging) (place : After) (permanent : Bool) (text : List ℕ) (b : Bool) → Ways (if_rule_read p place permanent text b) (λ ok ms c. Asks ss (b && ok) ms c)
 append_asks ss p place permanent text true = rule_asks ss p place permanent (rule_read text)

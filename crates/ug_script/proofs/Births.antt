@@ -8,13 +8,13 @@ use Rattle.std.proofs.lemmas.Grind.{flat_map-append}
 use Rattle.std.proofs.lemmas.List.{map-append}
 use Rattle.std.proofs.lemmas.Option.{none-some, same_Some}
 use Rattle.ug_types.specs.Names.{parent_of}
-use Rattle.ug_types.specs.declared.control.Write.{Write}
+use Rattle.ug_kernel.specs.declared.control.Write.{Write}
 use Rattle.ug_types.specs.declared.rule.Rule as types
 use Rattle.ug_kernel.specs.declared.device.Device.{Device}
 use Rattle.ug_kernel.specs.declared.device.Effect.{Effect}
 use Rattle.ug_kernel.specs.Called.{written_to}
 use Rattle.ug_kernel.specs.Calls.{Call, Open, Put}
-use Rattle.ug_kernel.specs.Kernel.{Begins, IsSound, Kernel, Moved, live_count}
+use Rattle.ug_kernel.specs.Kernel.{BeginsWith, IsSound, Kernel, Moved, live_count}
 use Rattle.ug_kernel.specs.Tree.{Prog, Return, Ask, Room}
 use Rattle.ug_kernel.proofs.Sounds.{sound_set}
 use Rattle.ug_sysfs.specs.declared.script.Move.{Move}
@@ -26,13 +26,13 @@ use Rattle.ug_sysfs.specs.Birth.{CanBeBorn, IsParent, plugged_born, plugged_not}
 use Rattle.ug_sysfs.specs.Devices.{find}
 use Rattle.ug_sysfs.specs.Find.{find_none, find_some, live_held_some}
 use Rattle.ug_sysfs.specs.Sound.{sound_happen}
-use Rattle.ug_sysfs.specs.World.{World, answer_from, answer_of, begun, due, effect, entered, fate_of, happen, happen_all, live_held, moved, opened_at, over, put_at, switched, switched_to, with_file}
+use Rattle.ug_sysfs.specs.World.{World, answer_from, scripted_answer, event_begun, due, effect, entered, fate_of, happen, happen_all, live_held, moved, opened_at, over, put_at, switched, switched_to, with_file}
 use Rattle.ug_kernel.specs.Calls.{Answer, raised}
-use Rattle.ug_play.specs.Play.{play}
-use Rattle.ug_play.proofs.Plays.{unless_cases}
+use Rattle.ug_simulation.specs.Play.{play}
+use Rattle.ug_simulation.proofs.Plays.{unless_cases}
 use Rattle.ug_store.specs.PlayDisk.{play_disk}
 use Rattle.ug_store.specs.Scripted.{DiskWorld}
-use Rattle.ug_console.specs.Fold.{Fault, BadLine, Going, Halted, InputTooLong, Outcome, Refused, Stage, Writes, is_within, plays, stage_after}
+use Rattle.ug_command_io.specs.Fold.{LineRefusal, BadLine, Going, Halted, InputTooLong, LineOutcome, Refused, Stage, Writes, is_within, plays, stage_after}
 use Rattle.ug_core.specs.Answering.{acting, asking, deed_after}
 use Rattle.ug_core.specs.Event.{DaemonState, handling, has_numbers, ready}
 use Rattle.ug_core.specs.Storing.{stored_with, storing}
@@ -44,7 +44,7 @@ use Rattle.ug_script.specs.declared.step.Step.{Step}
 use Rattle.ug_script.specs.declared.step.Step.TheVariants as step
 use Rattle.ug_script.specs.Births.{AreMovesOf, Becomes, BecomesBy, Born, Change, Facts, Idle, StaysBorn, Unplugged, Wrote, birth_in, effect_in, facts_given, facts_of, move_in, scheduled_action}
 use Rattle.ug_script.specs.Grammar.{step_of_line}
-use Rattle.ug_script.specs.Replay.{Played, answered_by, answered_from, begun_disk, came_of, event_from, finished, halted, header, in_script, line_added, planned, quiet, restarted, script_step, stop_in, stopped_of, taken, taken_if, tried_by}
+use Rattle.ug_script.specs.Replay.{Played, order_played_by, answered_from, begun_disk, came_of, event_from, finished, halted, header, in_script, line_added, planned, quiet, restarted, script_step, stop_in, stopped_of, taken, taken_if, tried_by}
 use Rattle.ug_script.specs.Schedules.{IsSchedule}
 use Rattle.ug_script.specs.Script.{Script, can_start, daemon_in, disk_in, fresh, takes_setup}
 use Rattle.ug_script.specs.Setup.{SetupState, one_line_more, rules_from, steps_of}
@@ -209,16 +209,16 @@ answer_goes w call s =
     let t : World = (answer_from (entered w) call).1 in
     goes_then w.moves (entered w).moves t.moves w.kernel (entered w).kernel t.kernel x (from_goes (entered w) call x.sound)
 
-call_goes : (w : World) (call : Call) → IsSound w.kernel.devices → GoesTo w (answer_of w call).1
+call_goes : (w : World) (call : Call) → IsSound w.kernel.devices → GoesTo w (scripted_answer w call).1
 call_goes w call s = unless_cases (λ call (p : Answer call × World). GoesTo w p.1) w.ran_out w (λ held. goes_still w.moves w.kernel w.kernel refl refl s) (λ call t. goes_still w.moves w.kernel w.kernel refl refl s) (λ call f. answer_goes w call s) call
 
 play_goes : {R : Type 0} (p : Prog R) (w : World) → IsSound w.kernel.devices → GoesTo w (play p w).1
 play_goes (Return value) w s = goes_still w.moves w.kernel w.kernel refl refl s
 play_goes (Ask call next) w s =
-    let u : World = (answer_of w call).1 in
-    let t : World = (play (next (answer_of w call).0) u).1 in
+    let u : World = (scripted_answer w call).1 in
+    let t : World = (play (next (scripted_answer w call).0) u).1 in
     let x = call_goes w call s in
-    goes_then w.moves u.moves t.moves w.kernel u.kernel t.kernel x (play_goes (next (answer_of w call).0) u x.sound)
+    goes_then w.moves u.moves t.moves w.kernel u.kernel t.kernel x (play_goes (next (scripted_answer w call).0) u x.sound)
 play_goes (Room next) w s = play_goes (next true) w s
 
 -- ---- an event
@@ -231,7 +231,7 @@ halted_goes o w s =
     let still : Goes w.moves w.kernel w.moves (halted o w).kernel = goes_still w.moves w.kernel (halted o w).kernel (ap (λ (k : Kernel). k.devices) (halted_kernel o w)) (ap (λ (k : Kernel). k.log) (halted_kernel o w)) s in
     subst (λ (ms : List Scheduled). Goes w.moves w.kernel ms (halted o w).kernel) (sym (halted_moves o w)) still
 
-answered_goes : (event : events.Event) (d : DaemonState) (w : World) (o : DiskWorld) → IsSound w.kernel.devices → GoesTo w (answered_by event d w o).world
+answered_goes : (event : events.Event) (d : DaemonState) (w : World) (o : DiskWorld) → IsSound w.kernel.devices → GoesTo w (order_played_by event d w o).world
 answered_goes (Sweep moment) d w o s = goes_still w.moves w.kernel w.kernel refl refl s
 answered_goes (Order moment who line) d w o s =
     let c = play (asking d who line) w in
@@ -243,15 +243,15 @@ answered_goes (Order moment who line) d w o s =
 event_goes : (event : events.Event) (d : DaemonState) (w : World) (o : DiskWorld) → IsSound w.kernel.devices → Goes w.moves w.kernel [] (over (event_from event d w o).world).kernel
 event_goes event d w o s =
     let q : DiskWorld = (tried_by d o).1 in
-    let start : World = halted q (begun w) in
+    let start : World = halted q (event_begun w) in
     let a = answered_from event d w o in
     let middle : World = halted a.disk a.world in
     let p = event_from event d w o in
-    let x : GoesTo (begun w) start = halted_goes q (begun w) s in
+    let x : GoesTo (event_begun w) start = halted_goes q (event_begun w) s in
     let y : GoesTo start a.world = answered_goes event (ready event (tried_by d o).0 d) start q x.sound in
     let z : GoesTo a.world middle = halted_goes a.disk a.world y.sound in
     let v : GoesTo middle p.world = play_goes (handling a.daemon) middle z.sound in
-    let until : GoesTo (begun w) p.world = to_then (begun w) start p.world x (to_then start a.world p.world y (to_then a.world middle p.world z v)) in
+    let until : GoesTo (event_begun w) p.world = to_then (event_begun w) start p.world x (to_then start a.world p.world y (to_then a.world middle p.world z v)) in
     goes_then w.moves p.world.moves [] w.kernel p.world.kernel (over p.world).kernel until (all_go p.world.moves p.world.kernel v.sound)
 
 -- ---- steps one after another
@@ -267,12 +267,12 @@ abbrev Leads : List Scheduled → Option Step → Kernel → List Scheduled → 
 Leads written asked k next l = (steps : List (Option Step)) (m : Kernel) → Comes next steps l m → Comes written (asked ∷ steps) k m
 
 -- what a step leads to
-abbrev After : List Scheduled → Option Step → Kernel → Outcome (Option Script × World) → Type 0
+abbrev After : List Scheduled → Option Step → Kernel → LineOutcome (Option Script × World) → Type 0
 After written asked k (Writes more (Some s, w)) = (next : List Scheduled) × IsSchedule next w.moves × IsSound w.kernel.devices × Leads written asked k next w.kernel
 After written asked k (Writes more (None, w)) = ⊥
 After written asked k (Refused fault next) = Unit {0}
 
-after_when : (written : List Scheduled) (asked : Option Step) (k : Kernel) (b : Bool) (o p : Outcome (Option Script × World)) → After written asked k o → After written asked k p → After written asked k (cond b o p)
+after_when : (written : List Scheduled) (asked : Option Step) (k : Kernel) (b : Bool) (o p : LineOutcome (Option Script × World)) → After written asked k o → After written asked k p → After written asked k (cond b o p)
 after_when written asked k true o p x y = x
 after_when written asked k false o p x y = y
 
@@ -280,7 +280,7 @@ added_after : (written : List Scheduled) (asked : Step) (s : Script) (w : World)
 added_after written asked s w None schedule sound leads = tt
 added_after written asked s w (Some setup) schedule sound leads = (written, schedule, sound, leads)
 
-restarted_after : (written : List Scheduled) (s : Script) (w : World) (loaded : Result (List types.Rule) Fault) → IsSchedule written w.moves → IsSound w.kernel.devices → After written (Some step.Restart) w.kernel (restarted loaded s w)
+restarted_after : (written : List Scheduled) (s : Script) (w : World) (loaded : Result (List types.Rule) LineRefusal) → IsSchedule written w.moves → IsSound w.kernel.devices → After written (Some step.Restart) w.kernel (restarted loaded s w)
 restarted_after written s w (Ok rules) schedule sound = (written, schedule, sound, λ steps m h. record { changes = h.changes; moves = h.moves; log = h.log; becomes = h.becomes })
 restarted_after written s w (Err fault) schedule sound = tt
 
@@ -315,7 +315,7 @@ event_leads written ms event k l schedule g = λ steps m h.
 over_after : (written : List Scheduled) (event : events.Event) (k : Kernel) (v : World) → Leads written (Some (step.Event event)) k [] (over v).kernel → IsSound (over v).kernel.devices → (next : List Scheduled) × IsSchedule next (over v).moves × IsSound (over v).kernel.devices × Leads written (Some (step.Event event)) k next (over v).kernel
 over_after written event k v leads sound = ([], nothing_written, sound, leads)
 
-stopped_after : (written : List Scheduled) (event : events.Event) (k : Kernel) (s : Script) (call : ℕ) (p : Played) (loaded : Result (List types.Rule) Fault) → Leads written (Some (step.Event event)) k [] (over p.world).kernel → IsSound (over p.world).kernel.devices → After written (Some (step.Event event)) k (in_script s (stopped_of s.setup call p loaded))
+stopped_after : (written : List Scheduled) (event : events.Event) (k : Kernel) (s : Script) (call : ℕ) (p : Played) (loaded : Result (List types.Rule) LineRefusal) → Leads written (Some (step.Event event)) k [] (over p.world).kernel → IsSound (over p.world).kernel.devices → After written (Some (step.Event event)) k (in_script s (stopped_of s.setup call p loaded))
 stopped_after written event k s call p (Ok rules) leads sound = over_after written event k p.world leads sound
 stopped_after written event k s call p (Err fault) leads sound = tt
 
@@ -323,7 +323,7 @@ came_after : (written : List Scheduled) (event : events.Event) (k : Kernel) (s :
 came_after written event k s p true leads sound = stopped_after written event k s (stop_in s.planned p) p (rules_from p.disk.disk.text) leads sound
 came_after written event k s p false leads sound = over_after written event k p.world leads sound
 
-event_after : (written : List Scheduled) (event : events.Event) (k : Kernel) (s : Script) (w : World) (start room : Bool) (came : Outcome Played) (other : Played) → After written (Some (step.Event event)) k (in_script s came) → After written (Some (step.Event event)) k (cond start (in_script s (cond room came (Refused BadLine other))) (Refused InputTooLong (Some s, w)))
+event_after : (written : List Scheduled) (event : events.Event) (k : Kernel) (s : Script) (w : World) (start room : Bool) (came : LineOutcome Played) (other : Played) → After written (Some (step.Event event)) k (in_script s came) → After written (Some (step.Event event)) k (cond start (in_script s (cond room came (Refused BadLine other))) (Refused InputTooLong (Some s, w)))
 event_after written event k s w true true came other h = h
 event_after written event k s w true false came other h = tt
 event_after written event k s w false room came other h = tt
@@ -345,11 +345,11 @@ line_after written (Some asked) s w schedule sound = step_after written asked s 
 
 -- ---- lines one after another
 
-refused_on : (fault : Fault) (n : ℕ) (text : List ℕ) (p : Option Script × World) (lines : List (List ℕ)) → plays script_step (Halted fault n text p) lines ≡ Halted fault n text p
+refused_on : (fault : LineRefusal) (n : ℕ) (text : List ℕ) (p : Option Script × World) (lines : List (List ℕ)) → plays script_step (Halted fault n text p) lines ≡ Halted fault n text p
 refused_on fault n text p [] = refl
 refused_on fault n text p (line ∷ lines) = refused_on fault n text p lines
 
-never : {X : Type 0} (fault : Fault) (n : ℕ) (text : List ℕ) (p : Option Script × World) (lines : List (List ℕ)) (m : ℕ) (out : List ℕ) (q : Option Script × World) → plays script_step (Halted fault n text p) lines ≡ Going m out q → X
+never : {X : Type 0} (fault : LineRefusal) (n : ℕ) (text : List ℕ) (p : Option Script × World) (lines : List (List ℕ)) (m : ℕ) (out : List ℕ) (q : Option Script × World) → plays script_step (Halted fault n text p) lines ≡ Going m out q → X
 never fault n text p lines m out q e = let h : Halted fault n text p ≡ Going m out q = sym (refused_on fault n text p lines) ∙ e in let none : ⊥ = cc in absurd none
 
 abbrev EndsAt : List Scheduled → Kernel → Stage (Option Script × World) → Type 0
@@ -359,7 +359,7 @@ EndsAt written k (Halted fault n text p) = Unit {0}
 
 rest_comes : (written : List Scheduled) (asked : Option Step) (k : Kernel) (n : ℕ) (text : List ℕ) (p : Option Script × World) (lines : List (List ℕ)) (m : ℕ) (out : List ℕ) (t : Script) (v : World)
     → ((next : List Scheduled) (more : List ℕ) (s : Script) (w : World) → IsSchedule next w.moves → IsSound w.kernel.devices → plays script_step (Going (n + 1) more (Some s, w)) lines ≡ Going m out (Some t, v) → Comes next (map step_of_line lines) w.kernel v.kernel)
-    → (b : Bool) (o : Outcome (Option Script × World)) → After written asked k o → plays script_step (cond b (stage_after n text o) (Halted BadLine n text p)) lines ≡ Going m out (Some t, v) → Comes written (asked ∷ map step_of_line lines) k v.kernel
+    → (b : Bool) (o : LineOutcome (Option Script × World)) → After written asked k o → plays script_step (cond b (stage_after n text o) (Halted BadLine n text p)) lines ≡ Going m out (Some t, v) → Comes written (asked ∷ map step_of_line lines) k v.kernel
 rest_comes written asked k n text p lines m out t v again true (Writes more (Some s, w)) h e = h.3 (map step_of_line lines) v.kernel (again h.0 (text ++ more) s w h.1 h.2 e)
 rest_comes written asked k n text p lines m out t v again true (Writes more (None, w)) h e = absurd h
 rest_comes written asked k n text p lines m out t v again true (Refused fault next) h e = never fault n text next lines m out (Some t, v) e
@@ -392,7 +392,7 @@ all_come first moves sound (line ∷ lines) n text s w e =
 facts_moved : (d e : Device) → Moved d e → facts_of e ≡ facts_of d
 facts_moved d e m = rw (m.stays.name, m.stays.descriptors, m.stays.product, m.stays.serial, m.stays.connect) refl
 
-facts_begin : (ds es : List Device) → Begins ds es → length es ≡ length ds → map facts_of es ≡ map facts_of ds
+facts_begin : (ds es : List Device) → BeginsWith ds es → length es ≡ length ds → map facts_of es ≡ map facts_of ds
 facts_begin [] [] b n = refl
 facts_begin [] (e ∷ es) b n = absurd (omega (arith, n))
 facts_begin (d ∷ ds) [] b n = absurd b

@@ -4,16 +4,16 @@ use Rattle.std.specs.Cmp.Lexicographic.{pointwise}
 use Rattle.ug_types.specs.declared.rule.Rule.{Rule}
 use Rattle.ug_kernel.specs.Kernel.{IsKernel}
 use Rattle.ug_sysfs.specs.World.{World}
-use Rattle.ug_rules.specs.RuleFile.{CanSave, IsRuleFile}
-use Rattle.ug_rules.proofs.Readable.{saved_file}
+use Rattle.ug_ruleset.specs.RuleFile.{CanSave, IsRuleFile}
+use Rattle.ug_ruleset.proofs.Readable.{saved_file}
 use Rattle.ug_store.specs.declared.mishap.Planned.{Planned}
 use Rattle.ug_core.specs.Chain.{Happened}
 use Rattle.ug_core.specs.Event.{has_numbers}
 use Rattle.ug_core.specs.Policy.{Judging}
 use Rattle.ug_core.specs.Stops.{AllReadable, IsReadable}
 use Rattle.ug_core.specs.declared.daemon.Event as events
-use Rattle.ug_console.specs.Fold.{Fault, BadLine, InputTooLong, Outcome, Writes, Refused, Stage, Going, Halted, fault_of, is_within, of_first, plays, stage_after}
-use Rattle.ug_console.specs.Refusals.{HoldsOfEach}
+use Rattle.ug_command_io.specs.Fold.{LineRefusal, BadLine, InputTooLong, LineOutcome, Writes, Refused, Stage, Going, Halted, fault_of, is_within, of_first, plays, stage_after}
+use Rattle.ug_command_io.specs.Refusals.{HoldsOfEach}
 use Rattle.ug_script.specs.declared.step.Plan.{Plan}
 use Rattle.ug_script.specs.declared.step.Plan.TheVariants as plan
 use Rattle.ug_script.specs.declared.step.Step.{Step}
@@ -24,7 +24,7 @@ use Rattle.ug_script.specs.Journal.{AreSuccessive, EventsOfRuns, RunEnd, RunStar
 use Rattle.ug_script.specs.LinesRead.{FirstReads, LineReads, StepReads}
 use Rattle.ug_script.specs.Replay.{Played, bad, came_of, event_of, finished, header, in_script, line_added, planned, quiet, restarted, script_end, script_step, stopped_of, taken, taken_if, with_plan}
 use Rattle.ug_script.specs.Script.{Phase, SettingUp, Unstarted, Started, Script, can_start, closed_phase, daemon_in, disk_in, fresh, has_started, takes_setup, with_setup_closed}
-use Rattle.ug_script.specs.Setup.{Beside, SetupState, one_line_more, rule_asked, rules_from, steps_of}
+use Rattle.ug_script.specs.Setup.{Beside, SetupState, one_line_more, setup_rule, rules_from, steps_of}
 use Rattle.ug_script.proofs.Journals.{rules_given, unstarted_runs}
 
 -- ---- the runs of which each carries on the one before
@@ -53,7 +53,7 @@ record Reread (s : Script) (runs : EventsOfRuns) : Type 0 where
   ended : RunsRead runs.ended
   last : AllReadable runs.last
 
-abbrev RereadBy : Outcome (Option Script × World) → EventsOfRuns → Type 0
+abbrev RereadBy : LineOutcome (Option Script × World) → EventsOfRuns → Type 0
 RereadBy (Writes more (Some s, w)) runs = Reread s runs
 RereadBy (Writes more (None, w)) runs = ⊥
 RereadBy (Refused fault p) runs = Unit {0}
@@ -97,18 +97,18 @@ module _ (event : events.Event) (s : Script) (w : World) (runs : EventsOfRuns) (
   hs : AllReadable (runs.last ++ happened_at event s w ∷ [])
   hs = events_more runs.last (happened_at event s w) h.last reads.1
 
-  came_reread : (stopped : Bool) (loaded : Result (List Rule) Fault) → RereadBy (in_script s (cond stopped (stopped_of s.setup (stop_of event s w) (event_of event s w) loaded) (finished (event_of event s w)))) (with_stop stopped (stop_of event s w) (with_events (happened_at event s w ∷ []) runs))
+  came_reread : (stopped : Bool) (loaded : Result (List Rule) LineRefusal) → RereadBy (in_script s (cond stopped (stopped_of s.setup (stop_of event s w) (event_of event s w) loaded) (finished (event_of event s w)))) (with_stop stopped (stop_of event s w) (with_events (happened_at event s w ∷ []) runs))
   came_reread true (Ok rules) = record { first = λ e. starts_reread s runs reads.0 h; ended = runs_more runs.ended (record { events = runs.last ++ happened_at event s w ∷ []; stop = Some (stop_of event s w) }) h.ended hs; last = tt }
   came_reread true (Err fault) = tt
   came_reread false loaded = record { first = λ e. starts_reread s runs reads.0 h; ended = h.ended; last = hs }
 
-  event_reread : (stopped : Bool) (came : Outcome Played) (can has : Bool) → RereadBy (in_script s came) (with_stop stopped (stop_of event s w) (with_events (happened_at event s w ∷ []) runs))
+  event_reread : (stopped : Bool) (came : LineOutcome Played) (can has : Bool) → RereadBy (in_script s came) (with_stop stopped (stop_of event s w) (with_events (happened_at event s w ∷ []) runs))
       → RereadBy (cond can (in_script s (cond has came (Refused BadLine (record { daemon = daemon_in s; world = w; disk = disk_in s })))) (Refused InputTooLong (Some s, w))) (with_stop stopped (stop_of event s w) (with_events (cond (can && has) (happened_at event s w ∷ []) []) runs))
   event_reread stopped came true true k = k
   event_reread stopped came true false k = tt
   event_reread stopped came false has k = tt
 
-restart_reread : (s : Script) (w : World) (runs : EventsOfRuns) (can : Bool) (loaded : Result (List Rule) Fault) → FirstReads s → Reread s runs → RereadBy (cond can (restarted loaded s w) (Refused InputTooLong (Some s, w))) (with_end None runs)
+restart_reread : (s : Script) (w : World) (runs : EventsOfRuns) (can : Bool) (loaded : Result (List Rule) LineRefusal) → FirstReads s → Reread s runs → RereadBy (cond can (restarted loaded s w) (Refused InputTooLong (Some s, w))) (with_end None runs)
 restart_reread s w runs true (Ok rules) reads h = record { first = λ e. starts_reread s runs reads h; ended = runs_more runs.ended (record { events = runs.last; stop = None }) h.ended h.last; last = tt }
 restart_reread s w runs true (Err fault) reads h = tt
 restart_reread s w runs false loaded reads h = tt
@@ -130,11 +130,11 @@ line_reread (Some step) s w runs reads h = step_reread step s w runs reads h
 
 -- ---- lines one after another
 
-halted_stays : (fault : Fault) (n : ℕ) (text : List ℕ) (p : Option Script × World) (lines : List (List ℕ)) → plays script_step (Halted fault n text p) lines ≡ Halted fault n text p
+halted_stays : (fault : LineRefusal) (n : ℕ) (text : List ℕ) (p : Option Script × World) (lines : List (List ℕ)) → plays script_step (Halted fault n text p) lines ≡ Halted fault n text p
 halted_stays fault n text p [] = refl
 halted_stays fault n text p (line ∷ lines) = halted_stays fault n text p lines
 
-halts_never : {X : Type 0} (fault : Fault) (n : ℕ) (text : List ℕ) (p : Option Script × World) (lines : List (List ℕ)) (m : ℕ) (out : List ℕ) (q : Option Script × World) → plays script_step (Halted fault n text p) lines ≡ Going m out q → X
+halts_never : {X : Type 0} (fault : LineRefusal) (n : ℕ) (text : List ℕ) (p : Option Script × World) (lines : List (List ℕ)) (m : ℕ) (out : List ℕ) (q : Option Script × World) → plays script_step (Halted fault n text p) lines ≡ Going m out q → X
 halts_never fault n text p lines m out q e =
     let h : Halted fault n text p ≡ Going m out q = sym (halted_stays fault n text p lines) ∙ e in
     let none : ⊥ = cc in absurd none
@@ -147,7 +147,7 @@ RereadAt runs (Halted fault n text p) = Unit {0}
 
 rest_reread : (n : ℕ) (text : List ℕ) (p : Option Script × World) (runs : EventsOfRuns) (lines : List (List ℕ)) (m : ℕ) (out : List ℕ) (t : Script) (v : World)
     → ((more : List ℕ) (s : Script) (w : World) → Reread s runs → HoldsOfEach script_step LineReads (Going (n + 1) more (Some s, w)) lines → plays script_step (Going (n + 1) more (Some s, w)) lines ≡ Going m out (Some t, v) → Reread t (runs_after runs (Some s, w) lines))
-    → (b : Bool) (o : Outcome (Option Script × World)) → RereadBy o runs → HoldsOfEach script_step LineReads (cond b (stage_after n text o) (Halted BadLine n text p)) lines → plays script_step (cond b (stage_after n text o) (Halted BadLine n text p)) lines ≡ Going m out (Some t, v) → Reread t (runs_after runs (left_by o) lines)
+    → (b : Bool) (o : LineOutcome (Option Script × World)) → RereadBy o runs → HoldsOfEach script_step LineReads (cond b (stage_after n text o) (Halted BadLine n text p)) lines → plays script_step (cond b (stage_after n text o) (Halted BadLine n text p)) lines ≡ Going m out (Some t, v) → Reread t (runs_after runs (left_by o) lines)
 rest_reread n text p runs lines m out t v again true (Writes more (Some s, w)) k each e = again (text ++ more) s w k each e
 rest_reread n text p runs lines m out t v again true (Writes more (None, w)) k each e = absurd k
 rest_reread n text p runs lines m out t v again true (Refused fault next) k each e = halts_never fault n text next lines m out (Some t, v) e
@@ -184,7 +184,7 @@ pub stays_carried : (first : World) → first.ran_out ≡ false → IsKernel fir
 stays_carried first run sound lines n text s w e each = by_started (has_started s.phase) refl
   where
     rules : List Rule
-    rules = flat_map rule_asked (steps_of lines)
+    rules = flat_map setup_rule (steps_of lines)
 
     so : Reread s (runs_in first lines)
     so = all_reread first lines n text s w e each

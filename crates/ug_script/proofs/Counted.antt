@@ -7,7 +7,7 @@ use Rattle.std.proofs.lemmas.List.Elements.{filter-append}
 use Rattle.ug_lines.specs.Lines.{last_line, lines_of, rest_from, whole_from}
 use Rattle.ug_lines.proofs.Lines.{lines_from-append}
 use Rattle.ug_script.specs.declared.totals.Totals.{Totals}
-use Rattle.ug_script.specs.Summing.{count, kept, no_totals, totals_of, with_lines}
+use Rattle.ug_script.specs.Summing.{count, bounded_count, no_totals, totals_of, with_lines}
 use Rattle.ug_script.proofs.WholeLines.{IsWhole}
 
 -- the lines of whole lines and a text behind them
@@ -20,7 +20,7 @@ lines_behind a b e =
 count_both : (front : List ℕ) (xs ys : List (List ℕ)) → count front (xs ++ ys) ≡ count front xs + count front ys
 count_both front xs ys = ap length (filter-append (λ line. starts_with nat_eq line front) xs ys) ∙ length-append (filter (λ line. starts_with nat_eq line front) xs) (filter (λ line. starts_with nat_eq line front) ys)
 
-kept_both : (n a b both : ℕ) → both ≡ a + b → kept (kept (n + a) + b) ≡ kept (n + both)
+kept_both : (n a b both : ℕ) → both ≡ a + b → bounded_count (bounded_count (n + a) + b) ≡ bounded_count (n + both)
 kept_both n a b both e = omega (arith, e)
 
 abbrev numbers : ℕ → ℕ → ℕ → ℕ → Totals

@@ -7,15 +7,15 @@ use Rattle.ug_types.specs.declared.saved.Saved.{Saved}
 use Rattle.ug_types.specs.declared.saved.Saved.TheVariants as saved
 use Rattle.ug_types.specs.declared.verdict.Moment.{Moment}
 use Rattle.ug_table.specs.declared.standing.Standing.{Standing}
-use Rattle.ug_sysfs.specs.World.{World, Gives, begun, over}
+use Rattle.ug_sysfs.specs.World.{World, Gives, event_begun, over}
 use Rattle.ug_kernel.specs.Tree.{Runs}
 use Rattle.ug_audit.specs.declared.entry.Entry.{Entry}
-use Rattle.ug_play.specs.Play.{play, tells_memory, IsPlayed}
-use Rattle.ug_play.proofs.Plays.{TellsWant, played, refused, runs_out}
-use Rattle.ug_play.proofs.Wants.{memory_more}
+use Rattle.ug_simulation.specs.Play.{play, tells_memory, IsPlayed}
+use Rattle.ug_simulation.proofs.Plays.{TellsWant, played, refused, runs_out}
+use Rattle.ug_simulation.proofs.Wants.{memory_more}
 use Rattle.ug_kernel.proofs.Ways.{Went, ways_more, ways_run}
 use Rattle.ug_print.specs.RuleTexts.{rules_limit}
-use Rattle.ug_rules.specs.RuleFile.{CanSave, permanent_text}
+use Rattle.ug_ruleset.specs.RuleFile.{CanSave, permanent_text}
 use Rattle.ug_store.specs.PlayDisk.{play_disk}
 use Rattle.ug_store.specs.Scripted.{DiskWorld, MemKeeps, coming_up}
 use Rattle.ug_store.specs.Store.{RunsDisk, saving}
@@ -35,16 +35,16 @@ use Rattle.ug_core.specs.declared.daemon.Event as daemon
 use Rattle.ug_core.specs.declared.daemon.Event.TheVariants.{Sweep, Order}
 use Rattle.ug_core.specs.declared.storing.Stored.{Stored}
 use Rattle.ug_core.specs.declared.storing.Stored.TheVariants as stored
-use Rattle.ug_console.specs.Runs.{Steps, Closes}
-use Rattle.ug_console.specs.declared.machine.Ran.{Ran}
-use Rattle.ug_console.specs.declared.machine.Ran.TheVariants.{Done, Bad, TooLong, SinkFailed, Memory}
-use Rattle.ug_console.specs.Fold.{Fault, Outcome, Writes, Refused}
+use Rattle.ug_command_io.specs.Runs.{Steps, Closes}
+use Rattle.ug_command_io.specs.declared.machine.Ran.{Ran}
+use Rattle.ug_command_io.specs.declared.machine.Ran.TheVariants.{Done, Bad, TooLong, SinkFailed, Memory}
+use Rattle.ug_command_io.specs.Fold.{LineRefusal, LineOutcome, Writes, Refused}
 use Rattle.ug_script.specs.declared.step.Step.TheVariants.{Event}
 use Rattle.ug_script.specs.Journal.{happened_from}
 use Rattle.ug_script.specs.LinesRead.{StepReads}
-use Rattle.ug_script.specs.Setup.{SetupState, StartsOn, after_reading, rules_disk, rules_from, started}
+use Rattle.ug_script.specs.Setup.{SetupState, StartsOn, after_reading, rules_disk, rules_from, first_started}
 use Rattle.ug_script.specs.Script.{Script, Phase, SettingUp, Unstarted, Started, daemon_by, disk_by, has_started, fits_file}
-use Rattle.ug_script.specs.Replay.{IsEventPlayed, OrderPlayed, Played, answered_by, answered_from, begun_again, begun_disk, came_of, finished, event_by, event_from, event_taken, halted, in_script, stop_in, stopped_of, stopped_text, swept_behind, swept_over, tells, tried_by, with_choice, with_played, with_store}
+use Rattle.ug_script.specs.Replay.{IsEventPlayed, OrderPlayed, Played, order_played_by, answered_from, begun_again, begun_disk, came_of, finished, event_by, event_from, event_taken, halted, in_script, stop_in, stopped_of, stopped_text, swept_behind, swept_over, tells, tried_by, with_choice, with_played, with_store}
 use Rattle.ug_script.proofs.Halts.{halted_told}
 use Rattle.ug_script.proofs.Answers.{ActsSo, Asks, CanAct, SweepsSo, acting_ways, asking_ways, asks_can, asks_short, handling_ways, is_short_deed, short_asks, stored_can, stored_so}
 
@@ -102,7 +102,7 @@ none_stored d (Some change) o became p e h = let none : ⊥ = cc in absurd none
 
 -- it came to what is fixed, or that is told, or a world has run out
 abbrev IsOrderPlayed : daemon.Event → DaemonState → World → DiskWorld → DaemonState → Stored → World → DiskWorld → Type 0
-IsOrderPlayed event d w o a became m p = (record { daemon = a; became = became; world = m; disk = p } ≡ answered_by event d w o) ⊎ (tells a ⊎ ((m.ran_out ≡ true) ⊎ (p.ran_out ≡ true)))
+IsOrderPlayed event d w o a became m p = (record { daemon = a; became = became; world = m; disk = p } ≡ order_played_by event d w o) ⊎ (tells a ⊎ ((m.ran_out ≡ true) ⊎ (p.ran_out ≡ true)))
 
 same_order : {a b : DaemonState} {m n : World} (became : Stored) (p : DiskWorld) → a ≡ b → m ≡ n → ◌≡◌ {A = OrderPlayed} (record { daemon = a; became = became; world = m; disk = p }) (record { daemon = b; became = became; world = n; disk = p })
 same_order {b = b} {m = m} became p x y = ap (λ (v : DaemonState). record { daemon = v; became = became; world = m; disk = p }) x ∙ ap (λ (v : World). record { daemon = b; became = became; world = v; disk = p }) y
@@ -154,7 +154,7 @@ module _ (who : Named) (line : List ℕ) (d : DaemonState) (s : World) (o : Disk
   all_played i j k l x y =
       let done : ◌≡◌ {A = OrderPlayed} (record { daemon = a; became = became; world = m; disk = p }) (with_store who d (h.choice, h.behind) (became, p)) = same_order became p x y in
       let saved : ◌≡◌ {A = OrderPlayed} (with_store who d (h.choice, h.behind) (became, p)) (with_choice who d o (h.choice, h.behind)) = ap (λ (v : Stored × DiskWorld). with_store who d (h.choice, h.behind) v) (same_saved k l) in
-      let chosen : ◌≡◌ {A = OrderPlayed} (with_choice who d o (h.choice, h.behind)) (answered_by (Order moment who line) d s o) = ap (λ (v : Choice × World). with_choice who d o v) (same_chosen i j) in
+      let chosen : ◌≡◌ {A = OrderPlayed} (with_choice who d o (h.choice, h.behind)) (order_played_by (Order moment who line) d s o) = ap (λ (v : Choice × World). with_choice who d o v) (same_chosen i j) in
       inl (done ∙ saved ∙ chosen)
 
   by_acts : h.choice ≡ (play (asking d who line) s).0 → h.behind ≡ (play (asking d who line) s).1 → became ≡ (play_disk (storing d h.choice.change) o).0 → p ≡ (play_disk (storing d h.choice.change) o).1 → It
@@ -217,13 +217,13 @@ module _ (event : daemon.Event) (d : DaemonState) (s : World) (o : DiskWorld) (t
   abbrev Fixed_so : World → Type 0
   Fixed_so w = IsEventPlayed event d w o e t p
 
-  by_sweep : (w : World) → s ≡ halted q (begun w) → tried ≡ (tried_by d o).0 → q ≡ (tried_by d o).1 → record { daemon = a; became = became; world = m; disk = p } ≡ answered_by event (ready event tried d) s q → Fixed_so w
+  by_sweep : (w : World) → s ≡ halted q (event_begun w) → tried ≡ (tried_by d o).0 → q ≡ (tried_by d o).1 → record { daemon = a; became = became; world = m; disk = p } ≡ order_played_by event (ready event tried d) s q → Fixed_so w
   by_sweep w same i j answered = elim (played tells (handling a) v e t (ways_more (SweepsSo a) (TellsWant tells) (handling a) (λ ok ms x so f. tells_added a x so.rest so.entries (so.wants ∙ f)) (handling_ways a)) k) [
     | inl x ↦
         let swept : ◌≡◌ {A = Played} (record { daemon = e; world = t; disk = p }) (swept_behind (record { daemon = a; became = became; world = m; disk = p })) = same_played p x.0 x.1 ∙ ap (λ (u : World). swept_over p (play (handling a) u)) resumed in
-        let order : ◌≡◌ {A = Played} (swept_behind (record { daemon = a; became = became; world = m; disk = p })) (swept_behind (answered_by event (ready event tried d) s q)) = ap (λ (u : OrderPlayed). swept_behind u) answered in
-        let begins : ◌≡◌ {A = Played} (swept_behind (answered_by event (ready event tried d) s q)) (swept_behind (answered_by event (ready event tried d) (halted q (begun w)) q)) = ap (λ (u : World). swept_behind (answered_by event (ready event tried d) u q)) same in
-        let tries : ◌≡◌ {A = Played} (swept_behind (answered_by event (ready event tried d) (halted q (begun w)) q)) (event_from event d w o) = ap (λ (u : Option Saved × DiskWorld). swept_behind (answered_by event (ready event u.0 d) (halted u.1 (begun w)) u.1)) (same_tried i j) in
+        let order : ◌≡◌ {A = Played} (swept_behind (record { daemon = a; became = became; world = m; disk = p })) (swept_behind (order_played_by event (ready event tried d) s q)) = ap (λ (u : OrderPlayed). swept_behind u) answered in
+        let begins : ◌≡◌ {A = Played} (swept_behind (order_played_by event (ready event tried d) s q)) (swept_behind (order_played_by event (ready event tried d) (halted q (event_begun w)) q)) = ap (λ (u : World). swept_behind (order_played_by event (ready event tried d) u q)) same in
+        let tries : ◌≡◌ {A = Played} (swept_behind (order_played_by event (ready event tried d) (halted q (event_begun w)) q)) (event_from event d w o) = ap (λ (u : Option Saved × DiskWorld). swept_behind (order_played_by event (ready event u.0 d) (halted u.1 (event_begun w)) u.1)) (same_tried i j) in
         inl (swept ∙ order ∙ begins ∙ tries)
     | inr y ↦ elim y [
       | inl z ↦ inr (inl z)
@@ -234,7 +234,7 @@ module _ (event : daemon.Event) (d : DaemonState) (s : World) (o : DiskWorld) (t
       same_tried : {x : Option Saved} {y : DiskWorld} {z : Option Saved × DiskWorld} → x ≡ z.0 → y ≡ z.1 → ◌≡◌ {A = Option Saved × DiskWorld} (x, y) z
       same_tried {y = y} {z = z} u v = ap (λ (n : Option Saved). (n, y)) u ∙ ap (λ (n : DiskWorld). (z.0, n)) v
 
-  by_order : (w : World) → s ≡ halted q (begun w) → tried ≡ (tried_by d o).0 → q ≡ (tried_by d o).1 → Fixed_so w
+  by_order : (w : World) → s ≡ halted q (event_begun w) → tried ≡ (tried_by d o).0 → q ≡ (tried_by d o).1 → Fixed_so w
   by_order w same i j = elim (order_played event (ready event tried d) s q became m p a h) [
     | inl x ↦ by_sweep w same i j x
     | inr y ↦ elim y [
@@ -246,7 +246,7 @@ module _ (event : daemon.Event) (d : DaemonState) (s : World) (o : DiskWorld) (t
     ]
   ]
 
-  by_try : (w : World) → s ≡ halted q (begun w) → Fixed_so w
+  by_try : (w : World) → s ≡ halted q (event_begun w) → Fixed_so w
   by_try w same = elim (is_played (λ (x : Option Saved). x ≡ Some saved.Memory) (trying d) o tried q (trying_ends d) tries) [
     | inl x ↦ by_order w same x.0 x.1
     | inr y ↦ elim y [
@@ -256,14 +256,14 @@ module _ (event : daemon.Event) (d : DaemonState) (s : World) (o : DiskWorld) (t
   ]
 
   -- where nothing tells want of memory, the save of its order became what is fixed
-  became_so : (w : World) → s ≡ halted q (begun w) → tells_memory e.sweep.entries ≡ false → t.ran_out ≡ false → p.ran_out ≡ false → became ≡ (answered_from event d w o).became
+  became_so : (w : World) → s ≡ halted q (event_begun w) → tells_memory e.sweep.entries ≡ false → t.ran_out ≡ false → p.ran_out ≡ false → became ≡ (answered_from event d w o).became
   became_so w same quiet ran kept = elim (is_played (λ (x : Option Saved). x ≡ Some saved.Memory) (trying d) o tried q (trying_ends d) tries) [
     | inl x ↦ elim (order_played event (ready event tried d) s q became m p a h) [
       | inl y ↦
           ap (λ (u : OrderPlayed). u.became) y
-          ∙ ap (λ (u : World). (answered_by event (ready event tried d) u q).became) same
-          ∙ ap (λ (u : Option Saved). (answered_by event (ready event u d) (halted q (begun w)) q).became) x.0
-          ∙ ap (λ (u : DiskWorld). (answered_by event (ready event (tried_by d o).0 d) (halted u (begun w)) u).became) x.1
+          ∙ ap (λ (u : World). (order_played_by event (ready event tried d) u q).became) same
+          ∙ ap (λ (u : Option Saved). (order_played_by event (ready event u d) (halted q (event_begun w)) q).became) x.0
+          ∙ ap (λ (u : DiskWorld). (order_played_by event (ready event (tried_by d o).0 d) (halted u (event_begun w)) u).became) x.1
       | inr y ↦ elim y [
         | inl z ↦ absurd (both_ways (tells_memory e.sweep.entries) quiet (tells_on a e swept_on z))
         | inr z ↦ elim z [
@@ -278,10 +278,10 @@ module _ (event : daemon.Event) (d : DaemonState) (s : World) (o : DiskWorld) (t
     ]
   ]
 
-pub event_played : (event : daemon.Event) (d : DaemonState) (w s : World) (o : DiskWorld) (tried : Option Saved) (q : DiskWorld) → RunsDisk MemKeeps o (trying d) tried q → (became : Stored) (m : World) (p : DiskWorld) (a : DaemonState) → RunsAnswer Gives MemKeeps event s q (ready event tried d) became m p a → (v : World) → v ≡ halted p m → (e : DaemonState) (t : World) → Runs Gives v (handling a) e t → (start : World) → start ≡ begun w → s ≡ halted q start → IsEventPlayed event d w o e t p
+pub event_played : (event : daemon.Event) (d : DaemonState) (w s : World) (o : DiskWorld) (tried : Option Saved) (q : DiskWorld) → RunsDisk MemKeeps o (trying d) tried q → (became : Stored) (m : World) (p : DiskWorld) (a : DaemonState) → RunsAnswer Gives MemKeeps event s q (ready event tried d) became m p a → (v : World) → v ≡ halted p m → (e : DaemonState) (t : World) → Runs Gives v (handling a) e t → (start : World) → start ≡ event_begun w → s ≡ halted q start → IsEventPlayed event d w o e t p
 event_played event d w s o tried q tries became m p a h v resumed e t k start begins same = by_try event d s o tried q tries became m p a h v resumed e t k w (same ∙ ap (λ (u : World). halted q u) begins)
 
-pub event_became : (event : daemon.Event) (d : DaemonState) (w s : World) (o : DiskWorld) (tried : Option Saved) (q : DiskWorld) → RunsDisk MemKeeps o (trying d) tried q → (became : Stored) (m : World) (p : DiskWorld) (a : DaemonState) → RunsAnswer Gives MemKeeps event s q (ready event tried d) became m p a → (v : World) → v ≡ halted p m → (e : DaemonState) (t : World) → Runs Gives v (handling a) e t → (start : World) → start ≡ begun w → s ≡ halted q start
+pub event_became : (event : daemon.Event) (d : DaemonState) (w s : World) (o : DiskWorld) (tried : Option Saved) (q : DiskWorld) → RunsDisk MemKeeps o (trying d) tried q → (became : Stored) (m : World) (p : DiskWorld) (a : DaemonState) → RunsAnswer Gives MemKeeps event s q (ready event tried d) became m p a → (v : World) → v ≡ halted p m → (e : DaemonState) (t : World) → Runs Gives v (handling a) e t → (start : World) → start ≡ event_begun w → s ≡ halted q start
     → tells_memory e.sweep.entries ≡ false → t.ran_out ≡ false → p.ran_out ≡ false → became ≡ (answered_from event d w o).became
 event_became event d w s o tried q tries became m p a h v resumed e t k start begins same = became_so event d s o tried q tries became m p a h v resumed e t k w (same ∙ ap (λ (u : World). halted q u) begins)
 
@@ -309,7 +309,7 @@ text_steps text next new before after SinkFailed same c = (same, c)
 text_steps text next new before after Memory same c = c
 
 -- the call that wanted memory wrote nothing
-pub memory_steps : {M : Type 0} (o : Outcome M) (new : M) (held : Option (List ℕ)) → Steps o new held held Memory
+pub memory_steps : {M : Type 0} (o : LineOutcome M) (new : M) (held : Option (List ℕ)) → Steps o new held held Memory
 memory_steps (Writes text next) new None = tt
 memory_steps (Writes text next) new (Some bytes) = refl
 memory_steps (Refused fault next) new None = tt
@@ -323,7 +323,7 @@ stopped_steps setup call p d w o before after r ended starts read c =
     ap (λ (x : DaemonState). record { daemon = x; world = w; disk = o }) starts.is
     ∙ ap (λ (x : World). record { daemon = next.daemon; world = x; disk = o }) ended
     ∙ ap (λ (x : DiskWorld). record { daemon = next.daemon; world = over p.world; disk = x }) read in
-    subst (λ (x : Result (List types.Rule) Fault). Steps (stopped_of setup call p x) (record { daemon = d; world = w; disk = o }) before after r) (sym starts.loaded) (text_steps (stopped_text call p.daemon.sweep.entries) next (record { daemon = d; world = w; disk = o }) before after r same c)
+    subst (λ (x : Result (List types.Rule) LineRefusal). Steps (stopped_of setup call p x) (record { daemon = d; world = w; disk = o }) before after r) (sym starts.loaded) (text_steps (stopped_text call p.daemon.sweep.entries) next (record { daemon = d; world = w; disk = o }) before after r same c)
 
 came_by : (setup : SetupState) (plan : List Planned) (p x : Played) (d : DaemonState) (w : World) (o : DiskWorld) (before after : Option (List ℕ)) (r : Ran) → p ≡ x → w ≡ over p.world → Steps (came_of setup plan p) (record { daemon = d; world = over p.world; disk = o }) before after r → Steps (came_of setup plan x) (record { daemon = d; world = w; disk = o }) before after r
 came_by setup plan p x d w o before after r same ended h = subst (λ (y : Played). Steps (came_of setup plan y) (record { daemon = d; world = w; disk = o }) before after r) same (subst (λ (v : World). Steps (came_of setup plan p) (record { daemon = d; world = v; disk = o }) before after r) (sym ended) h)
@@ -343,7 +343,7 @@ came_ended setup plan p x d w o before after r same stopped ended h =
 abbrev place : Script → Played → Option Script × World
 place s p = (Some (with_played s p), p.world)
 
-in_script_steps : (s : Script) (o : Outcome Played) (p : Played) (before after : Option (List ℕ)) (r : Ran) → Steps o p before after r → Steps (in_script s o) (place s p) before after r
+in_script_steps : (s : Script) (o : LineOutcome Played) (p : Played) (before after : Option (List ℕ)) (r : Ran) → Steps o p before after r → Steps (in_script s o) (place s p) before after r
 in_script_steps s (Writes text next) p before after Done h = (ap (place s) h.0, h.1)
 in_script_steps s (Writes text next) p before after Bad h = h
 in_script_steps s (Writes text next) p before after TooLong h = h
@@ -360,26 +360,26 @@ pub later_steps : (event : daemon.Event) (setup : SetupState) (d : DaemonState) 
 later_steps event setup d o plan left w p before after r none h = subst (λ (ps : List Planned). Steps (event_taken event (record { setup = setup; phase = Started d o; planned = plan }) w) (Some (record { setup = setup; phase = Started p.daemon p.disk; planned = ps }), p.world) before after r) (sym none) (in_script_steps (record { setup = setup; phase = Started d o; planned = plan }) (event_by setup event plan d w o) p before after r h)
 
 -- the first event
-first_by : (event : daemon.Event) (setup : SetupState) (phase : Phase) (plan : List Planned) (w : World) (p : Played) (before after : Option (List ℕ)) (r : Ran) → has_started phase ≡ false → fits_file setup ≡ true → Steps (event_by setup event plan (started setup) w (rules_disk setup)) p before after r → Steps (event_taken event (record { setup = setup; phase = phase; planned = plan }) w) (Some (record { setup = setup; phase = Started p.daemon p.disk; planned = [] }), p.world) before after r
-first_by event setup SettingUp plan w p before after r new fits h = rw fits (in_script_steps (record { setup = setup; phase = SettingUp; planned = plan }) (event_by setup event plan (started setup) w (rules_disk setup)) p before after r h)
-first_by event setup Unstarted plan w p before after r new fits h = rw fits (in_script_steps (record { setup = setup; phase = Unstarted; planned = plan }) (event_by setup event plan (started setup) w (rules_disk setup)) p before after r h)
+first_by : (event : daemon.Event) (setup : SetupState) (phase : Phase) (plan : List Planned) (w : World) (p : Played) (before after : Option (List ℕ)) (r : Ran) → has_started phase ≡ false → fits_file setup ≡ true → Steps (event_by setup event plan (first_started setup) w (rules_disk setup)) p before after r → Steps (event_taken event (record { setup = setup; phase = phase; planned = plan }) w) (Some (record { setup = setup; phase = Started p.daemon p.disk; planned = [] }), p.world) before after r
+first_by event setup SettingUp plan w p before after r new fits h = rw fits (in_script_steps (record { setup = setup; phase = SettingUp; planned = plan }) (event_by setup event plan (first_started setup) w (rules_disk setup)) p before after r h)
+first_by event setup Unstarted plan w p before after r new fits h = rw fits (in_script_steps (record { setup = setup; phase = Unstarted; planned = plan }) (event_by setup event plan (first_started setup) w (rules_disk setup)) p before after r h)
 first_by event setup (Started e disk) plan w p before after r new fits h = let none : ⊥ = cc in absurd none
 
-pub first_steps : (event : daemon.Event) (setup : SetupState) (phase : Phase) (d : DaemonState) (disk : DiskWorld) (plan left : List Planned) (w : World) (p : Played) (before after : Option (List ℕ)) (r : Ran) → has_started phase ≡ false → fits_file setup ≡ true → d ≡ started setup → disk ≡ rules_disk setup → left ≡ [] → Steps (event_by setup event plan d w disk) p before after r → Steps (event_taken event (record { setup = setup; phase = phase; planned = plan }) w) (Some (record { setup = setup; phase = Started p.daemon p.disk; planned = left }), p.world) before after r
-first_steps event setup phase d disk plan left w p before after r new fits is on none h = subst (λ (ps : List Planned). Steps (event_taken event (record { setup = setup; phase = phase; planned = plan }) w) (Some (record { setup = setup; phase = Started p.daemon p.disk; planned = ps }), p.world) before after r) (sym none) (first_by event setup phase plan w p before after r new fits (subst (λ (o : DiskWorld). Steps (event_by setup event plan (started setup) w o) p before after r) on (subst (λ (x : DaemonState). Steps (event_by setup event plan x w disk) p before after r) is h)))
+pub first_steps : (event : daemon.Event) (setup : SetupState) (phase : Phase) (d : DaemonState) (disk : DiskWorld) (plan left : List Planned) (w : World) (p : Played) (before after : Option (List ℕ)) (r : Ran) → has_started phase ≡ false → fits_file setup ≡ true → d ≡ first_started setup → disk ≡ rules_disk setup → left ≡ [] → Steps (event_by setup event plan d w disk) p before after r → Steps (event_taken event (record { setup = setup; phase = phase; planned = plan }) w) (Some (record { setup = setup; phase = Started p.daemon p.disk; planned = left }), p.world) before after r
+first_steps event setup phase d disk plan left w p before after r new fits is on none h = subst (λ (ps : List Planned). Steps (event_taken event (record { setup = setup; phase = phase; planned = plan }) w) (Some (record { setup = setup; phase = Started p.daemon p.disk; planned = ps }), p.world) before after r) (sym none) (first_by event setup phase plan w p before after r new fits (subst (λ (o : DiskWorld). Steps (event_by setup event plan (first_started setup) w o) p before after r) on (subst (λ (x : DaemonState). Steps (event_by setup event plan x w disk) p before after r) is h)))
 
 -- the numbers that it has room for are those of the daemon that it starts
-pub first_numbers : (setup : SetupState) (phase : Phase) (d : DaemonState) (o : DiskWorld) (w : World) → has_started phase ≡ false → d ≡ started setup → o ≡ rules_disk setup → has_numbers d w.faults o.faults ≡ false → has_numbers (daemon_by setup phase) w.faults (disk_by setup phase).faults ≡ false
-first_numbers setup SettingUp d o w new is on h = subst (λ (x : DiskWorld). has_numbers (started setup) w.faults x.faults ≡ false) on (subst (λ (x : DaemonState). has_numbers x w.faults o.faults ≡ false) is h)
-first_numbers setup Unstarted d o w new is on h = subst (λ (x : DiskWorld). has_numbers (started setup) w.faults x.faults ≡ false) on (subst (λ (x : DaemonState). has_numbers x w.faults o.faults ≡ false) is h)
+pub first_numbers : (setup : SetupState) (phase : Phase) (d : DaemonState) (o : DiskWorld) (w : World) → has_started phase ≡ false → d ≡ first_started setup → o ≡ rules_disk setup → has_numbers d w.faults o.faults ≡ false → has_numbers (daemon_by setup phase) w.faults (disk_by setup phase).faults ≡ false
+first_numbers setup SettingUp d o w new is on h = subst (λ (x : DiskWorld). has_numbers (first_started setup) w.faults x.faults ≡ false) on (subst (λ (x : DaemonState). has_numbers x w.faults o.faults ≡ false) is h)
+first_numbers setup Unstarted d o w new is on h = subst (λ (x : DiskWorld). has_numbers (first_started setup) w.faults x.faults ≡ false) on (subst (λ (x : DaemonState). has_numbers x w.faults o.faults ≡ false) is h)
 first_numbers setup (Started e disk) d o w new is on h = let none : ⊥ = cc in absurd none
 
 -- and so its rules can be read again
-pub first_reads : (event : daemon.Event) (setup : SetupState) (phase : Phase) (d : DaemonState) (o : DiskWorld) (plan : List Planned) (w : World) → has_started phase ≡ false → d ≡ started setup → o ≡ rules_disk setup → CanSave setup.rules → IsReadable (happened_from event d w (begun_disk plan o)) → StepReads (Some (Event event)) (record { setup = setup; phase = phase; planned = plan }) w
+pub first_reads : (event : daemon.Event) (setup : SetupState) (phase : Phase) (d : DaemonState) (o : DiskWorld) (plan : List Planned) (w : World) → has_started phase ≡ false → d ≡ first_started setup → o ≡ rules_disk setup → CanSave setup.rules → IsReadable (happened_from event d w (begun_disk plan o)) → StepReads (Some (Event event)) (record { setup = setup; phase = phase; planned = plan }) w
 first_reads event setup phase d o plan w new is on saves h = (λ n. saves, by_phase phase new)
   where
-    this : IsReadable (happened_from event (started setup) w (begun_disk plan (rules_disk setup)))
-    this = subst (λ (x : DiskWorld). IsReadable (happened_from event (started setup) w (begun_disk plan x))) on (subst (λ (x : DaemonState). IsReadable (happened_from event x w (begun_disk plan o))) is h)
+    this : IsReadable (happened_from event (first_started setup) w (begun_disk plan (rules_disk setup)))
+    this = subst (λ (x : DiskWorld). IsReadable (happened_from event (first_started setup) w (begun_disk plan x))) on (subst (λ (x : DaemonState). IsReadable (happened_from event x w (begun_disk plan o))) is h)
 
     by_phase : (phase : Phase) → has_started phase ≡ false → IsReadable (happened_from event (daemon_by setup phase) w (begun_disk plan (disk_by setup phase)))
     by_phase SettingUp new = this

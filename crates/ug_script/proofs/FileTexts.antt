@@ -3,19 +3,19 @@ use Rattle.std.proofs.Common.{◌≡◌, ℕ, Bool, true, false, List, [], ◌�
 use Rattle.std.proofs.lemmas.Option.{same_Some}
 use Rattle.ug_types.specs.Elements.{Has}
 use Rattle.ug_types.proofs.Elements.{has_cases}
-use Rattle.ug_types.specs.declared.refusal.Refusal.TheVariants as refusal
+use Rattle.ug_refusal.specs.declared.refusal.Refusal.TheVariants as refusal
 use Rattle.ug_types.specs.declared.rule.Rule.{Rule}
 use Rattle.ug_types.specs.declared.saved.Saved.{Saved}
 use Rattle.ug_types.specs.declared.saved.Saved.TheVariants as saved
 use Rattle.ug_rule.proofs.Cases.{one_outcome}
 use Rattle.ug_rule.specs.Files.{file_read}
-use Rattle.ug_sysfs.specs.World.{World, Gives, begun}
+use Rattle.ug_sysfs.specs.World.{World, Gives, event_begun}
 use Rattle.ug_audit.specs.declared.entry.Entry.TheVariants as entry
-use Rattle.ug_play.specs.Play.{play}
-use Rattle.ug_play.proofs.Plays.{play_runs}
+use Rattle.ug_simulation.specs.Play.{play}
+use Rattle.ug_simulation.proofs.Plays.{play_runs}
 use Rattle.ug_policy.specs.declared.entry.RuleEntry.{RuleEntry}
-use Rattle.ug_rules.specs.RuleFile.{IsRuleFile, IsSaveable, permanent_rules, permanent_text}
-use Rattle.ug_rules.proofs.Readable.{saved_file}
+use Rattle.ug_ruleset.specs.RuleFile.{IsRuleFile, IsSaveable, permanent_rules, permanent_text}
+use Rattle.ug_ruleset.proofs.Readable.{saved_file}
 use Rattle.ug_store.specs.Disk.{Disk, Images, IsImage, Texts}
 use Rattle.ug_store.specs.DiskCalls.{DiskCall, DiskTold, Load, Write_new, Sync_new, Swap}
 use Rattle.ug_store.specs.MemLaw.{mem_did}
@@ -40,7 +40,7 @@ use Rattle.ug_core.specs.declared.storing.Stored.TheVariants as stored
 use Rattle.ug_core.proofs.Kept.{kept_event}
 use Rattle.ug_core.proofs.Plain.{SameRules, event_keeps_rules}
 use Rattle.ug_script.specs.Journal.{CarriesOn}
-use Rattle.ug_script.specs.Replay.{OrderPlayed, answered_by, answered_from, event_from, halted, swept_behind, tried_by}
+use Rattle.ug_script.specs.Replay.{OrderPlayed, order_played_by, answered_from, event_from, halted, swept_behind, tried_by}
 use Rattle.ug_script.proofs.Lawful.{event_adds, event_disk, order_runs, start_of}
 
 -- ---- what a stop may leave changes no answer and no text
@@ -98,7 +98,7 @@ record SameOrder (a b : OrderPlayed) : Type 0 where
   world : b.world ≡ a.world
   disk : IsButForLeft a.disk b.disk
 
-order_alike : (event : Event) (d : DaemonState) (w : World) (o : DiskWorld) (left : Images) (past : List Images) → SameOrder (answered_by event d w o) (answered_by event d w (with_left o left past))
+order_alike : (event : Event) (d : DaemonState) (w : World) (o : DiskWorld) (left : Images) (past : List Images) → SameOrder (order_played_by event d w o) (order_played_by event d w (with_left o left past))
 order_alike (Sweep moment) d w o left past = record { became = refl; daemon = refl; world = refl; disk = (left, past, refl) }
 order_alike (Order moment who line) d w o left past =
     let c = play (asking d who line) w in
@@ -131,11 +131,11 @@ event_alike event d w o left past =
     let x = tried_by d o in
     let y = tried_by d p in
     let k : SameResult x y = played_alike (trying d) o left past in
-    let begins : OrderPlayed = answered_by event (ready event x.0 d) (halted x.1 (begun w)) (with_left x.1 k.1.0 k.1.1) in
+    let begins : OrderPlayed = order_played_by event (ready event x.0 d) (halted x.1 (event_begun w)) (with_left x.1 k.1.0 k.1.1) in
     let same : answered_from event d w p ≡ begins =
-    ap (λ (t : Option Saved). answered_by event (ready event t d) (halted y.1 (begun w)) y.1) k.0
-    ∙ ap (λ (q : DiskWorld). answered_by event (ready event x.0 d) (halted q (begun w)) q) k.1.2 in
-    let order : SameOrder (answered_from event d w o) (answered_from event d w p) = subst (λ (b : OrderPlayed). SameOrder (answered_from event d w o) b) (sym same) (order_alike event (ready event x.0 d) (halted x.1 (begun w)) x.1 k.1.0 k.1.1) in
+    ap (λ (t : Option Saved). order_played_by event (ready event t d) (halted y.1 (event_begun w)) y.1) k.0
+    ∙ ap (λ (q : DiskWorld). order_played_by event (ready event x.0 d) (halted q (event_begun w)) q) k.1.2 in
+    let order : SameOrder (answered_from event d w o) (answered_from event d w p) = subst (λ (b : OrderPlayed). SameOrder (answered_from event d w o) b) (sym same) (order_alike event (ready event x.0 d) (halted x.1 (event_begun w)) x.1 k.1.0 k.1.1) in
     record {
       tried = k.0;
       became = order.became;

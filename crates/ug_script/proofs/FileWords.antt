@@ -9,8 +9,8 @@ use Rattle.ug_types.specs.Elements.{Has}
 use Rattle.ug_lex.specs.declared.token.Token.{Token}
 use Rattle.ug_lex.specs.declared.token.TokenKind.{TokenKind}
 use Rattle.ug_lex.specs.declared.token.TokenKind.TheVariants as kind
-use Rattle.ug_lex.specs.Grammar.{AllStand, Blank, Good, InOrder, Mark, Part, Spells, Stands, String, Word, goes_on, joined, placed, token_at}
-use Rattle.ug_lex.specs.Lexing.{Lexed, mark_of, tokens_of}
+use Rattle.ug_lex.specs.Grammar.{AllStand, Blank, Good, InOrder, Mark, LinePart, Spells, StandsInLine, String, Word, goes_on, parts_text, tokens_placed, token_at}
+use Rattle.ug_lex.specs.Lexing.{Lexed, mark_token, tokens_of}
 use Rattle.ug_lex.proofs.Meaning.{good_read, in_order, read_good}
 use Rattle.ug_script.specs.declared.plugs.Files.{Files}
 use Rattle.ug_script.specs.LineGrammar.{AreFileWords, IsFileWord}
@@ -23,22 +23,22 @@ span text token = take (token.end - token.start) (drop token.start text)
 
 record StandsAt (text : List ℕ) (token : Token) : Type 0 where
   rest : List ℕ
-  stands : Stands (span text token) (Some token.kind) rest
+  stands : StandsInLine (span text token) (Some token.kind) rest
 
-all_stand : (text front : List ℕ) (at : ℕ) (parts : List Part) (rest : List ℕ) (token : Token) → length front ≡ at → text ≡ front ++ joined parts rest → AllStand parts rest → Has (placed at parts) token → StandsAt text token
+all_stand : (text front : List ℕ) (at : ℕ) (parts : List LinePart) (rest : List ℕ) (token : Token) → length front ≡ at → text ≡ front ++ parts_text parts rest → AllStand parts rest → Has (tokens_placed at parts) token → StandsAt text token
 all_stand text front at [] rest token l is stand h = absurd h
 all_stand text front at (part ∷ parts) rest token l is stand h =
-    by_kind part.kind stand.0 h (all_stand text (front ++ part.bytes) (at + length part.bytes) parts rest token (length-append front part.bytes ∙ ap (λ (n : ℕ). n + length part.bytes) l) (is ∙ sym (append_assoc front part.bytes (joined parts rest))) stand.1)
+    by_kind part.kind stand.0 h (all_stand text (front ++ part.bytes) (at + length part.bytes) parts rest token (length-append front part.bytes ∙ ap (λ (n : ℕ). n + length part.bytes) l) (is ∙ sym (append_assoc front part.bytes (parts_text parts rest))) stand.1)
   where
     spanned : (k : TokenKind) → span text (record { kind = k; start = at; end = at + length part.bytes }) ≡ part.bytes
     spanned k =
         let n : at + length part.bytes - at ≡ length part.bytes = omega arith in
         ap (λ (m : ℕ). take m (drop at text)) n ∙ ap (λ (t : List ℕ). take (length part.bytes) (drop at t)) is
-        ∙ ap (take (length part.bytes)) (drop_at front (part.bytes ++ joined parts rest) at l) ∙ take-append_seam part.bytes (joined parts rest)
+        ∙ ap (take (length part.bytes)) (drop_at front (part.bytes ++ parts_text parts rest) at l) ∙ take-append_seam part.bytes (parts_text parts rest)
 
-    by_kind : (k : Option TokenKind) → Stands part.bytes k (joined parts rest) → Has (token_at at part.bytes k ++ placed (at + length part.bytes) parts) token → (Has (placed (at + length part.bytes) parts) token → StandsAt text token) → StandsAt text token
+    by_kind : (k : Option TokenKind) → StandsInLine part.bytes k (parts_text parts rest) → Has (token_at at part.bytes k ++ tokens_placed (at + length part.bytes) parts) token → (Has (tokens_placed (at + length part.bytes) parts) token → StandsAt text token) → StandsAt text token
     by_kind None s h behind = behind h
-    by_kind (Some k) s (inl same) behind = subst (StandsAt text) same (record { rest = joined parts rest; stands = subst (λ (bs : List ℕ). Stands bs (Some k) (joined parts rest)) (sym (spanned k)) s })
+    by_kind (Some k) s (inl same) behind = subst (StandsAt text) same (record { rest = parts_text parts rest; stands = subst (λ (bs : List ℕ). StandsInLine bs (Some k) (parts_text parts rest)) (sym (spanned k)) s })
     by_kind (Some k) s (inr h) behind = behind h
 
 stands_at : (text : List ℕ) (tokens : List Token) (token : Token) → Good text tokens → Has tokens token → StandsAt text token
@@ -48,7 +48,7 @@ other_row : (v : Bool) (here it : TokenKind) (rest : Option TokenKind) → (here
 other_row true here it rest h k e = h (same_Some here it e)
 other_row false here it rest h k e = k e
 
-no_mark : (b : ℕ) (text : List ℕ) → mark_of b ≡ Some (kind.Str text) → ⊥
+no_mark : (b : ℕ) (text : List ℕ) → mark_token b ≡ Some (kind.Str text) → ⊥
 no_mark b text h =
     other_row (nat_eq b 123) kind.Open (kind.Str text) _ (λ e. cc) (λ h.
     other_row (nat_eq b 125) kind.Close (kind.Str text) _ (λ e. cc) (λ h.
@@ -61,7 +61,7 @@ record IsString (bytes text : List ℕ) : Type 0 where
   spells : Spells inside text
   is : bytes ≡ 34 ∷ (inside ++ 34 ∷ [])
 
-string_so : (bytes : List ℕ) (k : Option TokenKind) (rest text : List ℕ) → Stands bytes k rest → k ≡ Some (kind.Str text) → IsString bytes text
+string_so : (bytes : List ℕ) (k : Option TokenKind) (rest text : List ℕ) → StandsInLine bytes k rest → k ≡ Some (kind.Str text) → IsString bytes text
 string_so bytes k rest text (Blank b r h) e = absurd (none-some (kind.Str text) e)
 string_so bytes k rest text (Mark b mark r h) e = absurd (no_mark b text (h ∙ e))
 string_so bytes k rest text (Word b run r each stop) e = let none : ⊥ = cc in absurd none
@@ -192,14 +192,14 @@ abbrev kind_of : (file : Option (List ℕ)) (word : List ℕ) → IsFileWord fil
 kind_of None word h = kind.Word
 kind_of (Some file) word h = kind.Str h.1
 
-stands_so : (file : Option (List ℕ)) (word rest : List ℕ) (h : IsFileWord file word) → goes_on rest ≡ false → Stands word (Some (kind_of file word h)) rest
-stands_so None word rest h stop = subst (λ (w : List ℕ). Stands w (Some kind.Word) rest) (sym h) (Word 45 [] rest (refl, tt) stop)
-stands_so (Some file) word rest h stop = subst (λ (w : List ℕ). Stands w (Some (kind.Str h.1)) rest) (sym h.3) (String h.0 h.1 rest h.2)
+stands_so : (file : Option (List ℕ)) (word rest : List ℕ) (h : IsFileWord file word) → goes_on rest ≡ false → StandsInLine word (Some (kind_of file word h)) rest
+stands_so None word rest h stop = subst (λ (w : List ℕ). StandsInLine w (Some kind.Word) rest) (sym h) (Word 45 [] rest (refl, tt) stop)
+stands_so (Some file) word rest h stop = subst (λ (w : List ℕ). StandsInLine w (Some (kind.Str h.1)) rest) (sym h.3) (String h.0 h.1 rest h.2)
 
-abbrev part_of : (file : Option (List ℕ)) (word : List ℕ) → IsFileWord file word → Part
+abbrev part_of : (file : Option (List ℕ)) (word : List ℕ) → IsFileWord file word → LinePart
 part_of file word h = record { bytes = word; kind = Some (kind_of file word h) }
 
-abbrev gap : Part
+abbrev gap : LinePart
 gap = record { bytes = 32 ∷ []; kind = None }
 
 file_read : (text front word behind : List ℕ) (file : Option (List ℕ)) (h : IsFileWord file word) (token : Token) → text ≡ front ++ (word ++ behind) → token.kind ≡ kind_of file word h → token.start ≡ length front → token.end ≡ length front + length word → file_of text token ≡ Some file
@@ -215,14 +215,14 @@ so_files product serial connect text h =
     let k1 : TokenKind = kind_of product h.first h.product_is in
     let k2 : TokenKind = kind_of serial h.second h.serial_is in
     let k3 : TokenKind = kind_of connect h.third h.connect_is in
-    let parts : List Part = part_of product h.first h.product_is ∷ gap ∷ part_of serial h.second h.serial_is ∷ gap ∷ part_of connect h.third h.connect_is ∷ [] in
+    let parts : List LinePart = part_of product h.first h.product_is ∷ gap ∷ part_of serial h.second h.serial_is ∷ gap ∷ part_of connect h.third h.connect_is ∷ [] in
     let l1 : ℕ = length h.first in
     let l2 : ℕ = length h.second in
     let l3 : ℕ = length h.third in
     let a : Token = record { kind = k1; start = 0; end = 0 + l1 } in
     let b : Token = record { kind = k2; start = 0 + l1 + 1; end = 0 + l1 + 1 + l2 } in
     let c : Token = record { kind = k3; start = 0 + l1 + 1 + l2 + 1; end = 0 + l1 + 1 + l2 + 1 + l3 } in
-    let all : text ≡ joined parts [] = h.is ∙ ap (λ (t : List ℕ). h.first ++ 32 ∷ (h.second ++ 32 ∷ t)) (sym (append-nil h.third)) in
+    let all : text ≡ parts_text parts [] = h.is ∙ ap (λ (t : List ℕ). h.first ++ 32 ∷ (h.second ++ 32 ∷ t)) (sym (append-nil h.third)) in
     let good : Good text (a ∷ b ∷ c ∷ []) = record {
       parts = parts;
       rest = [];

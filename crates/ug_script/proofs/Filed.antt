@@ -12,8 +12,8 @@ use Rattle.ug_lex.specs.Lexing.{tokens_of, tokens_from, front_of}
 use Rattle.ug_store.specs.Disk.{Disk, Images, Texts, Anything, IsImage}
 use Rattle.ug_store.specs.Scripted.{DiskWorld, MemKeeps, coming_up, disk_told}
 use Rattle.ug_policy.specs.declared.entry.RuleEntry.{RuleEntry}
-use Rattle.ug_rules.specs.RuleFile.{IsRuleFile, IsSaveable, permanent_rules, permanent_text}
-use Rattle.ug_rules.proofs.Readable.{saved_file}
+use Rattle.ug_ruleset.specs.RuleFile.{IsRuleFile, IsSaveable, permanent_rules, permanent_text}
+use Rattle.ug_ruleset.proofs.Readable.{saved_file}
 use Rattle.ug_core.specs.Durable.{IsKept, KeepsFile, WritesEvent, if_written, texts_of, unsure_behind, unsure_with}
 use Rattle.ug_core.specs.Event.{DaemonState}
 use Rattle.ug_core.specs.Starting.{Outset, Starts}

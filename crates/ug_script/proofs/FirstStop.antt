@@ -2,21 +2,21 @@
 use Rattle.std.proofs.Common.{◌≡◌, ℕ, zero, suc, ◌-◌, ◌+◌, ◌^◌, ◌<◌, ◌≤◌, ◌||◌, Bool, true, false, cond, nat_le, nat_lt, List, None, refl, sym, ◌∙◌, ap, subst, arith}
 use Rattle.std.proofs.lemmas.Bool.{both_ways, cond_both}
 use Rattle.std.proofs.lemmas.Bool.Decides.{nat_tests}
-use Rattle.ug_play.specs.Play.{play}
+use Rattle.ug_simulation.specs.Play.{play}
 use Rattle.ug_store.specs.DiskCalls.{DiskCall, DiskTold, Load, Write_new, Sync_new, Swap}
 use Rattle.ug_store.specs.PlayDisk.{play_disk}
 use Rattle.ug_store.specs.Scripted.{DiskWorld, disk_answer, one_up, plan_at, stops_by}
 use Rattle.ug_store.specs.Store.{DiskProg, Ended, AskDisk, DiskRoom}
 use Rattle.ug_store.specs.declared.mishap.Planned.{Planned}
 use Rattle.ug_store.proofs.PlayedDisk.{play_stays_told}
-use Rattle.ug_sysfs.specs.World.{World, begun}
+use Rattle.ug_sysfs.specs.World.{World, event_begun}
 use Rattle.ug_core.specs.Answering.{asking}
 use Rattle.ug_core.specs.Event.{DaemonState, ready, trying}
 use Rattle.ug_core.specs.Storing.{storing}
 use Rattle.ug_core.specs.declared.daemon.Event.{Event}
 use Rattle.ug_core.specs.declared.daemon.Event.TheVariants.{Sweep, Order}
 use Rattle.ug_script.specs.Laws.{HasNoStop, IsFirstStop}
-use Rattle.ug_script.specs.Replay.{answered_by, begun_disk, event_from, first_stop, halted, tried_by}
+use Rattle.ug_script.specs.Replay.{order_played_by, begun_disk, event_from, first_stop, halted, tried_by}
 
 pub first_stop_at : (plan : List Planned) (other n : ℕ) → 0 < n → first_stop plan other n ≡ first_stop plan (cond (stops_by (plan_at n None plan)) n other) (n - 1)
 first_stop_at plan other zero h = let none : ⊥ = omega (arith, h) in absurd none
@@ -149,7 +149,7 @@ begun_stopping plan o = record {
   running = λ e call some within. let none : ⊥ = omega (arith, some, within) in absurd none;
 }
 
-order_stopping : (plan : List Planned) (event : Event) (d : DaemonState) (w : World) (o : DiskWorld) → o.ran_out ≡ false → Stopping plan o → Stopping plan (answered_by event d w o).disk
+order_stopping : (plan : List Planned) (event : Event) (d : DaemonState) (w : World) (o : DiskWorld) → o.ran_out ≡ false → Stopping plan o → Stopping plan (order_played_by event d w o).disk
 order_stopping plan (Sweep moment) d w o told h = h
 order_stopping plan (Order moment who line) d w o told h = play_stopping plan (storing d (play (asking d who line) w).0.change) o told h
 
@@ -157,7 +157,7 @@ event_stopping : (plan : List Planned) (event : Event) (d : DaemonState) (w : Wo
 event_stopping plan event d w o told =
     let b : DiskWorld = begun_disk plan o in
     let q : DiskWorld = (tried_by d b).1 in
-    order_stopping plan event (ready event (tried_by d b).0 d) (halted q (begun w)) q (play_stays_told (trying d) b told) (play_stopping plan (trying d) b told (begun_stopping plan o))
+    order_stopping plan event (ready event (tried_by d b).0 d) (halted q (event_begun w)) q (play_stays_told (trying d) b told) (play_stopping plan (trying d) b told (begun_stopping plan o))
 
 pub event_stops : (plan : List Planned) (event : Event) (d : DaemonState) (w : World) (o : DiskWorld) → o.ran_out ≡ false → (event_from event d w (begun_disk plan o)).disk.stopped ≡ true → IsFirstStop plan (event_from event d w (begun_disk plan o)).disk.calls (first_stop plan 0 (event_from event d w (begun_disk plan o)).disk.calls)
 event_stops plan event d w o told e =

@@ -6,7 +6,7 @@ use Rattle.hex.specs.declared.error.FromHexError.{FromHexError}
 use Rattle.hex.proofs.HexLemmas.{decode_of-even, decode_of-ok, decode_sized-ok, decode_sized-twice}
 use Rattle.ug_types.specs.Elements.{Has}
 use Rattle.ug_script.specs.LineGrammar.{AreHexOf}
-use Rattle.ug_script.specs.Words.{bytes_of, filled, seed_in, seed_of}
+use Rattle.ug_script.specs.Words.{bytes_of, some_bytes, seed_in, seed_of}
 
 bound_ok : {A B : Type 0} (r : Result A FromHexError) (next : A → Result B FromHexError) (b : B) → (r >>= next) ≡ Ok b → (a : A) × (r ≡ Ok a) × (next a ≡ Ok b)
 bound_ok (Ok a) next b h = (a, refl, h)
@@ -86,14 +86,14 @@ so_decoded digits bytes h = decode_of-even digits (even_so digits bytes h) ∙ s
 
 -- ---- at least one byte
 
-filled_so : (r : Result (List ℕ) FromHexError) (bytes : List ℕ) → filled r ≡ Some bytes → (r ≡ Ok bytes) × (bytes ≢ [])
+filled_so : (r : Result (List ℕ) FromHexError) (bytes : List ℕ) → some_bytes r ≡ Some bytes → (r ≡ Ok bytes) × (bytes ≢ [])
 filled_so (Ok []) bytes h = absurd (none-some bytes h)
 filled_so (Ok (b ∷ bs)) bytes h =
     let e : b ∷ bs ≡ bytes = same_Some (b ∷ bs) bytes h in
     (ap Ok e, λ k. let none : ⊥ = cc in none)
 filled_so (Err e) bytes h = absurd (none-some bytes h)
 
-so_filled : (bytes : List ℕ) → bytes ≢ [] → filled (Ok bytes) ≡ Some bytes
+so_filled : (bytes : List ℕ) → bytes ≢ [] → some_bytes (Ok bytes) ≡ Some bytes
 so_filled [] h = absurd (h refl)
 so_filled (b ∷ bytes) h = refl
 
@@ -103,7 +103,7 @@ bytes_so digits bytes h = let f = filled_so (decode_of digits) bytes h in (decod
 
 pub so_bytes : (digits bytes : List ℕ) → AreHexOf bytes digits → bytes ≢ [] → bytes_of digits ≡ Some bytes
 unfolding bytes_of
-so_bytes digits bytes h some = ap filled (so_decoded digits bytes h) ∙ so_filled bytes some
+so_bytes digits bytes h some = ap some_bytes (so_decoded digits bytes h) ∙ so_filled bytes some
 
 -- ---- a seed
 

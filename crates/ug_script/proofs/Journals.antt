@@ -10,15 +10,15 @@ use Rattle.ug_kernel.specs.Defaults.{HasOnEntries}
 use Rattle.ug_kernel.proofs.Defaults.{moves_on_entries}
 use Rattle.ug_kernel.specs.Kernel.{Kernel, IsKernel, Moves}
 use Rattle.ug_kernel.proofs.Stayed.{unmoving}
-use Rattle.ug_sysfs.specs.World.{IsUnfailing, World, begun, moved, over}
+use Rattle.ug_sysfs.specs.World.{IsUnfailing, World, event_begun, moved, over}
 use Rattle.ug_sysfs.specs.Begins.{moved_moves, happened_moves}
 use Rattle.ug_audit.specs.declared.entry.Entry.{Entry}
 use Rattle.ug_audit.specs.declared.entry.Entry.TheVariants as entry
 use Rattle.ug_table.specs.State.{State}
 use Rattle.ug_table.specs.Laws.{IsAsJudged}
-use Rattle.ug_play.specs.Play.{play, names_somebody, NameNobody}
-use Rattle.ug_play.proofs.Sweeps.{nobody_more}
-use Rattle.ug_play.proofs.Still.{lived_in_play, play_still}
+use Rattle.ug_simulation.specs.Play.{play, names_somebody, NameNobody}
+use Rattle.ug_simulation.proofs.Sweeps.{nobody_more}
+use Rattle.ug_simulation.proofs.Still.{lived_in_play, play_still}
 use Rattle.ug_conf.specs.Draft.{draft_of}
 use Rattle.ug_conf.specs.Settings.{defaults}
 use Rattle.ug_conf.specs.Texts.{setting_line, settled}
@@ -34,7 +34,7 @@ use Rattle.ug_core.specs.Storing.{stored_with, storing}
 use Rattle.ug_core.specs.Chain.{Happened, Chain, journal}
 use Rattle.std.proofs.Common.{Result, Ok, Err}
 use Rattle.std.proofs.lemmas.Option.{same_Some}
-use Rattle.ug_types.specs.declared.control.Write.{Write}
+use Rattle.ug_kernel.specs.declared.control.Write.{Write}
 use Rattle.ug_types.specs.declared.text_fault.TextFault.{TextFault}
 use Rattle.ug_store.specs.Disk.{Disk, IsAsItWas, IsImage}
 use Rattle.ug_store.specs.DiskCalls.{file_limit}
@@ -42,12 +42,12 @@ use Rattle.ug_store.specs.PlayDisk.{play_disk}
 use Rattle.ug_store.specs.declared.mishap.Planned.{Planned}
 use Rattle.ug_store.proofs.PlayedDisk.{play_runs_disk, play_stays_possible, play_stays_told}
 use Rattle.ug_rule.specs.Files.{file_read}
-use Rattle.ug_rules.specs.RuleFile.{IsRuleFile, permanent_rules}
+use Rattle.ug_ruleset.specs.RuleFile.{IsRuleFile, permanent_rules}
 use Rattle.ug_store.specs.Scripted.{DiskWorld, MemKeeps, coming_up, disk_told, forgetting}
 use Rattle.ug_print.specs.RuleTexts.{rules_limit, rules_text_of}
 use Rattle.ug_types.specs.declared.rule.Rule.{Rule}
 use Rattle.ug_sysfs.specs.World.{Gives}
-use Rattle.ug_play.proofs.Plays.{play_runs}
+use Rattle.ug_simulation.proofs.Plays.{play_runs}
 use Rattle.ug_core.specs.Chain.{IsEvent, StaysOnDisk}
 use Rattle.ug_core.proofs.Kept.{stays_there}
 use Rattle.ug_core.proofs.Plain.{event_keeps_pending}
@@ -56,15 +56,15 @@ use Rattle.ug_core.proofs.Tried.{tries_save}
 use Rattle.ug_core.proofs.Verdicts.{steps_later}
 use Rattle.ug_core.proofs.SoFar.{journal_append}
 use Rattle.ug_core.proofs.Chained.{is_run, chain_more, chain_moves}
-use Rattle.ug_console.specs.Fold.{Fault, BadLine, InputTooLong, Outcome, Writes, Refused, Stage, Going, Halted, is_within, stage_after, plays}
+use Rattle.ug_command_io.specs.Fold.{LineRefusal, BadLine, InputTooLong, LineOutcome, Writes, Refused, Stage, Going, Halted, is_within, stage_after, plays}
 use Rattle.ug_script.specs.declared.step.Plan.{Plan}
 use Rattle.ug_script.specs.declared.step.Plan.TheVariants as plan
 use Rattle.ug_script.specs.declared.step.Step.{Step}
 use Rattle.ug_script.specs.declared.step.Step.TheVariants.{Skip, Setup, Move, Schedule, Event, Restart}
 use Rattle.ug_script.specs.Grammar.{step_of_line}
-use Rattle.ug_script.specs.Setup.{Beside, SetupState, no_setup, one_line_more, beside_of, after_reading, policy_of, rules_disk, rule_asked, rules_from, rules_if_read, started, started_at, steps_of, with_rules}
+use Rattle.ug_script.specs.Setup.{Beside, SetupState, no_setup, one_line_more, beside_of, after_reading, policy_of, rules_disk, setup_rule, rules_from, rules_if_read, first_started, started_at, steps_of, with_rules}
 use Rattle.ug_script.specs.Script.{Script, Phase, fresh, takes_setup, has_started, closed_phase, with_setup_closed, daemon_by, daemon_in, disk_by, disk_in, can_start}
-use Rattle.ug_script.specs.Replay.{header, outcome_of, outcome_text, quiet, bad, line_added, with_devices, with_plan, with_played, with_restart, planned, Played, answered_by, answered_from, answered_of, begun_again, came_of, disk_of, event_from, event_of, finished, halted, in_script, left_played, restarted, stopped_of, stopped_text, taken, taken_if, tried_by, script_step}
+use Rattle.ug_script.specs.Replay.{header, outcome_of, outcome_text, quiet, bad, line_added, with_devices, with_plan, with_played, with_restart, planned, Played, order_played_by, answered_from, answered_of, begun_again, came_of, disk_of, event_from, event_of, finished, halted, in_script, left_played, restarted, stopped_of, stopped_text, taken, taken_if, tried_by, script_step}
 use Rattle.ug_script.specs.Laws.{calls_of, faults_of, StaysLawful}
 use Rattle.ug_script.specs.Journal.{happened_at, left_by, left_behind, EventsOfRuns, RunEnd, no_events, with_end, with_events, with_stop, runs_by, runs_after, runs_in, stop_of, text_to_stop, journals, journal_of, events_text, run_text, runs_text, text_of_runs, RunStart, first_start, HoldsAtStart, IsDaemonRun, EndedRun, AreSuccessive, JudgesOnce, is_quiet, AreQuiet, Recorded, StaysRecorded}
 use Rattle.ug_script.proofs.FileTexts.{StandsBehind, event_file, event_stands, event_text, in_force_stands, readable_front, stands_so}
@@ -104,7 +104,7 @@ record Kept (first : World) (n : ℕ) (done : List (Option Step)) (runs : Events
   saved : AreQuiet done → (daemon_in s).pending ≡ false
   stands : IsRuleFile start.rules start.text → AllReadable runs.last → StandsBehind runs.last (daemon_in s) (disk_in s).disk.text
 
-abbrev KeptAfter : World → ℕ → List (Option Step) → EventsOfRuns → List ℕ → Outcome (Option Script × World) → Type 0
+abbrev KeptAfter : World → ℕ → List (Option Step) → EventsOfRuns → List ℕ → LineOutcome (Option Script × World) → Type 0
 KeptAfter first n done runs text (Writes more (Some s, w)) = Kept first n done runs (text ++ more) s w
 KeptAfter first n done runs text (Writes more (None, w)) = ⊥
 KeptAfter first n done runs text (Refused fault p) = Unit {0}
@@ -127,13 +127,13 @@ setup_kept : (first : World) (n : ℕ) (done : List (Option Step)) (runs : Event
 setup_kept first n done runs text s w step setup lt opened h given =
     let o = open_unstarted s.phase opened in
     let none : runs ≡ no_events = h.none o.0 in
-    let new : daemon_by setup s.phase ≡ started setup = o.1 setup in
+    let new : daemon_by setup s.phase ≡ first_started setup = o.1 setup in
     let on : disk_by setup s.phase ≡ rules_disk setup = o.2 setup in
     let file : Option Disk = Some (rules_disk setup).disk in
     let b : RunStart = first_start setup.rules first.kernel in
-    let begun : h.start ≡ first_start s.setup.rules first.kernel = subst (λ (x : EventsOfRuns). AreSuccessive (beside_of s.setup) (policy_of s.setup) (first_start s.setup.rules first.kernel) x.ended h.start) none h.ended in
+    let event_begun : h.start ≡ first_start s.setup.rules first.kernel = subst (λ (x : EventsOfRuns). AreSuccessive (beside_of s.setup) (policy_of s.setup) (first_start s.setup.rules first.kernel) x.ended h.start) none h.ended in
     let before : Chain h.start.kernel (Some h.file) (started_at h.start.number (beside_of s.setup) (with_rules h.start.rules (policy_of s.setup))) [] w.kernel (disk_told (disk_in s)) (daemon_in s) = subst (λ (x : EventsOfRuns). Chain h.start.kernel (Some h.file) (started_at h.start.number (beside_of s.setup) (with_rules h.start.rules (policy_of s.setup))) x.last w.kernel (disk_told (disk_in s)) (daemon_in s)) none h.chain in
-    let moves : Moves first.kernel w.kernel = subst (λ (x : RunStart). Moves x.kernel w.kernel) begun before.0 in
+    let moves : Moves first.kernel w.kernel = subst (λ (x : RunStart). Moves x.kernel w.kernel) event_begun before.0 in
     let stays : StaysOnDisk file (disk_told (disk_by setup s.phase)) = subst (λ (x : DiskWorld). StaysOnDisk file (disk_told x)) (sym on) (stays_there file) in
     record {
       few = omega (arith, lt);
@@ -142,7 +142,7 @@ setup_kept first n done runs text s w step setup lt opened h given =
       fits = λ e.
           let low : w.faults ≤ 2199023255552 * n = (h.fits e).few_faults in
           let more : w.faults ≤ 2199023255552 * (n + 1) = omega (arith, low) in
-          subst (λ (d : DaemonState). FitsOf (n + 1) d w (disk_by setup s.phase)) (sym new) (subst (λ (x : DiskWorld). FitsOf (n + 1) (started setup) w x) (sym on) (started_fits (n + 1) 1 setup.rules w.faults 0 (omega arith) given.listed more (omega arith)));
+          subst (λ (d : DaemonState). FitsOf (n + 1) d w (disk_by setup s.phase)) (sym new) (subst (λ (x : DiskWorld). FitsOf (n + 1) (first_started setup) w x) (sym on) (started_fits (n + 1) 1 setup.rules w.faults 0 (omega arith) given.listed more (omega arith)));
       given = given;
       kept = ap (λ (x : DiskWorld). x.ran_out) on;
       possible = subst (λ (x : DiskWorld). IsImage x.disk.left x.disk.text) (sym on) (inl refl);
@@ -151,7 +151,7 @@ setup_kept first n done runs text s w step setup lt opened h given =
       file = (rules_disk setup).disk;
       at_start = first_holds setup first.kernel;
       ended = subst (λ (x : EventsOfRuns). AreSuccessive (beside_of setup) (policy_of setup) b x.ended b) (sym none) refl;
-      chain = subst (λ (x : EventsOfRuns). Chain first.kernel file (started setup) x.last w.kernel (disk_told (disk_by setup s.phase)) (daemon_by setup s.phase)) (sym none) (moves, stays, new);
+      chain = subst (λ (x : EventsOfRuns). Chain first.kernel file (first_started setup) x.last w.kernel (disk_told (disk_by setup s.phase)) (daemon_by setup s.phase)) (sym none) (moves, stays, new);
       none = h.none;
       written = h.written;
       nobody = λ q. h.nobody (quiet_front done step q).0;
@@ -166,7 +166,7 @@ added_kept : (first : World) (n : ℕ) (done : List (Option Step)) (runs : Event
 added_kept first n done runs text s w step None lt opened h given = tt
 added_kept first n done runs text s w step (Some setup) lt opened h given = kept_still first (n + 1) (done ++ step ∷ []) runs text (record s { setup = setup }) w (setup_kept first n done runs text s w step setup lt opened h given)
 
-kept_when : (first : World) (n : ℕ) (done : List (Option Step)) (runs : EventsOfRuns) (text : List ℕ) (b : Bool) (o : Outcome (Option Script × World)) (s : Script) (w : World) → (b ≡ true → KeptAfter first n done runs text o) → KeptAfter first n done runs text (cond b o (bad s w))
+kept_when : (first : World) (n : ℕ) (done : List (Option Step)) (runs : EventsOfRuns) (text : List ℕ) (b : Bool) (o : LineOutcome (Option Script × World)) (s : Script) (w : World) → (b ≡ true → KeptAfter first n done runs text o) → KeptAfter first n done runs text (cond b o (bad s w))
 kept_when first n done runs text true o s w x = x refl
 kept_when first n done runs text false o s w x = tt
 
@@ -174,7 +174,7 @@ kept_when first n done runs text false o s w x = tt
 
 on_kept : (first : World) (n : ℕ) (done : List (Option Step)) (runs : EventsOfRuns) (text : List ℕ) (s : Script) (w v : World) (step : Option Step) (phase : Phase) (plan : List Planned) → n < 1048576 → Kept first n done runs text s w → daemon_by s.setup phase ≡ daemon_in s → disk_by s.setup phase ≡ disk_in s → has_started phase ≡ has_started s.phase → IsGiven (n + 1) (done ++ step ∷ []) s.setup → HoldsOf (daemon_in s) v → Moves w.kernel v.kernel → v.faults ≡ w.faults
     → (AreQuiet (done ++ step ∷ []) → IsUnfailing first → IsUnfailing v) → (AreQuiet (done ++ step ∷ []) → first.moves ≡ [] → v.moves ≡ []) → (AreQuiet (done ++ step ∷ []) → plan ≡ []) → Kept first (n + 1) (done ++ step ∷ []) runs text (record s { phase = phase; planned = plan }) v
-on_kept first n done runs text s w v step phase plan lt h same on begun given holds moves faults unfailing unmoved unplanned =
+on_kept first n done runs text s w v step phase plan lt h same on event_begun given holds moves faults unfailing unmoved unplanned =
     let new : DaemonState = started_at h.start.number (beside_of s.setup) (with_rules h.start.rules (policy_of s.setup)) in
     record {
       few = omega (arith, lt);
@@ -195,7 +195,7 @@ on_kept first n done runs text s w v step phase plan lt h same on begun given ho
       at_start = h.at_start;
       ended = h.ended;
       chain = subst (λ (o : DiskWorld). Chain h.start.kernel (Some h.file) new runs.last v.kernel (disk_told o) (daemon_by s.setup phase)) (sym on) (subst (λ (d : DaemonState). Chain h.start.kernel (Some h.file) new runs.last v.kernel (disk_told (disk_in s)) d) (sym same) (chain_moves h.start.kernel (Some h.file) new runs.last w.kernel v.kernel (disk_told (disk_in s)) (disk_told (disk_in s)) (daemon_in s) h.chain moves (stays_there (disk_told (disk_in s)))));
-      none = λ e. h.none (sym begun ∙ e);
+      none = λ e. h.none (sym event_begun ∙ e);
       written = h.written;
       nobody = λ q. h.nobody (quiet_front done step q).0;
       unfailing = unfailing;
@@ -248,7 +248,7 @@ forgets o = by_told o.ran_out
 event_possible : (event : events.Event) (d : DaemonState) (w : World) (o : DiskWorld) → o.ran_out ≡ false → IsImage o.disk.left o.disk.text → IsImage (event_from event d w o).disk.disk.left (event_from event d w o).disk.disk.text
 event_possible event d w o told is = by_event event (ready event (tried_by d o).0 d) (start_of d w o) (tried_by d o).1 (play_stays_told (trying d) o told) (play_stays_possible (trying d) o told is)
   where
-    by_event : (event : events.Event) (r : DaemonState) (m : World) (q : DiskWorld) → q.ran_out ≡ false → IsImage q.disk.left q.disk.text → IsImage (answered_by event r m q).disk.disk.left (answered_by event r m q).disk.disk.text
+    by_event : (event : events.Event) (r : DaemonState) (m : World) (q : DiskWorld) → q.ran_out ≡ false → IsImage q.disk.left q.disk.text → IsImage (order_played_by event r m q).disk.disk.left (order_played_by event r m q).disk.disk.text
     by_event (Sweep moment) r m q told is = is
     by_event (Order moment who line) r m q told is = play_stays_possible (storing r (play (asking r who line) m).0.change) q told is
 
@@ -522,13 +522,13 @@ stop_kept first n done runs text event s w call rules lt loaded h =
     }
 
 -- an event, whether the machine stopped in it or not
-came_kept : (first : World) (n : ℕ) (done : List (Option Step)) (runs : EventsOfRuns) (text : List ℕ) (event : events.Event) (s : Script) (w : World) (stopped : Bool) (loaded : Result (List Rule) Fault) → n < 1048576 → rules_from (event_of event s w).disk.disk.text ≡ loaded → Kept first n done runs text s w
+came_kept : (first : World) (n : ℕ) (done : List (Option Step)) (runs : EventsOfRuns) (text : List ℕ) (event : events.Event) (s : Script) (w : World) (stopped : Bool) (loaded : Result (List Rule) LineRefusal) → n < 1048576 → rules_from (event_of event s w).disk.disk.text ≡ loaded → Kept first n done runs text s w
     → KeptAfter first (n + 1) (done ++ Some (Event event) ∷ []) (with_stop stopped (stop_of event s w) (with_events (happened_at event s w ∷ []) runs)) text (in_script s (cond stopped (stopped_of s.setup (stop_of event s w) (event_of event s w) loaded) (finished (event_of event s w))))
 came_kept first n done runs text event s w true (Ok rules) lt is h = stop_kept first n done runs text event s w (stop_of event s w) rules lt is h
 came_kept first n done runs text event s w true (Err fault) lt is h = tt
 came_kept first n done runs text event s w false loaded lt is h = event_kept first n done runs text event s w lt h
 
-event_if : (first : World) (n : ℕ) (done : List (Option Step)) (runs : EventsOfRuns) (text : List ℕ) (event : events.Event) (s : Script) (w : World) (stopped : Bool) (came : Outcome Played) (can has : Bool)
+event_if : (first : World) (n : ℕ) (done : List (Option Step)) (runs : EventsOfRuns) (text : List ℕ) (event : events.Event) (s : Script) (w : World) (stopped : Bool) (came : LineOutcome Played) (can has : Bool)
     → KeptAfter first n done (with_stop stopped (stop_of event s w) (with_events (happened_at event s w ∷ []) runs)) text (in_script s came)
     → KeptAfter first n done (with_stop stopped (stop_of event s w) (with_events (cond (can && has) (happened_at event s w ∷ []) []) runs)) text (cond can (in_script s (cond has came (Refused BadLine (record { daemon = daemon_in s; world = w; disk = disk_in s })))) (Refused InputTooLong (Some s, w)))
 event_if first n done runs text event s w stopped came true true k = k
@@ -537,7 +537,7 @@ event_if first n done runs text event s w stopped came false has k = tt
 
 -- ---- lines
 
-restart_if : (first : World) (n : ℕ) (done : List (Option Step)) (runs : EventsOfRuns) (text : List ℕ) (s : Script) (w : World) (can : Bool) (loaded : Result (List Rule) Fault) → ((rules : List Rule) → loaded ≡ Ok rules → KeptAfter first n done runs text (quiet (with_restart rules s) w)) → KeptAfter first n done runs text (cond can (restarted loaded s w) (Refused InputTooLong (Some s, w)))
+restart_if : (first : World) (n : ℕ) (done : List (Option Step)) (runs : EventsOfRuns) (text : List ℕ) (s : Script) (w : World) (can : Bool) (loaded : Result (List Rule) LineRefusal) → ((rules : List Rule) → loaded ≡ Ok rules → KeptAfter first n done runs text (quiet (with_restart rules s) w)) → KeptAfter first n done runs text (cond can (restarted loaded s w) (Refused InputTooLong (Some s, w)))
 restart_if first n done runs text s w true (Ok rules) k = k rules refl
 restart_if first n done runs text s w true (Err fault) k = tt
 restart_if first n done runs text s w false loaded k = tt
@@ -565,9 +565,9 @@ nobody_right (e ∷ es) fs n = nobody_right es fs (neither (names_somebody e) (l
 
 -- no move is left for the sweep
 answered_still : (event : events.Event) (d : DaemonState) (w : World) (o : DiskWorld) → w.moves ≡ [] → (answered_from event d w o).world.moves ≡ []
-answered_still event d w o none = by_event event (ready event (tried_by d o).0 d) (start_of d w o) (tried_by d o).1 (halted_moves (tried_by d o).1 (begun w) ∙ none)
+answered_still event d w o none = by_event event (ready event (tried_by d o).0 d) (start_of d w o) (tried_by d o).1 (halted_moves (tried_by d o).1 (event_begun w) ∙ none)
   where
-    by_event : (event : events.Event) (r : DaemonState) (m : World) (q : DiskWorld) → m.moves ≡ [] → (answered_by event r m q).world.moves ≡ []
+    by_event : (event : events.Event) (r : DaemonState) (m : World) (q : DiskWorld) → m.moves ≡ [] → (order_played_by event r m q).world.moves ≡ []
     by_event (Sweep moment) r m q none = none
     by_event (Order moment who line) r m q none =
         let c = play (asking r who line) m in
@@ -687,17 +687,17 @@ kept_fresh first h = record {
   unmoved = λ x e. e;
   unplanned = λ x. refl;
   saved = λ x. refl;
-  stands = λ f r. in_force_stands [] (started no_setup) (rules_text_of []) [] f refl;
+  stands = λ f r. in_force_stands [] (first_started no_setup) (rules_text_of []) [] f refl;
 }
 
 -- lines one after another
 
-refused_on : (fault : Fault) (n : ℕ) (text : List ℕ) (p : Option Script × World) (lines : List (List ℕ)) → plays script_step (Halted fault n text p) lines ≡ Halted fault n text p
+refused_on : (fault : LineRefusal) (n : ℕ) (text : List ℕ) (p : Option Script × World) (lines : List (List ℕ)) → plays script_step (Halted fault n text p) lines ≡ Halted fault n text p
 refused_on fault n text p [] = refl
 refused_on fault n text p (line ∷ lines) = refused_on fault n text p lines
 
 -- behind a refused line nothing is taken
-never : (fault : Fault) (n : ℕ) (text : List ℕ) (p : Option Script × World) (lines : List (List ℕ)) (m : ℕ) (out : List ℕ) (q : Option Script × World) → plays script_step (Halted fault n text p) lines ≡ Going m out q → ⊥
+never : (fault : LineRefusal) (n : ℕ) (text : List ℕ) (p : Option Script × World) (lines : List (List ℕ)) (m : ℕ) (out : List ℕ) (q : Option Script × World) → plays script_step (Halted fault n text p) lines ≡ Going m out q → ⊥
 never fault n text p lines m out q e = let h : Halted fault n text p ≡ Going m out q = sym (refused_on fault n text p lines) ∙ e in let none : ⊥ = cc in none
 
 -- what holds at a stage
@@ -715,7 +715,7 @@ within n line e = let t : nat_lt n 1048576 ≡ true = both (nat_lt n 1048576) (n
 
 rest_kept : (first : World) (done : List (Option Step)) (n : ℕ) (text : List ℕ) (p : Option Script × World) (step : Option Step) (runs : EventsOfRuns) (lines : List (List ℕ)) (m : ℕ) (out : List ℕ) (t : Script) (v : World)
     → ((more : List ℕ) (s : Script) (w : World) → Kept first (n + 1) (done ++ step ∷ []) runs more s w → plays script_step (Going (n + 1) more (Some s, w)) lines ≡ Going m out (Some t, v) → Kept first m ((done ++ step ∷ []) ++ map step_of_line lines) (runs_after runs (Some s, w) lines) out t v)
-    → (b : Bool) (o : Outcome (Option Script × World)) → (b ≡ true → KeptAfter first (n + 1) (done ++ step ∷ []) runs text o) → plays script_step (cond b (stage_after n text o) (Halted BadLine n text p)) lines ≡ Going m out (Some t, v) → Kept first m (done ++ (step ∷ map step_of_line lines)) (runs_after runs (left_by o) lines) out t v
+    → (b : Bool) (o : LineOutcome (Option Script × World)) → (b ≡ true → KeptAfter first (n + 1) (done ++ step ∷ []) runs text o) → plays script_step (cond b (stage_after n text o) (Halted BadLine n text p)) lines ≡ Going m out (Some t, v) → Kept first m (done ++ (step ∷ map step_of_line lines)) (runs_after runs (left_by o) lines) out t v
 rest_kept first done n text p step runs lines m out t v again true (Writes more (Some s, w)) k e =
     subst (λ (x : List (Option Step)). Kept first m x (runs_after runs (Some s, w) lines) out t v) (append_assoc done (step ∷ []) (map step_of_line lines)) (again (text ++ more) s w (k refl) e)
 rest_kept first done n text p step runs lines m out t v again true (Writes more (None, w)) k e = absurd (k refl)
@@ -763,7 +763,7 @@ stays_lawful first run sound lines n text s w e =
     }
 
 -- the rules of the setup are those of the `rule` lines; and before a daemon was started there is no run
-pub rules_given : (w : World) → w.ran_out ≡ false → IsKernel w.kernel → (lines : List (List ℕ)) (n : ℕ) (text : List ℕ) (s : Script) (v : World) → plays script_step (Going 0 [] (None, w)) lines ≡ Going n text (Some s, v) → s.setup.rules ≡ flat_map rule_asked (steps_of lines)
+pub rules_given : (w : World) → w.ran_out ≡ false → IsKernel w.kernel → (lines : List (List ℕ)) (n : ℕ) (text : List ℕ) (s : Script) (v : World) → plays script_step (Going 0 [] (None, w)) lines ≡ Going n text (Some s, v) → s.setup.rules ≡ flat_map setup_rule (steps_of lines)
 rules_given first run sound lines n text s w e = (kept_all first run sound lines n text s w e).given.rules
 
 pub unstarted_runs : (w : World) → w.ran_out ≡ false → IsKernel w.kernel → (lines : List (List ℕ)) (n : ℕ) (text : List ℕ) (s : Script) (v : World) → plays script_step (Going 0 [] (None, w)) lines ≡ Going n text (Some s, v) → has_started s.phase ≡ false → runs_in w lines ≡ no_events

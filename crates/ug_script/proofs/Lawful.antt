@@ -4,7 +4,7 @@ use Rattle.std.proofs.lemmas.Option.{same_Some}
 use Rattle.ug_kernel.specs.Kernel.{Kernel, IsKernel, Moves}
 use Rattle.ug_kernel.proofs.Grow.{quiet_grows}
 use Rattle.ug_kernel.proofs.Quiet.{moves_quiet}
-use Rattle.ug_sysfs.specs.World.{IsUnfailing, World, Gives, answer_of, begun, over, moved, told}
+use Rattle.ug_sysfs.specs.World.{IsUnfailing, World, Gives, scripted_answer, event_begun, over, moved, told}
 use Rattle.ug_sysfs.specs.declared.script.Move.{Move}
 use Rattle.ug_sysfs.specs.Count.{counts_each}
 use Rattle.ug_sysfs.specs.Law.{does_what_it_may}
@@ -22,9 +22,9 @@ use Rattle.ug_table.specs.Parts.{unsettled_names}
 use Rattle.ug_table.proofs.Swept.{told_swept}
 use Rattle.ug_table.proofs.Faults.{sweeping_tells}
 use Rattle.ug_table.proofs.Once.{told_once}
-use Rattle.ug_play.specs.Play.{play, tells_memory}
-use Rattle.ug_play.proofs.Wants.{memory_more}
-use Rattle.ug_play.proofs.Plays.{Fixed, fails_stay, play_runs, play_told, play_then, play_way}
+use Rattle.ug_simulation.specs.Play.{play, tells_memory}
+use Rattle.ug_simulation.proofs.Wants.{memory_more}
+use Rattle.ug_simulation.proofs.Plays.{Fixed, fails_stay, play_runs, play_told, play_then, play_way}
 use Rattle.ug_core.specs.Event as event
 use Rattle.ug_core.specs.Policy.{Judging, policy_answer, policy_later}
 use Rattle.ug_core.specs.Event.{DaemonState, handling, ready}
@@ -35,8 +35,8 @@ use Rattle.ug_types.specs.declared.saved.Saved.TheVariants as saved
 use Rattle.ug_store.specs.PlayDisk.{play_disk}
 use Rattle.ug_store.specs.Scripted.{IsUnplanned, DiskWorld, MemKeeps}
 use Rattle.ug_store.proofs.PlayedDisk.{play_keeps_unplanned, play_runs_disk, play_stays_told}
-use Rattle.ug_play.specs.Play.{NameNobody}
-use Rattle.ug_play.proofs.Sweeps.{nobody_more}
+use Rattle.ug_simulation.specs.Play.{NameNobody}
+use Rattle.ug_simulation.proofs.Sweeps.{nobody_more}
 use Rattle.ug_core.specs.Laws.{AnswersEvent, Handled, RunsAnswer, TellsSweep, TellsEvent}
 use Rattle.ug_core.specs.Storing.{stored_with, storing}
 use Rattle.ug_core.specs.Event.{trying}
@@ -48,7 +48,7 @@ use Rattle.ug_core.proofs.Answered.{Answered, answering_made, answering_told, an
 use Rattle.ug_core.proofs.Failures.{event_tells, event_names}
 use Rattle.ug_script.specs.declared.step.Plan.{Plan}
 use Rattle.ug_script.specs.declared.step.Plan.TheVariants as plan
-use Rattle.ug_script.specs.Replay.{answered_by, answered_from, event_from, halted, tried_by, with_devices, planned}
+use Rattle.ug_script.specs.Replay.{order_played_by, answered_from, event_from, halted, tried_by, with_devices, planned}
 use Rattle.ug_script.specs.Laws.{calls_of, faults_of}
 use Rattle.ug_script.proofs.Answers.{SweepsSo, handling_ways}
 use Rattle.ug_script.proofs.Halts.{answered_unplanned, answered_unstopped, halted_calls, halted_kernel, halted_not, halted_told}
@@ -70,7 +70,7 @@ told_at w e = rw e refl
 
 -- ---- the order of an event
 
-pub order_runs : (event : Event) (d : DaemonState) (w : World) (o : DiskWorld) → RunsAnswer Gives MemKeeps event w o d (answered_by event d w o).became (answered_by event d w o).world (answered_by event d w o).disk (answered_by event d w o).daemon
+pub order_runs : (event : Event) (d : DaemonState) (w : World) (o : DiskWorld) → RunsAnswer Gives MemKeeps event w o d (order_played_by event d w o).became (order_played_by event d w o).world (order_played_by event d w o).disk (order_played_by event d w o).daemon
 order_runs (Sweep moment) d w o = (refl, refl, refl, refl)
 order_runs (Order moment who line) d w o =
     let c = play (asking d who line) w in
@@ -84,7 +84,7 @@ order_runs (Order moment who line) d w o =
     }
 
 -- a kernel that is told stays so
-world_told : (event : Event) (d : DaemonState) (w : World) (o : DiskWorld) → w.ran_out ≡ false → (answered_by event d w o).world.ran_out ≡ false
+world_told : (event : Event) (d : DaemonState) (w : World) (o : DiskWorld) → w.ran_out ≡ false → (order_played_by event d w o).world.ran_out ≡ false
 world_told (Sweep moment) d w o told = told
 world_told (Order moment who line) d w o told =
     let c = play (asking d who line) w in
@@ -94,10 +94,10 @@ world_told (Order moment who line) d w o told =
 -- and where no call is to fail, none is behind an order
 pub play_calm : {R : Type 0} (p : Prog R) (w : World) → IsUnfailing w → IsUnfailing (play p w).1
 play_calm (Return value) w e = e
-play_calm (Ask call next) w e = play_calm (next (answer_of w call).0) (answer_of w call).1 (fails_stay w call e)
+play_calm (Ask call next) w e = play_calm (next (scripted_answer w call).0) (scripted_answer w call).1 (fails_stay w call e)
 play_calm (Room next) w e = play_calm (next true) w e
 
-world_calm : (event : Event) (d : DaemonState) (w : World) (o : DiskWorld) → IsUnfailing w → IsUnfailing (answered_by event d w o).world
+world_calm : (event : Event) (d : DaemonState) (w : World) (o : DiskWorld) → IsUnfailing w → IsUnfailing (order_played_by event d w o).world
 world_calm (Sweep moment) d w o none = none
 world_calm (Order moment who line) d w o none =
     let c = play (asking d who line) w in
@@ -108,12 +108,12 @@ pub answers : (event : Event) (d : DaemonState) (w : World) (o : DiskWorld) → 
 answers event d w o h =
     let r : DaemonState = ready event (tried_by d o).0 d in
     let q : DiskWorld = (tried_by d o).1 in
-    let s : World = halted q (begun w) in
+    let s : World = halted q (event_begun w) in
     let a = answered_from event d w o in
-    let alive : s.ran_out ≡ false = halted_told q (begun w) ∙ h.told in
+    let alive : s.ran_out ≡ false = halted_told q (event_begun w) ∙ h.told in
     let run : a.world.ran_out ≡ false = world_told event r s q alive in
     let law = answering_told Gives told does_what_it_may MemKeeps event s q r a.became a.world a.disk a.daemon (order_runs event r s q) a.world.kernel (told_at a.world run) in
-    let same : law.0 ≡ w.kernel = same_Some law.0 w.kernel (sym law.1 ∙ told_at s alive ∙ ap (λ (k : Kernel). Some k) (halted_kernel q (begun w))) in
+    let same : law.0 ≡ w.kernel = same_Some law.0 w.kernel (sym law.1 ∙ told_at s alive ∙ ap (λ (k : Kernel). Some k) (halted_kernel q (event_begun w))) in
     subst (λ (k : Kernel). AnswersEvent event k r a.became a.world.kernel a.daemon) same (law.2 (rw same h.sound) (rw same h.stand))
 
 pub answered_holds : (event : Event) (d : DaemonState) (w : World) (o : DiskWorld) → HoldsOf d w → HoldsOf (answered_from event d w o).daemon (answered_from event d w o).world
@@ -122,7 +122,7 @@ answered_holds event d w o h =
     let a = answered_from event d w o in
     let stands = answered_stands event w.kernel r a.became a.world.kernel a.daemon h.sound h.stand (answers event d w o h) in
     let q : DiskWorld = (tried_by d o).1 in
-    record { told = world_told event r (halted q (begun w)) q (halted_told q (begun w) ∙ h.told); sound = stands.0; stand = stands.1 }
+    record { told = world_told event r (halted q (event_begun w)) q (halted_told q (event_begun w) ∙ h.told); sound = stands.0; stand = stands.1 }
 
 -- the kernel that the sweep begins with
 pub halted_holds : (d : DaemonState) (o : DiskWorld) (w : World) → HoldsOf d w → HoldsOf d (halted o w)
@@ -179,7 +179,7 @@ event_holds event d w o h =
 
 -- a disk that is told stays so
 pub event_disk : (event : Event) (d : DaemonState) (w : World) (o : DiskWorld) → o.ran_out ≡ false → (event_from event d w o).disk.ran_out ≡ false
-event_disk event d w o out = answered_told event (ready event (tried_by d o).0 d) (halted (tried_by d o).1 (begun w)) (tried_by d o).1 (play_stays_told (trying d) o out)
+event_disk event d w o out = answered_told event (ready event (tried_by d o).0 d) (halted (tried_by d o).1 (event_begun w)) (tried_by d o).1 (play_stays_told (trying d) o out)
 
 pub move_holds : (action : Move) (d : DaemonState) (w : World) → HoldsOf d w → HoldsOf d (with_devices (moved action w.kernel.devices) w)
 move_holds action d w h = record {
@@ -208,17 +208,17 @@ swept_tells a m =
 
 -- what the order begins with, on the kernel
 abbrev pub start_of : DaemonState → World → DiskWorld → World
-start_of d w o = halted (tried_by d o).1 (begun w)
+start_of d w o = halted (tried_by d o).1 (event_begun w)
 
 pub made_by : (event : Event) (d : DaemonState) (w : World) (o : DiskWorld) → HoldsOf d w → Answered Gives calls_of faults_of event (start_of d w o) (ready event (tried_by d o).0 d) (answered_from event d w o).became (answered_from event d w o).world (answered_from event d w o).daemon
 made_by event d w o h =
     let tried = (tried_by d o).0 in
     let q : DiskWorld = (tried_by d o).1 in
     let a = answered_from event d w o in
-    answering_made Gives calls_of faults_of counts_each MemKeeps event (start_of d w o) q (ready event tried d) a.became a.world a.disk a.daemon (halted_calls q (begun w)) (record { order = h.stand.order; distinct = h.stand.distinct; numbers = h.stand.numbers }) (ready_failures event tried d) (ready_names event tried d) (order_runs event (ready event tried d) (start_of d w o) q)
+    answering_made Gives calls_of faults_of counts_each MemKeeps event (start_of d w o) q (ready event tried d) a.became a.world a.disk a.daemon (halted_calls q (event_begun w)) (record { order = h.stand.order; distinct = h.stand.distinct; numbers = h.stand.numbers }) (ready_failures event tried d) (ready_names event tried d) (order_runs event (ready event tried d) (start_of d w o) q)
 
 -- where the machine hasn't stopped, the sweep goes on from the kernel of the order
-pub tells_event : (event : Event) (d : DaemonState) (w : World) (o : DiskWorld) → HoldsOf d w → (event_from event d w o).disk.stopped ≡ false → TellsEvent Gives calls_of faults_of event (begun w) (ready event (tried_by d o).0 d) (answered_from event d w o).became (answered_from event d w o).world (answered_from event d w o).daemon (event_from event d w o).world (event_from event d w o).daemon
+pub tells_event : (event : Event) (d : DaemonState) (w : World) (o : DiskWorld) → HoldsOf d w → (event_from event d w o).disk.stopped ≡ false → TellsEvent Gives calls_of faults_of event (event_begun w) (ready event (tried_by d o).0 d) (answered_from event d w o).became (answered_from event d w o).world (answered_from event d w o).daemon (event_from event d w o).world (event_from event d w o).daemon
 tells_event event d w o h unstopped =
     let r : DaemonState = ready event (tried_by d o).0 d in
     let q : DiskWorld = (tried_by d o).1 in
@@ -227,8 +227,8 @@ tells_event event d w o h unstopped =
     let made = made_by event d w o h in
     let before : q.stopped ≡ false = answered_unstopped event r (start_of d w o) q unstopped in
     let sweep : TellsSweep Gives calls_of faults_of a.world a.daemon p.world p.daemon = subst (λ (v : World). TellsSweep Gives calls_of faults_of v a.daemon p.world p.daemon) (halted_not a.disk a.world unstopped) (swept_tells a.daemon (halted a.disk a.world)) in
-    subst (λ (v : World). TellsEvent Gives calls_of faults_of event v r a.became a.world a.daemon p.world p.daemon) (halted_not q (begun w) before)
-    (event_tells Gives calls_of faults_of counts_each event (start_of d w o) r a.became a.world a.daemon p.world p.daemon made.made (halted_calls q (begun w)) made.along made.goes made.told sweep)
+    subst (λ (v : World). TellsEvent Gives calls_of faults_of event v r a.became a.world a.daemon p.world p.daemon) (halted_not q (event_begun w) before)
+    (event_tells Gives calls_of faults_of counts_each event (start_of d w o) r a.became a.world a.daemon p.world p.daemon made.made (halted_calls q (event_begun w)) made.along made.goes made.told sweep)
 
 -- its entries are those of the order and some more, whether it has stopped or not
 pub event_adds : (event : Event) (d : DaemonState) (w : World) (o : DiskWorld) → (added : List entries.Entry) × ((event_from event d w o).daemon.sweep.entries ≡ (answered_from event d w o).daemon.sweep.entries ++ added)
@@ -295,9 +295,9 @@ event_nobody event d w o run none out unplanned =
     let x = answered_so event r (start_of d w o) q (play_stays_told (trying d) o out) in
     let y = sweep_so a.daemon (halted a.disk a.world) in
     let before : NameNobody a.daemon.sweep.entries = subst NameNobody (sym x.entries) (nobody_more r.sweep.entries x.rest (ready_nobody event d (tried_by d o).0) x.nobody) in
-    let calm : IsUnfailing (start_of d w o) = subst (λ (v : World). IsUnfailing v) (sym (halted_not q (begun w) tried.1)) none in
+    let calm : IsUnfailing (start_of d w o) = subst (λ (v : World). IsUnfailing v) (sym (halted_not q (event_begun w) tried.1)) none in
     let calm_on : IsUnfailing (halted a.disk a.world) = subst (λ (v : World). IsUnfailing v) (sym (halted_not a.disk a.world still.1)) (world_calm event r (start_of d w o) q calm) in
-    let alive : (halted a.disk a.world).ran_out ≡ false = halted_told a.disk a.world ∙ world_told event r (start_of d w o) q (halted_told q (begun w) ∙ run) in
+    let alive : (halted a.disk a.world).ran_out ≡ false = halted_told a.disk a.world ∙ world_told event r (start_of d w o) q (halted_told q (event_begun w) ∙ run) in
     subst NameNobody (sym y.so.entries) (nobody_more a.daemon.sweep.entries y.so.rest before (y.so.nobody y.sure (y.calm alive calm_on)))
 
 -- where nothing is planned for the disk, an event leaves no save that is pending

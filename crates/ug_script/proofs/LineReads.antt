@@ -38,10 +38,10 @@ use Rattle.ug_script.specs.declared.step.SetupLine.TheVariants as setup
 use Rattle.ug_script.specs.declared.step.Step.{Step}
 use Rattle.ug_script.specs.declared.step.Step.TheVariants as step
 use Rattle.ug_script.specs.Grammar.{disk_fail_of, failing_at, failing_of, fails_on_disk, grant_of, granting, in_access, in_rule, is_effect, is_fail, left_by, mishap_of, move_behind, move_by, move_of, order_at, order_of, scheduled_at, scheduled_of, step_behind, step_by, step_of_line, stop_of, stopping_at}
-use Rattle.ug_script.specs.LineGrammar.{AsksFor, IsCall, IsDiskFail, IsEventLine, IsMoment, IsMoveLine, IsOrder, IsPassedOver, IsPlanLine, IsPlug, IsScheduled, IsSetupLine, IsShortName, IsStopLine, effect_words, left_words, mishap_words, start_word, when_word}
+use Rattle.ug_script.specs.LineGrammar.{AsksFor, IsCall, IsDiskFail, IsEventLine, IsMoment, IsMoveLine, IsOrderLine, IsPassedOver, IsPlanLine, IsPlug, IsScheduled, IsSetupLine, IsShortName, IsStopLine, effect_words, left_words, mishap_words, start_word, when_word}
 use Rattle.ug_script.specs.LineWords.{line_word_of}
 use Rattle.ug_script.specs.Plugs.{device_of, device_with, files_of, start_of, with_digits, with_start}
-use Rattle.ug_script.specs.Words.{bytes_of, call_in, call_of, cut_by_space, is_entry, is_one_line, moment_of, name_of, offset_of, seed_of}
+use Rattle.ug_script.specs.Words.{bytes_of, call_in, call_of, cut_by_space, is_entry, is_one_line, moment_word, name_of, offset_of, seed_of}
 use Rattle.ug_script.proofs.AccessLines.{access_text, graphic_apart, principal_so, so_principal}
 use Rattle.ug_script.proofs.FileWords.{files_so, so_files}
 use Rattle.ug_script.proofs.HexWords.{bytes_so, hex_apart, seed_so, so_bytes, so_seed}
@@ -57,7 +57,7 @@ moment_plain : (n : ℕ) → IsMoment n → ¬ Has (decimal n) 32
 moment_plain n h = decimal_plain n (omega (arith, h))
 
 call_so : (text : List ℕ) (n : ℕ) → call_of text ≡ Some n → (text ≡ decimal n) × IsCall n
-call_so text n h = by (moment_of text) refl h
+call_so text n h = by (moment_word text) refl h
   where
     tested : (m : ℕ) (v : Bool) → (nat_le 1 m && nat_le m 1048576) ≡ v → cond v (Some m) None ≡ Some n → (m ≡ n) × IsCall n
     tested m true e k =
@@ -66,7 +66,7 @@ call_so text n h = by (moment_of text) refl h
         (same, subst IsCall same (leb-true 1 m p.0, leb-true m 1048576 p.1))
     tested m false e k = absurd (none-some n k)
 
-    by : (o : Option ℕ) → moment_of text ≡ o → call_in o ≡ Some n → (text ≡ decimal n) × IsCall n
+    by : (o : Option ℕ) → moment_word text ≡ o → call_in o ≡ Some n → (text ≡ decimal n) × IsCall n
     by None e k = absurd (none-some n k)
     by (Some m) e k =
         let t = tested m (nat_le 1 m && nat_le m 1048576) refl k in
@@ -332,8 +332,8 @@ so_stop line p (is, number, stops) =
 
 order_so : (text : List ℕ) (event : Event) → order_of text ≡ Some event → IsEventLine (codes "order " ++ text) event
 order_so text event h =
-    let c = cut_so (λ (moment rest : List ℕ). option_and_then (λ n. order_at n rest) (moment_of moment)) text event h in
-    let n = bound (λ n. order_at n c.rest) (moment_of c.word) event c.gives in
+    let c = cut_so (λ (moment rest : List ℕ). option_and_then (λ n. order_at n rest) (moment_word moment)) text event h in
+    let n = bound (λ n. order_at n c.rest) (moment_word c.word) event c.gives in
     let d = cut_so (λ (who request : List ℕ). option_map (λ p. Order (record { 0 = n.0 }) p request) (principal_of who)) c.rest event n.2 in
     let m = mapped (λ p. Order (record { 0 = n.0 }) p d.rest) (principal_of d.word) event d.gives in
     let moment = (moment_text c.word n.0).0 n.1 in
@@ -346,7 +346,7 @@ order_so text event h =
       named = who.1;
     })
 
-so_order : (line : List ℕ) (moment : Moment) (who : Named) (request : List ℕ) → IsOrder line moment who request → (text : List ℕ) × (line ≡ codes "order " ++ text) × (order_of text ≡ Some (Order moment who request))
+so_order : (line : List ℕ) (moment : Moment) (who : Named) (request : List ℕ) → IsOrderLine line moment who request → (text : List ℕ) × (line ≡ codes "order " ++ text) × (order_of text ≡ Some (Order moment who request))
 so_order line moment who request o =
     let rest : List ℕ = principal_text who ++ 32 ∷ request in
     let text : List ℕ = decimal moment.0 ++ 32 ∷ rest in
@@ -355,7 +355,7 @@ so_order line moment who request o =
     (ap (option_map (λ p. Order (record { 0 = moment.0 }) p request)) (so_principal who o.named)) in (
       text,
       o.is,
-      so_cut (λ (m r : List ℕ). option_and_then (λ n. order_at n r) (moment_of m)) text (decimal moment.0) rest (Order moment who request) refl (moment_plain moment.0 o.moment_is)
+      so_cut (λ (m r : List ℕ). option_and_then (λ n. order_at n r) (moment_word m)) text (decimal moment.0) rest (Order moment who request) refl (moment_plain moment.0 o.moment_is)
           (ap (option_and_then (λ n. order_at n rest)) ((moment_text (decimal moment.0) moment.0).1 (refl, o.moment_is)) ∙ named),
     )
 
@@ -398,7 +398,7 @@ behind_so word.Fail text asked h =
 behind_so word.Disk text asked h = let m = mapped (λ p. step.Schedule (plan.OnDisk p)) (disk_fail_of text) asked h in subst (AsksFor (codes "disk " ++ text)) m.2 (inl (disk_fail_so text m.0 m.1))
 behind_so word.Stop text asked h = let m = mapped (λ p. step.Schedule (plan.OnDisk p)) (stop_of text) asked h in subst (AsksFor (codes "stop " ++ text)) m.2 (inr (stop_so text m.0 m.1))
 behind_so word.Sweep text asked h =
-    let m = mapped (λ moment. step.Event (Sweep (record { 0 = moment }))) (moment_of text) asked h in
+    let m = mapped (λ moment. step.Event (Sweep (record { 0 = moment }))) (moment_word text) asked h in
     let n = (moment_text text m.0).0 m.1 in
     subst (AsksFor (codes "sweep " ++ text)) m.2 (ap (λ (t : List ℕ). codes "sweep " ++ t) n.0, n.1)
 behind_so word.Order text asked h = let m = mapped step.Event (order_of text) asked h in subst (AsksFor (codes "order " ++ text)) m.2 (order_so text m.0 m.1)

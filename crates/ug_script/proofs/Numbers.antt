@@ -9,19 +9,19 @@ use Rattle.ug_types.proofs.Elements.{map_has}
 use Rattle.ug_kernel.specs.declared.device.Device.{Device}
 use Rattle.ug_kernel.specs.declared.calls.Listing.{Listing}
 use Rattle.ug_kernel.specs.declared.calls.Listing.TheVariants as listing
-use Rattle.ug_kernel.specs.Calls.{Call, Names, Open, Read, Ask_alive, Put, Close, Told, Answer, raised, Counts}
+use Rattle.ug_kernel.specs.Calls.{Call, Names, Open, Read, Ask_alive, Put, Close, ToldAnswer, Answer, raised, Counts}
 use Rattle.ug_kernel.specs.Kernel.{Kernel, live_count, IsSound, IsKernel}
 use Rattle.ug_kernel.specs.Along.{Made, Along, counts_as, count_calls}
 use Rattle.ug_kernel.proofs.Ways.{Went, ways_run}
-use Rattle.ug_sysfs.specs.World.{World, Gives, begun, live_names, effect, entered, fate_of, answer_unless}
+use Rattle.ug_sysfs.specs.World.{World, Gives, event_begun, live_names, effect, entered, fate_of, answer_unless}
 use Rattle.ug_sysfs.specs.Count.{counts_each}
 use Rattle.ug_sysfs.specs.Sound.{sound_happen}
 use Rattle.ug_table.specs.State.{State}
 use Rattle.ug_table.specs.Sweep.{sweeping}
 use Rattle.ug_table.specs.Laws.{Stand, numbers_of}
 use Rattle.ug_table.specs.declared.standing.Standing.{Standing}
-use Rattle.ug_play.specs.Play.{play}
-use Rattle.ug_play.proofs.Plays.{play_runs}
+use Rattle.ug_simulation.specs.Play.{play}
+use Rattle.ug_simulation.proofs.Plays.{play_runs}
 use Rattle.ug_core.specs.Event as event
 use Rattle.ug_core.specs.Event.{DaemonState, has_numbers, is_low, ready}
 use Rattle.ug_core.specs.Policy.{Judging, policy_answer, policy_later}
@@ -38,7 +38,7 @@ use Rattle.ug_core.specs.Storing.{stored_with, storing}
 use Rattle.ug_core.specs.declared.choosing.Deed.{Deed}
 use Rattle.ug_core.specs.declared.daemon.Event.{Event}
 use Rattle.ug_core.specs.declared.daemon.Event.TheVariants.{Sweep, Order}
-use Rattle.ug_script.specs.Replay.{answered_by, answered_from, event_from, halted, tried_by}
+use Rattle.ug_script.specs.Replay.{order_played_by, answered_from, event_from, halted, tried_by}
 use Rattle.ug_script.proofs.Answers.{ActsSo, Asks, acting_ways, asking_ways, asks_few, is_short_deed}
 use Rattle.ug_script.proofs.OrdersPlayed.{answered_faults, answered_so, order_can, trying_so}
 use Rattle.ug_script.proofs.Halts.{halted_faults}
@@ -103,14 +103,14 @@ script_few : (out : Bool) (s : World) → IsKernel s.kernel → names_in (answer
 script_few true s k = omega arith
 script_few false s k = effect_few (fate_of (entered s)) (entered s).kernel (sound_happen (raised s.calls) false s.moves s.kernel.devices k.devices)
 
-listing_few : (s : World) (a : Told Listing) (u : World) → IsKernel s.kernel → Gives s Names a u → names_in a.answer ≤ 65536
+listing_few : (s : World) (a : ToldAnswer Listing) (u : World) → IsKernel s.kernel → Gives s Names a u → names_in a.answer ≤ 65536
 listing_few s a u k g = elim g [
-  | inl x ↦ subst (λ (b : Told Listing). names_in b.answer ≤ 65536) (sym x.0) (script_few s.ran_out s k)
+  | inl x ↦ subst (λ (b : ToldAnswer Listing). names_in b.answer ≤ 65536) (sym x.0) (script_few s.ran_out s k)
   | inr y ↦ elim y [
     | inl z ↦
         let short : names_in z.reply ≤ 65536 = subst (λ (r : Listing). names_in r ≤ 65536) (sym z.memory) (omega arith) in
-        subst (λ (b : Told Listing). names_in b.answer ≤ 65536) (sym z.answer) short
-    | inr z ↦ subst (λ (b : Told Listing). names_in b.answer ≤ 65536) (sym z.answer) (omega arith)
+        subst (λ (b : ToldAnswer Listing). names_in b.answer ≤ 65536) (sym z.answer) short
+    | inr z ↦ subst (λ (b : ToldAnswer Listing). names_in b.answer ≤ 65536) (sym z.answer) (omega arith)
   ]
 ]
 
@@ -173,7 +173,7 @@ few_calls P p w most ways few =
     omega (arith, faults, low)
 
 -- an order has five calls of the kernel at most
-answer_calls : (event : Event) (d : DaemonState) (w : World) (o : DiskWorld) → o.ran_out ≡ false → (answered_by event d w o).world.faults ≤ w.faults + 5
+answer_calls : (event : Event) (d : DaemonState) (w : World) (o : DiskWorld) → o.ran_out ≡ false → (order_played_by event d w o).world.faults ≤ w.faults + 5
 answer_calls (Sweep moment) d w o out = omega arith
 answer_calls (Order moment who line) d w o out =
     let c = play (asking d who line) w in
@@ -214,7 +214,7 @@ event_fits n event d w o lt h out f =
     let a = answered_from event d w o in
     let so = answered_so event r (start_of d w o) q still in
     let calls = answer_calls event r (start_of d w o) q still in
-    let start = halted_faults q (begun w) in
+    let start = halted_faults q (event_begun w) in
     let middle = halted_faults a.disk a.world in
     let tried = (trying_so d o out).faults in
     let saved = answered_faults event r (start_of d w o) q still in

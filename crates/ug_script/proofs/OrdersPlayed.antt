@@ -5,12 +5,12 @@ use Rattle.ug_types.specs.declared.saved.Saved.{Saved}
 use Rattle.ug_types.specs.declared.saved.Saved.TheVariants as saved
 use Rattle.ug_sysfs.specs.World.{World}
 use Rattle.ug_audit.specs.declared.entry.Entry.{Entry}
-use Rattle.ug_play.specs.Play.{NameNobody, play, tells_memory}
-use Rattle.ug_play.proofs.Plays.{Fixed, play_way, refused}
-use Rattle.ug_play.proofs.Sweeps.{nobody_more}
-use Rattle.ug_play.proofs.Wants.{memory_more}
+use Rattle.ug_simulation.specs.Play.{NameNobody, play, tells_memory}
+use Rattle.ug_simulation.proofs.Plays.{Fixed, play_way, refused}
+use Rattle.ug_simulation.proofs.Sweeps.{nobody_more}
+use Rattle.ug_simulation.proofs.Wants.{memory_more}
 use Rattle.ug_print.specs.RuleTexts.{rules_limit}
-use Rattle.ug_rules.specs.RuleFile.{permanent_text}
+use Rattle.ug_ruleset.specs.RuleFile.{permanent_text}
 use Rattle.ug_store.specs.PlayDisk.{play_disk}
 use Rattle.ug_store.specs.Scripted.{IsUnplanned, DiskWorld}
 use Rattle.ug_store.specs.Store.{Ended, saving, then_disk}
@@ -26,7 +26,7 @@ use Rattle.ug_core.specs.declared.daemon.Event.{Event}
 use Rattle.ug_core.specs.declared.daemon.Event.TheVariants.{Sweep, Order}
 use Rattle.ug_core.specs.declared.storing.Stored.{Stored}
 use Rattle.ug_core.specs.declared.storing.Stored.TheVariants as stored
-use Rattle.ug_script.specs.Replay.{answered_by, tried_by}
+use Rattle.ug_script.specs.Replay.{order_played_by, tried_by}
 use Rattle.ug_script.proofs.Answers.{ActsSo, Asks, CanAct, StoredSo, acting_ways, asking_ways, asks_can, asks_short, is_short_deed, stored_can, stored_short, stored_so}
 
 -- ---- a pending save
@@ -171,21 +171,21 @@ module _ (who : Named) (line : List ℕ) (d : DaemonState) (w : World) (o : Disk
 pub order_can : (who : Named) (line : List ℕ) (d : DaemonState) (w : World) (o : DiskWorld) → o.ran_out ≡ false → CanAct (stored_with (play_disk (storing d (play (asking d who line) w).0.change) o).0 (play (asking d who line) w).0.change d).sweep.standings (deed_after (play_disk (storing d (play (asking d who line) w).0.change) o).0 (play (asking d who line) w).0.deed)
 order_can who line d w o told = can who line d w o told
 
-pub answered_so : (event : Event) (d : DaemonState) (w : World) (o : DiskWorld) → o.ran_out ≡ false → AnsweredSo d (answered_by event d w o).daemon
+pub answered_so : (event : Event) (d : DaemonState) (w : World) (o : DiskWorld) → o.ran_out ≡ false → AnsweredSo d (order_played_by event d w o).daemon
 answered_so (Sweep moment) d w o told = record { rest = []; entries = sym (append-nil d.sweep.entries); wants = refl; nobody = refl; event = refl; next = refl; ids = omega arith }
 answered_so (Order moment who line) d w o told = order_so who line d w o told
 
 -- where nothing is planned, no save is left pending
-pub answered_saved : (event : Event) (d : DaemonState) (w : World) (o : DiskWorld) → o.ran_out ≡ false → IsUnplanned o → d.pending ≡ false → (answered_by event d w o).daemon.pending ≡ false
+pub answered_saved : (event : Event) (d : DaemonState) (w : World) (o : DiskWorld) → o.ran_out ≡ false → IsUnplanned o → d.pending ≡ false → (order_played_by event d w o).daemon.pending ≡ false
 answered_saved (Sweep moment) d w o told none saved = saved
 answered_saved (Order moment who line) d w o told none saved = order_saved who line d w o told none saved
 
 -- ---- their worlds
 
-pub answered_told : (event : Event) (d : DaemonState) (w : World) (o : DiskWorld) → o.ran_out ≡ false → (answered_by event d w o).disk.ran_out ≡ false
+pub answered_told : (event : Event) (d : DaemonState) (w : World) (o : DiskWorld) → o.ran_out ≡ false → (order_played_by event d w o).disk.ran_out ≡ false
 answered_told (Sweep moment) d w o told = told
 answered_told (Order moment who line) d w o told = play_stays_told (storing d (play (asking d who line) w).0.change) o told
 
-pub answered_faults : (event : Event) (d : DaemonState) (w : World) (o : DiskWorld) → o.ran_out ≡ false → (answered_by event d w o).disk.faults ≤ o.faults + 1
+pub answered_faults : (event : Event) (d : DaemonState) (w : World) (o : DiskWorld) → o.ran_out ≡ false → (order_played_by event d w o).disk.faults ≤ o.faults + 1
 answered_faults (Sweep moment) d w o told = omega arith
 answered_faults (Order moment who line) d w o told = (storing_so d (play (asking d who line) w).0.change o told).faults

@@ -12,9 +12,9 @@ use Rattle.ug_types.specs.declared.rule.Rule as types
 use Rattle.ug_lines.specs.Lines.{lines_of}
 use Rattle.ug_print.specs.RuleTexts.{rules_limit, rules_text_of}
 use Rattle.ug_sysfs.specs.World.{World}
-use Rattle.ug_console.specs.Fold.{Fault, BadLine, Going, Halted, InputTooLong, Outcome, Refused, Stage, Writes, advance, bad_line, closed_text, input_too_long, is_within, of_first, plays, stage_after, whole_text}
-use Rattle.ug_console.specs.Refusals.{AtEnd, AtLine, RefusesLine, RefusesLines}
-use Rattle.ug_console.specs.Statuses.{Answers}
+use Rattle.ug_command_io.specs.Fold.{LineRefusal, BadLine, Going, Halted, InputTooLong, LineOutcome, Refused, Stage, Writes, advance, bad_line, closed_text, input_too_long, is_within, of_first, plays, stage_after, whole_text}
+use Rattle.ug_command_io.specs.Refusals.{AtEnd, AtLine, RefusesLine, RefusesLines}
+use Rattle.ug_command_io.specs.Statuses.{AnswersLines}
 use Rattle.ug_conf.specs.Draft.{Draft}
 use Rattle.ug_conf.specs.Faults.{SettingFault}
 use Rattle.ug_core.specs.Event.{has_numbers}
@@ -30,7 +30,7 @@ use Rattle.ug_script.specs.Grammar.{step_of_line}
 use Rattle.ug_script.specs.Replay.{Played, begun_again, begun_disk, came_of, event_from, finished, header, in_script, left_played, line_added, quiet, restarted, script_end, script_step, stop_in, stopped_of, taken, taken_if, with_plan, with_played}
 use Rattle.ug_script.specs.Roomless.{FindsNoRoom, TellsRoom, starts_one}
 use Rattle.ug_script.specs.Script.{Script, can_start, daemon_in, disk_in, fresh, has_started, takes_setup, with_setup_closed}
-use Rattle.ug_script.specs.Setup.{SetupState, one_line_more, rule_asked, rules_from, steps_of, with_draft}
+use Rattle.ug_script.specs.Setup.{SetupState, one_line_more, setup_rule, rules_from, steps_of, with_draft}
 use Rattle.ug_script.specs.Words.{is_entry}
 use Rattle.ug_script.proofs.Against.{are_refused}
 use Rattle.ug_script.proofs.Phases.{closed_started}
@@ -47,43 +47,43 @@ or_one true = refl
 or_one false = refl
 
 record Sets (s : Script) (steps : List (Option Step)) (t : Script) : Type 0 where
-  rules : t.setup.rules ≡ s.setup.rules ++ flat_map rule_asked steps
+  rules : t.setup.rules ≡ s.setup.rules ++ flat_map setup_rule steps
   started : has_started t.phase ≡ (has_started s.phase || list_any starts_one steps)
 
 sets_none : (s : Script) → Sets s [] s
 sets_none s = record { rules = sym (append-nil s.setup.rules); started = sym (or_none (has_started s.phase)) }
 
-sets_one : (s t : Script) (asked : Option Step) → t.setup.rules ≡ s.setup.rules ++ rule_asked asked → has_started t.phase ≡ (has_started s.phase || starts_one asked) → Sets s (asked ∷ []) t
+sets_one : (s t : Script) (asked : Option Step) → t.setup.rules ≡ s.setup.rules ++ setup_rule asked → has_started t.phase ≡ (has_started s.phase || starts_one asked) → Sets s (asked ∷ []) t
 sets_one s t asked rules started = record {
-  rules = rules ∙ ap (λ (l : List types.Rule). s.setup.rules ++ l) (sym (append-nil (rule_asked asked)));
+  rules = rules ∙ ap (λ (l : List types.Rule). s.setup.rules ++ l) (sym (append-nil (setup_rule asked)));
   started = started ∙ ap (λ (b : Bool). has_started s.phase || b) (sym (or_none (starts_one asked)));
 }
 
-sets_still : (s t : Script) (asked : Option Step) → t.setup.rules ≡ s.setup.rules → rule_asked asked ≡ [] → has_started t.phase ≡ has_started s.phase → starts_one asked ≡ false → Sets s (asked ∷ []) t
+sets_still : (s t : Script) (asked : Option Step) → t.setup.rules ≡ s.setup.rules → setup_rule asked ≡ [] → has_started t.phase ≡ has_started s.phase → starts_one asked ≡ false → Sets s (asked ∷ []) t
 sets_still s t asked rules none started unstarted = sets_one s t asked (rules ∙ sym (append-nil s.setup.rules) ∙ ap (λ (l : List types.Rule). s.setup.rules ++ l) (sym none)) (started ∙ sym (or_none (has_started s.phase)) ∙ ap (λ (b : Bool). has_started s.phase || b) (sym unstarted))
 
-sets_start : (s t : Script) (asked : Option Step) → t.setup.rules ≡ s.setup.rules → rule_asked asked ≡ [] → has_started t.phase ≡ true → starts_one asked ≡ true → Sets s (asked ∷ []) t
+sets_start : (s t : Script) (asked : Option Step) → t.setup.rules ≡ s.setup.rules → setup_rule asked ≡ [] → has_started t.phase ≡ true → starts_one asked ≡ true → Sets s (asked ∷ []) t
 sets_start s t asked rules none started starts = sets_one s t asked (rules ∙ sym (append-nil s.setup.rules) ∙ ap (λ (l : List types.Rule). s.setup.rules ++ l) (sym none)) (started ∙ sym (or_one (has_started s.phase)) ∙ ap (λ (b : Bool). has_started s.phase || b) (sym starts))
 
 sets_more : (s t u : Script) (asked : Option Step) (steps : List (Option Step)) → Sets s (asked ∷ []) t → Sets t steps u → Sets s (asked ∷ steps) u
 sets_more s t u asked steps x y = record {
-  rules = y.rules ∙ ap (λ (l : List types.Rule). l ++ flat_map rule_asked steps) (x.rules ∙ ap (λ (l : List types.Rule). s.setup.rules ++ l) (append-nil (rule_asked asked))) ∙ append_assoc s.setup.rules (rule_asked asked) (flat_map rule_asked steps);
+  rules = y.rules ∙ ap (λ (l : List types.Rule). l ++ flat_map setup_rule steps) (x.rules ∙ ap (λ (l : List types.Rule). s.setup.rules ++ l) (append-nil (setup_rule asked))) ∙ append_assoc s.setup.rules (setup_rule asked) (flat_map setup_rule steps);
   started = y.started ∙ ap (λ (b : Bool). b || list_any starts_one steps) (x.started ∙ ap (λ (b : Bool). has_started s.phase || b) (or_none (starts_one asked))) ∙ or_assoc (has_started s.phase) (starts_one asked) (list_any starts_one steps);
 }
 
-abbrev SetsAfter : Script → Option Step → Outcome (Option Script × World) → Type 0
+abbrev SetsAfter : Script → Option Step → LineOutcome (Option Script × World) → Type 0
 SetsAfter s asked (Writes more (Some t, w)) = Sets s (asked ∷ []) t
 SetsAfter s asked (Writes more (None, w)) = ⊥
 SetsAfter s asked (Refused fault next) = Unit {0}
 
-sets_when : (s : Script) (asked : Option Step) (b : Bool) (o p : Outcome (Option Script × World)) → SetsAfter s asked o → SetsAfter s asked p → SetsAfter s asked (cond b o p)
+sets_when : (s : Script) (asked : Option Step) (b : Bool) (o p : LineOutcome (Option Script × World)) → SetsAfter s asked o → SetsAfter s asked p → SetsAfter s asked (cond b o p)
 sets_when s asked true o p x y = x
 sets_when s asked false o p x y = y
 
 -- what a line of setup gives
 abbrev GivesRules : SetupState → SetupLine → Option SetupState → Type 0
 GivesRules before line None = Unit {0}
-GivesRules before line (Some after) = after.rules ≡ before.rules ++ rule_asked (Some (Setup line))
+GivesRules before line (Some after) = after.rules ≡ before.rules ++ setup_rule (Some (Setup line))
 
 gives_when : (before : SetupState) (line : SetupLine) (b : Bool) (o : Option SetupState) → GivesRules before line o → GivesRules before line (if b then o else None)
 gives_when before line true o h = h
@@ -109,14 +109,14 @@ sets_plan s w (plan.Move m) = sets_still s (with_setup_closed s) (Some (Schedule
 sets_plan s w (plan.Fail f) = sets_still s (with_setup_closed s) (Some (Schedule (plan.Fail f))) refl refl (closed_started s.phase) refl
 sets_plan s w (plan.OnDisk p) = sets_still s (with_plan (plan.OnDisk p) (with_setup_closed s)) (Some (Schedule (plan.OnDisk p))) refl refl (closed_started s.phase) refl
 
-sets_restarted : (s : Script) (w : World) (loaded : Result (List types.Rule) Fault) → SetsAfter s (Some Restart) (restarted loaded s w)
+sets_restarted : (s : Script) (w : World) (loaded : Result (List types.Rule) LineRefusal) → SetsAfter s (Some Restart) (restarted loaded s w)
 sets_restarted s w (Ok rules) = sets_start s _ (Some Restart) refl refl refl refl
 sets_restarted s w (Err fault) = tt
 
 sets_played : (s : Script) (event : events.Event) (p : Played) → Sets s (Some (Event event) ∷ []) (with_played s p)
 sets_played s event p = sets_start s (with_played s p) (Some (Event event)) refl refl refl refl
 
-sets_stopped : (s : Script) (event : events.Event) (call : ℕ) (p : Played) (loaded : Result (List types.Rule) Fault) → SetsAfter s (Some (Event event)) (in_script s (stopped_of s.setup call p loaded))
+sets_stopped : (s : Script) (event : events.Event) (call : ℕ) (p : Played) (loaded : Result (List types.Rule) LineRefusal) → SetsAfter s (Some (Event event)) (in_script s (stopped_of s.setup call p loaded))
 sets_stopped s event call p (Ok rules) = sets_played s event (begun_again s.setup rules p)
 sets_stopped s event call p (Err fault) = tt
 
@@ -124,7 +124,7 @@ sets_came : (s : Script) (event : events.Event) (p : Played) (stopped : Bool) �
 sets_came s event p true = sets_stopped s event (stop_in s.planned p) p (rules_from p.disk.disk.text)
 sets_came s event p false = sets_played s event (left_played p)
 
-sets_event : (s : Script) (w : World) (event : events.Event) (start room : Bool) (came : Outcome Played) (other : Played) → SetsAfter s (Some (Event event)) (in_script s came) → SetsAfter s (Some (Event event)) (cond start (in_script s (cond room came (Refused BadLine other))) (Refused InputTooLong (Some s, w)))
+sets_event : (s : Script) (w : World) (event : events.Event) (start room : Bool) (came : LineOutcome Played) (other : Played) → SetsAfter s (Some (Event event)) (in_script s came) → SetsAfter s (Some (Event event)) (cond start (in_script s (cond room came (Refused BadLine other))) (Refused InputTooLong (Some s, w)))
 sets_event s w event true true came other h = h
 sets_event s w event true false came other h = tt
 sets_event s w event false room came other h = tt
@@ -143,11 +143,11 @@ sets_line : (s : Script) (w : World) (asked : Option Step) → SetsAfter s asked
 sets_line s w None = tt
 sets_line s w (Some asked) = sets_step s w asked
 
-refused_on : (fault : Fault) (n : ℕ) (text : List ℕ) (p : Option Script × World) (lines : List (List ℕ)) → plays script_step (Halted fault n text p) lines ≡ Halted fault n text p
+refused_on : (fault : LineRefusal) (n : ℕ) (text : List ℕ) (p : Option Script × World) (lines : List (List ℕ)) → plays script_step (Halted fault n text p) lines ≡ Halted fault n text p
 refused_on fault n text p [] = refl
 refused_on fault n text p (line ∷ lines) = refused_on fault n text p lines
 
-never : {X : Type 0} (fault : Fault) (n : ℕ) (text : List ℕ) (p : Option Script × World) (lines : List (List ℕ)) (m : ℕ) (out : List ℕ) (q : Option Script × World) → plays script_step (Halted fault n text p) lines ≡ Going m out q → X
+never : {X : Type 0} (fault : LineRefusal) (n : ℕ) (text : List ℕ) (p : Option Script × World) (lines : List (List ℕ)) (m : ℕ) (out : List ℕ) (q : Option Script × World) → plays script_step (Halted fault n text p) lines ≡ Going m out q → X
 never fault n text p lines m out q e = let h : Halted fault n text p ≡ Going m out q = sym (refused_on fault n text p lines) ∙ e in let none : ⊥ = cc in absurd none
 
 abbrev SetsAt : Script → Stage (Option Script × World) → Type 0
@@ -157,7 +157,7 @@ SetsAt s (Halted fault n text p) = Unit {0}
 
 rest_sets : (s : Script) (asked : Option Step) (n : ℕ) (text : List ℕ) (p : Option Script × World) (lines : List (List ℕ)) (m : ℕ) (out : List ℕ) (u : Script) (v : World)
     → ((more : List ℕ) (t : Script) (w : World) → plays script_step (Going (n + 1) more (Some t, w)) lines ≡ Going m out (Some u, v) → Sets t (map step_of_line lines) u)
-    → (b : Bool) (o : Outcome (Option Script × World)) → SetsAfter s asked o → plays script_step (cond b (stage_after n text o) (Halted BadLine n text p)) lines ≡ Going m out (Some u, v) → Sets s (asked ∷ map step_of_line lines) u
+    → (b : Bool) (o : LineOutcome (Option Script × World)) → SetsAfter s asked o → plays script_step (cond b (stage_after n text o) (Halted BadLine n text p)) lines ≡ Going m out (Some u, v) → Sets s (asked ∷ map step_of_line lines) u
 rest_sets s asked n text p lines m out u v again true (Writes more (Some t, w)) h e = sets_more s t u asked (map step_of_line lines) h (again (text ++ more) t w e)
 rest_sets s asked n text p lines m out u v again true (Writes more (None, w)) h e = absurd h
 rest_sets s asked n text p lines m out u v again true (Refused fault next) h e = never fault n text next lines m out (Some u, v) e
@@ -184,17 +184,17 @@ sets_all first (line ∷ lines) n text s w e = sets_header first lines n text s 
 
 -- ---- the stage behind a line that is refused
 
-behind : (first : World) (earlier later : List (List ℕ)) (line : List ℕ) (count : ℕ) (text : List ℕ) (p next : Option Script × World) (fault : Fault) → plays script_step (Going 0 [] (None, first)) earlier ≡ Going count text p → advance script_step (Going count text p) line ≡ Halted fault count text next → plays script_step (Going 0 [] (None, first)) (earlier ++ line ∷ later) ≡ Halted fault count text next
+behind : (first : World) (earlier later : List (List ℕ)) (line : List ℕ) (count : ℕ) (text : List ℕ) (p next : Option Script × World) (fault : LineRefusal) → plays script_step (Going 0 [] (None, first)) earlier ≡ Going count text p → advance script_step (Going count text p) line ≡ Halted fault count text next → plays script_step (Going 0 [] (None, first)) (earlier ++ line ∷ later) ≡ Halted fault count text next
 behind first earlier later line count text p next fault taken halts =
     fold-append (advance script_step) (Going 0 [] (None, first)) earlier (line ∷ later)
     ∙ ap (λ (stage : Stage (Option Script × World)). plays script_step (advance script_step stage line) later) taken
     ∙ ap (λ (stage : Stage (Option Script × World)). plays script_step stage later) halts
     ∙ refused_on fault count text next later
 
-refuses_within : (count : ℕ) (text line : List ℕ) (p next : Option Script × World) (fault : Fault) → is_within count line ≡ true → script_step p line ≡ Refused fault next → advance script_step (Going count text p) line ≡ Halted fault count text next
+refuses_within : (count : ℕ) (text line : List ℕ) (p next : Option Script × World) (fault : LineRefusal) → is_within count line ≡ true → script_step p line ≡ Refused fault next → advance script_step (Going count text p) line ≡ Halted fault count text next
 refuses_within count text line p next fault within refused =
     ap (λ (b : Bool). if b then stage_after count text (script_step p line) else Halted BadLine count text p) within
-    ∙ ap (λ (o : Outcome (Option Script × World)). stage_after count text o) refused
+    ∙ ap (λ (o : LineOutcome (Option Script × World)). stage_after count text o) refused
 
 refuses_past : (count : ℕ) (text line : List ℕ) (p : Option Script × World) → is_within count line ≡ false → advance script_step (Going count text p) line ≡ Halted BadLine count text p
 refuses_past count text line p past = ap (λ (b : Bool). if b then stage_after count text (script_step p line) else Halted BadLine count text p) past
@@ -249,7 +249,7 @@ abbrev Start : World → Stage (Option Script × World)
 Start first = Going 0 [] (None, first)
 
 -- at the line where it is refused
-by_reason : (first : World) (lines earlier later : List (List ℕ)) (line : List ℕ) (count : ℕ) (text : List ℕ) (p : Option Script × World) (fault : Fault) → lines ≡ earlier ++ line ∷ later → plays script_step (Start first) earlier ≡ Going count text p → is_within count line ≡ true → SpeaksAgainst p line fault → ((next : Option Script × World) → script_step p line ≡ Refused fault next → plays script_step (Start first) lines ≡ Halted fault count text next) → (next : Option Script × World) → script_step p line ≡ Refused fault next → whole_text script_closing (plays script_step (Start first) lines) ≡ input_too_long → FindsNoRoom first lines
+by_reason : (first : World) (lines earlier later : List (List ℕ)) (line : List ℕ) (count : ℕ) (text : List ℕ) (p : Option Script × World) (fault : LineRefusal) → lines ≡ earlier ++ line ∷ later → plays script_step (Start first) earlier ≡ Going count text p → is_within count line ≡ true → SpeaksAgainst p line fault → ((next : Option Script × World) → script_step p line ≡ Refused fault next → plays script_step (Start first) lines ≡ Halted fault count text next) → (next : Option Script × World) → script_step p line ≡ Refused fault next → whole_text script_closing (plays script_step (Start first) lines) ≡ input_too_long → FindsNoRoom first lines
 by_reason first lines earlier later line count text _ _ among taken within (NoHeader w _ other) halts next refused e = bad_otherwise first lines count text next (halts next refused) e
 by_reason first lines earlier later line count text _ _ among taken within (NoStep s w _ is) halts next refused e = bad_otherwise first lines count text next (halts next refused) e
 by_reason first lines earlier later line count text _ _ among taken within (BehindSetup s w _ given is closed) halts next refused e = bad_otherwise first lines count text next (halts next refused) e
@@ -273,7 +273,7 @@ by_reason first lines earlier later line count text _ _ among taken within (NoRo
       long = subst (λ (rules : List types.Rule). rules_limit < length (rules_text_of rules)) sets.rules long;
     }
 
-at_line : (first : World) (lines : List (List ℕ)) (fault : Fault) (r : RefusesLine script_step SpeaksAgainst (Start first) lines fault) (b : Bool) → is_within r.count r.line ≡ b → whole_text script_closing (plays script_step (Start first) lines) ≡ input_too_long → FindsNoRoom first lines
+at_line : (first : World) (lines : List (List ℕ)) (fault : LineRefusal) (r : RefusesLine script_step SpeaksAgainst (Start first) lines fault) (b : Bool) → is_within r.count r.line ≡ b → whole_text script_closing (plays script_step (Start first) lines) ≡ input_too_long → FindsNoRoom first lines
 at_line first lines fault r true within e =
     let against = r.why within in
     let refused = are_refused r.machine r.line fault against in
@@ -285,12 +285,12 @@ at_line first lines fault r false past e =
     (ap (λ (ls : List (List ℕ)). plays script_step (Start first) ls) r.among ∙ behind first r.earlier r.later r.line r.count r.text r.machine r.machine BadLine r.played (refuses_past r.count r.text r.line r.machine past))
     e
 
-room_found : (first : World) (lines : List (List ℕ)) (fault : Fault) → RefusesLines script_step script_closing SpeaksAgainst (Start first) lines fault → whole_text script_closing (plays script_step (Start first) lines) ≡ input_too_long → FindsNoRoom first lines
+room_found : (first : World) (lines : List (List ℕ)) (fault : LineRefusal) → RefusesLines script_step script_closing SpeaksAgainst (Start first) lines fault → whole_text script_closing (plays script_step (Start first) lines) ≡ input_too_long → FindsNoRoom first lines
 room_found first lines fault (AtLine r) e = at_line first lines fault r (is_within r.count r.line) refl e
 room_found first lines fault (AtEnd count text machine played more) e =
     not_bad text (count + 1) (sym (ap (λ (stage : Stage (Option Script × World)). whole_text script_closing stage) played ∙ ap (λ (last : Option (List ℕ)). text ++ closed_text count last) more) ∙ e)
 
-pub tells_room : (first : World) (all base : List ℕ) (left held : Option (List ℕ)) (p : Option Script × World) (status : ℕ) → first.moves ≡ [] → first.fails ≡ [] → Answers script_step script_closing (None, first) all base left held p status → (status ≡ 2 → RefusesScript first (lines_of all)) → TellsRoom first (lines_of all) base held status
+pub tells_room : (first : World) (all base : List ℕ) (left held : Option (List ℕ)) (p : Option Script × World) (status : ℕ) → first.moves ≡ [] → first.fails ≡ [] → AnswersLines script_step script_closing (None, first) all base left held p status → (status ≡ 2 → RefusesScript first (lines_of all)) → TellsRoom first (lines_of all) base held status
 tells_room first all base left held p status moves fails answers refuses two =
     let told = (answers.bad two).2 in
     let whole : List ℕ = whole_text script_closing (plays script_step (Start first) (lines_of all)) in (

@@ -8,7 +8,7 @@ use Rattle.ug_store.specs.declared.mishap.Planned.{Planned}
 use Rattle.ug_sysfs.specs.declared.script.Failing.{Failing}
 use Rattle.ug_sysfs.specs.declared.script.Scheduled.{Scheduled}
 use Rattle.ug_sysfs.specs.World.{World, over}
-use Rattle.ug_console.specs.Fold.{Fault, BadLine, Going, Halted, InputTooLong, Outcome, Refused, Stage, Writes, is_within, plays, stage_after}
+use Rattle.ug_command_io.specs.Fold.{LineRefusal, BadLine, Going, Halted, InputTooLong, LineOutcome, Refused, Stage, Writes, is_within, plays, stage_after}
 use Rattle.ug_core.specs.Event.{has_numbers}
 use Rattle.ug_core.specs.declared.daemon.Event as events
 use Rattle.ug_script.specs.declared.step.Plan.{Plan}
@@ -47,7 +47,7 @@ in_store_still steps step moves fails plan no_move no_fail no_disk h = record {
 abbrev Holds : List (Option Step) → List ℕ → Script → World → Type 0
 Holds steps text s w = IsInStore (since_event steps) w.moves w.fails s.planned × (has_started s.phase ≡ false → text ≡ [])
 
-abbrev HoldsAfter : List (Option Step) → List ℕ → Outcome (Option Script × World) → Type 0
+abbrev HoldsAfter : List (Option Step) → List ℕ → LineOutcome (Option Script × World) → Type 0
 HoldsAfter steps text (Writes more (Some s, w)) = Holds steps (text ++ more) s w
 HoldsAfter steps text (Writes more (None, w)) = ⊥
 HoldsAfter steps text (Refused fault next) = Unit {0}
@@ -68,7 +68,7 @@ closed_so SettingUp = refl
 closed_so Unstarted = refl
 closed_so (Started d disk) = refl
 
-when : (steps : List (Option Step)) (text : List ℕ) (b : Bool) (o p : Outcome (Option Script × World)) → HoldsAfter steps text o → HoldsAfter steps text p → HoldsAfter steps text (cond b o p)
+when : (steps : List (Option Step)) (text : List ℕ) (b : Bool) (o p : LineOutcome (Option Script × World)) → HoldsAfter steps text o → HoldsAfter steps text p → HoldsAfter steps text (cond b o p)
 when steps text true o p x y = x
 when steps text false o p x y = y
 
@@ -115,7 +115,7 @@ never_silent e = let none : ⊥ = cc in absurd none
 over_holds : (done : List (Option Step)) (text : List ℕ) (event : events.Event) (s : Script) (p : Played) (w : World) → p.world ≡ over w → Holds (done ++ Some (Event event) ∷ []) text (with_played s p) p.world
 over_holds done text event s p w e = (subst (λ (v : World). IsInStore (since_event (done ++ Some (Event event) ∷ [])) v.moves v.fails []) (sym e) (store_none done event), λ k. never_silent k)
 
-stopped_holds : (done : List (Option Step)) (text : List ℕ) (event : events.Event) (s : Script) (call : ℕ) (p : Played) (loaded : Result (List types.Rule) Fault) → HoldsAfter (done ++ Some (Event event) ∷ []) text (in_script s (stopped_of s.setup call p loaded))
+stopped_holds : (done : List (Option Step)) (text : List ℕ) (event : events.Event) (s : Script) (call : ℕ) (p : Played) (loaded : Result (List types.Rule) LineRefusal) → HoldsAfter (done ++ Some (Event event) ∷ []) text (in_script s (stopped_of s.setup call p loaded))
 stopped_holds done text event s call p (Ok rules) = over_holds done _ event s (begun_again s.setup rules p) p.world refl
 stopped_holds done text event s call p (Err fault) = tt
 
@@ -123,12 +123,12 @@ came_holds : (done : List (Option Step)) (text : List ℕ) (event : events.Event
 came_holds done text event s p true = stopped_holds done text event s (stop_in s.planned p) p (rules_from p.disk.disk.text)
 came_holds done text event s p false = over_holds done _ event s (left_played p) p.world refl
 
-event_holds : (done : List (Option Step)) (text : List ℕ) (event : events.Event) (s : Script) (w : World) (start room : Bool) (came : Outcome Played) (other : Played) → HoldsAfter (done ++ Some (Event event) ∷ []) text (in_script s came) → HoldsAfter (done ++ Some (Event event) ∷ []) text (cond start (in_script s (cond room came (Refused BadLine other))) (Refused InputTooLong (Some s, w)))
+event_holds : (done : List (Option Step)) (text : List ℕ) (event : events.Event) (s : Script) (w : World) (start room : Bool) (came : LineOutcome Played) (other : Played) → HoldsAfter (done ++ Some (Event event) ∷ []) text (in_script s came) → HoldsAfter (done ++ Some (Event event) ∷ []) text (cond start (in_script s (cond room came (Refused BadLine other))) (Refused InputTooLong (Some s, w)))
 event_holds done text event s w true true came other h = h
 event_holds done text event s w true false came other h = tt
 event_holds done text event s w false room came other h = tt
 
-restart_holds : (done : List (Option Step)) (text : List ℕ) (s : Script) (w : World) (loaded : Result (List types.Rule) Fault) → Holds done text s w → HoldsAfter (done ++ Some Restart ∷ []) text (restarted loaded s w)
+restart_holds : (done : List (Option Step)) (text : List ℕ) (s : Script) (w : World) (loaded : Result (List types.Rule) LineRefusal) → Holds done text s w → HoldsAfter (done ++ Some Restart ∷ []) text (restarted loaded s w)
 restart_holds done text s w (Ok rules) h = (
   store_more done (Some Restart) w.moves w.fails s.planned refl (in_store_still (since_event done) (Some Restart) w.moves w.fails s.planned refl refl refl h.0),
   λ k. never_silent k,
@@ -160,11 +160,11 @@ line_holds : (done : List (Option Step)) (text : List ℕ) (asked : Option Step)
 line_holds done text None s w h = tt
 line_holds done text (Some asked) s w h = step_holds done text asked s w h
 
-refused_on : (fault : Fault) (n : ℕ) (text : List ℕ) (p : Option Script × World) (lines : List (List ℕ)) → plays script_step (Halted fault n text p) lines ≡ Halted fault n text p
+refused_on : (fault : LineRefusal) (n : ℕ) (text : List ℕ) (p : Option Script × World) (lines : List (List ℕ)) → plays script_step (Halted fault n text p) lines ≡ Halted fault n text p
 refused_on fault n text p [] = refl
 refused_on fault n text p (line ∷ lines) = refused_on fault n text p lines
 
-never : {X : Type 0} (fault : Fault) (n : ℕ) (text : List ℕ) (p : Option Script × World) (lines : List (List ℕ)) (m : ℕ) (out : List ℕ) (q : Option Script × World) → plays script_step (Halted fault n text p) lines ≡ Going m out q → X
+never : {X : Type 0} (fault : LineRefusal) (n : ℕ) (text : List ℕ) (p : Option Script × World) (lines : List (List ℕ)) (m : ℕ) (out : List ℕ) (q : Option Script × World) → plays script_step (Halted fault n text p) lines ≡ Going m out q → X
 never fault n text p lines m out q e = let h : Halted fault n text p ≡ Going m out q = sym (refused_on fault n text p lines) ∙ e in let none : ⊥ = cc in absurd none
 
 abbrev HoldsAt : List (Option Step) → Stage (Option Script × World) → Type 0
@@ -174,7 +174,7 @@ HoldsAt steps (Halted fault n text p) = Unit {0}
 
 rest_hold : (done : List (Option Step)) (asked : Option Step) (n : ℕ) (text : List ℕ) (p : Option Script × World) (lines : List (List ℕ)) (m : ℕ) (out : List ℕ) (t : Script) (v : World)
     → ((more : List ℕ) (s : Script) (w : World) → Holds (done ++ asked ∷ []) more s w → plays script_step (Going (n + 1) more (Some s, w)) lines ≡ Going m out (Some t, v) → Holds ((done ++ asked ∷ []) ++ map step_of_line lines) out t v)
-    → (b : Bool) (o : Outcome (Option Script × World)) → HoldsAfter (done ++ asked ∷ []) text o → plays script_step (cond b (stage_after n text o) (Halted BadLine n text p)) lines ≡ Going m out (Some t, v) → Holds (done ++ (asked ∷ map step_of_line lines)) out t v
+    → (b : Bool) (o : LineOutcome (Option Script × World)) → HoldsAfter (done ++ asked ∷ []) text o → plays script_step (cond b (stage_after n text o) (Halted BadLine n text p)) lines ≡ Going m out (Some t, v) → Holds (done ++ (asked ∷ map step_of_line lines)) out t v
 rest_hold done asked n text p lines m out t v again true (Writes more (Some s, w)) k e =
     subst (λ (steps : List (Option Step)). Holds steps out t v) (append_assoc done (asked ∷ []) (map step_of_line lines)) (again (text ++ more) s w k e)
 rest_hold done asked n text p lines m out t v again true (Writes more (None, w)) k e = absurd k

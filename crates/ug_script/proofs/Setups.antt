@@ -8,23 +8,24 @@ use Rattle.ug_cond.specs.Words.{behind}
 use Rattle.rand_core.specs.Stream.{Stream}
 use Rattle.ug_policy.specs.declared.entry.RuleEntry.{RuleEntry}
 use Rattle.ug_policy.specs.Edits.{new_entry}
+use Rattle.ug_policy.specs.declared.entry.Mark.TheVariants as mark
 use Rattle.ug_policy.specs.Rules.{ids}
-use Rattle.ug_conf.specs.Draft.{Draft, draft_of, line_read}
-use Rattle.ug_conf.specs.Faults.{SettingFault, kind_number}
+use Rattle.ug_conf.specs.Draft.{Draft, draft_of, setting_line_read}
+use Rattle.ug_conf.specs.Faults.{SettingFault, setting_fault_number}
 use Rattle.ug_conf.specs.Reader.{next_number}
 use Rattle.ug_conf.specs.Settings.{defaults}
 use Rattle.ug_conf.specs.Texts.{setting_line}
 use Rattle.ug_lines.specs.LineReading.{lines_read, on_line, then_on}
 use Rattle.ug_core.specs.Starting.{permanent_entries}
 use Rattle.ug_core.specs.Policy.{Judging}
-use Rattle.ug_rules.specs.RuleFile.{as_given}
+use Rattle.ug_ruleset.specs.RuleFile.{as_given}
 use Rattle.ug_core.specs.Verdicts.{IsLater}
 use Rattle.ug_script.specs.declared.step.AccessLine.{AccessLine}
 use Rattle.ug_script.specs.declared.step.SetupLine.{SetupLine}
 use Rattle.ug_script.specs.declared.step.SetupLine.TheVariants.{Rule, Conf, Access, Seed, Zone}
 use Rattle.ug_script.specs.declared.step.Step.{Step}
 use Rattle.ug_script.specs.declared.step.Step.TheVariants.{Setup}
-use Rattle.ug_script.specs.Setup.{SetupState, no_setup, is_offset, with_draft, one_line_more, everything, granted, beside_of, clock_ahead, seeded, no_seed, given_or, policy_of, rule_asked, conf_asked, access_asked, seed_asked, zone_asked, first_or, with_rules, IsSetup}
+use Rattle.ug_script.specs.Setup.{SetupState, no_setup, is_offset, with_draft, one_line_more, everything, granted, beside_of, clock_ahead, seeded, no_seed, given_or, policy_of, setup_rule, conf_asked, access_asked, seed_asked, zone_asked, first_or, with_rules, IsSetup}
 use Rattle.ug_script.specs.Words.{is_entry}
 
 pub flat_more : {X : Type 0} (f : Option Step → List X) (steps : List (Option Step)) (step : Option Step) → flat_map f (steps ++ step ∷ []) ≡ flat_map f steps ++ f step
@@ -36,19 +37,19 @@ pub flat_none : {X : Type 0} (f : Option Step → List X) (steps : List (Option 
 flat_none {X} f steps step none = flat_more f steps step ∙ ap (λ (l : List X). flat_map f steps ++ l) none ∙ append-nil (flat_map f steps)
 
 -- one line of settings more
-settings_by : (number : ℕ) (lines : List (List ℕ)) (line : List ℕ) (mid last : Draft) (r : Result Draft SettingFault) → then_on (on_line kind_number number r) (λ (more : Draft). lines_read setting_line (number + 1) more lines) ≡ Ok mid
-    → ((more : Draft) → lines_read setting_line (number + 1) more lines ≡ Ok mid → lines_read setting_line (number + 1) more (lines ++ line ∷ []) ≡ Ok last) → then_on (on_line kind_number number r) (λ (more : Draft). lines_read setting_line (number + 1) more (lines ++ line ∷ [])) ≡ Ok last
+settings_by : (number : ℕ) (lines : List (List ℕ)) (line : List ℕ) (mid last : Draft) (r : Result Draft SettingFault) → then_on (on_line setting_fault_number number r) (λ (more : Draft). lines_read setting_line (number + 1) more lines) ≡ Ok mid
+    → ((more : Draft) → lines_read setting_line (number + 1) more lines ≡ Ok mid → lines_read setting_line (number + 1) more (lines ++ line ∷ []) ≡ Ok last) → then_on (on_line setting_fault_number number r) (λ (more : Draft). lines_read setting_line (number + 1) more (lines ++ line ∷ [])) ≡ Ok last
 settings_by number lines line mid last (Ok more) h again = again more h
 settings_by number lines line mid last (Err fault) h again = let none : ⊥ = cc in absurd none
 
-settings_more : (number : ℕ) (draft : Draft) (lines : List (List ℕ)) (line : List ℕ) (mid last : Draft) → lines_read setting_line number draft lines ≡ Ok mid → line_read (number + length lines) mid line ≡ Ok last → lines_read setting_line number draft (lines ++ line ∷ []) ≡ Ok last
+settings_more : (number : ℕ) (draft : Draft) (lines : List (List ℕ)) (line : List ℕ) (mid last : Draft) → lines_read setting_line number draft lines ≡ Ok mid → setting_line_read (number + length lines) mid line ≡ Ok last → lines_read setting_line number draft (lines ++ line ∷ []) ≡ Ok last
 unfolding lines_read
 settings_more number draft [] line mid last h g =
     let same : draft ≡ mid = cc in
     let none : number + 0 ≡ number = omega arith in
-    let read : line_read number draft line ≡ Ok last = subst (λ (n : ℕ). line_read n draft line ≡ Ok last) none (subst (λ (d : Draft). line_read (number + 0) d line ≡ Ok last) (sym same) g) in
-    ap (λ (r : Result Draft SettingFault). then_on (on_line kind_number number r) (λ (more : Draft). lines_read setting_line (number + 1) more [])) read
-settings_more number draft (x ∷ lines) line mid last h g = settings_by number lines line mid last (line_read number draft x) h (λ more k. settings_more (number + 1) more lines line mid last k (let next : number + length (x ∷ lines) ≡ (number + 1) + length lines = omega arith in subst (λ (n : ℕ). line_read n mid line ≡ Ok last) next g))
+    let read : setting_line_read number draft line ≡ Ok last = subst (λ (n : ℕ). setting_line_read n draft line ≡ Ok last) none (subst (λ (d : Draft). setting_line_read (number + 0) d line ≡ Ok last) (sym same) g) in
+    ap (λ (r : Result Draft SettingFault). then_on (on_line setting_fault_number number r) (λ (more : Draft). lines_read setting_line (number + 1) more [])) read
+settings_more number draft (x ∷ lines) line mid last h g = settings_by number lines line mid last (setting_line_read number draft x) h (λ more k. settings_more (number + 1) more lines line mid last k (let next : number + length (x ∷ lines) ≡ (number + 1) + length lines = omega arith in subst (λ (n : ℕ). setting_line_read n mid line ≡ Ok last) next g))
 
 -- ---- what lines gave is what they ask for
 
@@ -58,7 +59,7 @@ alone (Some x) = x ∷ []
 
 -- after no more than so many lines
 pub record IsGiven (n : ℕ) (done : List (Option Step)) (s : SetupState) : Type 0 where
-  pub rules : s.rules ≡ flat_map rule_asked done
+  pub rules : s.rules ≡ flat_map setup_rule done
   pub few_rules : length s.rules ≤ n
   pub listed : length s.rules ≤ 65536
   pub read : lines_read setting_line 1 (draft_of defaults []) (flat_map conf_asked done) ≡ Ok s.settings.draft
@@ -73,12 +74,12 @@ unfolding lines_read
 given_first = record { rules = refl; few_rules = omega arith; listed = omega arith; read = refl; lines = refl; few = omega arith; granted = refl; seeds = refl; zones = refl }
 
 -- a step that isn't one of setup
-pub given_still : (n : ℕ) (done : List (Option Step)) (step : Option Step) (s : SetupState) → rule_asked step ≡ [] → conf_asked step ≡ [] → access_asked step ≡ [] → seed_asked step ≡ [] → zone_asked step ≡ [] → IsGiven n done s → IsGiven (n + 1) (done ++ step ∷ []) s
+pub given_still : (n : ℕ) (done : List (Option Step)) (step : Option Step) (s : SetupState) → setup_rule step ≡ [] → conf_asked step ≡ [] → access_asked step ≡ [] → seed_asked step ≡ [] → zone_asked step ≡ [] → IsGiven n done s → IsGiven (n + 1) (done ++ step ∷ []) s
 given_still n done step s rule conf access seed zone h =
     let few_rules : length s.rules ≤ n = h.few_rules in
     let few : s.settings.lines ≤ n = h.few in
     record {
-      rules = h.rules ∙ sym (flat_none rule_asked done step rule);
+      rules = h.rules ∙ sym (flat_none setup_rule done step rule);
       few_rules = omega (arith, few_rules);
       listed = h.listed;
       read = ap (λ (l : List (List ℕ)). lines_read setting_line 1 (draft_of defaults []) l) (flat_none conf_asked done step conf) ∙ h.read;
@@ -117,7 +118,7 @@ given_rule n done rule s b h =
     let room : length s.rules < 65536 = grind (arith, nat_tests, b) in
     let more : length (s.rules ++ rule ∷ []) ≡ length s.rules + 1 = length-append s.rules (rule ∷ []) in
     record {
-      rules = ap (λ (l : List types.Rule). l ++ rule ∷ []) h.rules ∙ sym (flat_more rule_asked done step);
+      rules = ap (λ (l : List types.Rule). l ++ rule ∷ []) h.rules ∙ sym (flat_more setup_rule done step);
       few_rules = omega (arith, few_rules, more);
       listed = omega (arith, room, more);
       read = ap (λ (l : List (List ℕ)). lines_read setting_line 1 (draft_of defaults []) l) (flat_none conf_asked done step refl) ∙ h.read;
@@ -129,7 +130,7 @@ given_rule n done rule s b h =
     }
 
 -- the line of settings has the number that is next
-given_conf : (n : ℕ) (done : List (Option Step)) (text : List ℕ) (s : SetupState) (r : Result Draft SettingFault) → n < 1048576 → line_read (next_number s.settings.lines) s.settings.draft text ≡ r → IsGiven n done s → InSetup (AfterLine n done (Conf text)) (with_draft r s)
+given_conf : (n : ℕ) (done : List (Option Step)) (text : List ℕ) (s : SetupState) (r : Result Draft SettingFault) → n < 1048576 → setting_line_read (next_number s.settings.lines) s.settings.draft text ≡ r → IsGiven n done s → InSetup (AfterLine n done (Conf text)) (with_draft r s)
 given_conf n done text s (Err fault) lt is h = tt
 given_conf n done text s (Ok draft) lt is h =
     let step : Option Step = Some (Setup (Conf text)) in
@@ -142,10 +143,10 @@ given_conf n done text s (Ok draft) lt is h =
     let longer : length (asked ++ text ∷ []) ≡ length asked + 1 = length-append asked (text ∷ []) in
     let count : next_number s.settings.lines ≡ length (asked ++ text ∷ []) = omega (arith, number, longer) in
     record {
-      rules = h.rules ∙ sym (flat_none rule_asked done step refl);
+      rules = h.rules ∙ sym (flat_none setup_rule done step refl);
       few_rules = omega (arith, few_rules);
       listed = h.listed;
-      read = ap (λ (l : List (List ℕ)). lines_read setting_line 1 (draft_of defaults []) l) all ∙ settings_more 1 (draft_of defaults []) asked text s.settings.draft draft h.read (subst (λ (m : ℕ). line_read m s.settings.draft text ≡ Ok draft) number is);
+      read = ap (λ (l : List (List ℕ)). lines_read setting_line 1 (draft_of defaults []) l) all ∙ settings_more 1 (draft_of defaults []) asked text s.settings.draft draft h.read (subst (λ (m : ℕ). setting_line_read m s.settings.draft text ≡ Ok draft) number is);
       lines = count ∙ ap (λ (l : List (List ℕ)). length l) (sym all);
       few = omega (arith, few, lt);
       granted = h.granted ∙ sym (flat_none access_asked done step refl);
@@ -159,7 +160,7 @@ given_access n done line s h =
     let few_rules : length s.rules ≤ n = h.few_rules in
     let few : s.settings.lines ≤ n = h.few in
     record {
-      rules = h.rules ∙ sym (flat_none rule_asked done step refl);
+      rules = h.rules ∙ sym (flat_none setup_rule done step refl);
       few_rules = omega (arith, few_rules);
       listed = h.listed;
       read = ap (λ (l : List (List ℕ)). lines_read setting_line 1 (draft_of defaults []) l) (flat_none conf_asked done step refl) ∙ h.read;
@@ -176,7 +177,7 @@ given_seed n done seed s b h =
     let few_rules : length s.rules ≤ n = h.few_rules in
     let few : s.settings.lines ≤ n = h.few in
     record {
-      rules = h.rules ∙ sym (flat_none rule_asked done step refl);
+      rules = h.rules ∙ sym (flat_none setup_rule done step refl);
       few_rules = omega (arith, few_rules);
       listed = h.listed;
       read = ap (λ (l : List (List ℕ)). lines_read setting_line 1 (draft_of defaults []) l) (flat_none conf_asked done step refl) ∙ h.read;
@@ -193,7 +194,7 @@ given_zone n done offset s b h =
     let few_rules : length s.rules ≤ n = h.few_rules in
     let few : s.settings.lines ≤ n = h.few in
     record {
-      rules = h.rules ∙ sym (flat_none rule_asked done step refl);
+      rules = h.rules ∙ sym (flat_none setup_rule done step refl);
       few_rules = omega (arith, few_rules);
       listed = h.listed;
       read = ap (λ (l : List (List ℕ)). lines_read setting_line 1 (draft_of defaults []) l) (flat_none conf_asked done step refl) ∙ h.read;
@@ -207,7 +208,7 @@ given_zone n done offset s b h =
 -- a line of setup
 pub given_added : (n : ℕ) (done : List (Option Step)) (line : SetupLine) (s : SetupState) → n < 1048576 → IsGiven n done s → InSetup (AfterLine n done line) (one_line_more line s)
 given_added n done (Rule rule) s lt h = in_when (AfterLine n done (Rule rule)) (nat_lt (length s.rules) 65536) (Some (record s { rules = s.rules ++ rule ∷ [] })) (λ b. given_rule n done rule s b h)
-given_added n done (Conf text) s lt h = in_when (AfterLine n done (Conf text)) (is_entry text) (with_draft (line_read (next_number s.settings.lines) s.settings.draft text) s) (λ b. given_conf n done text s (line_read (next_number s.settings.lines) s.settings.draft text) lt refl h)
+given_added n done (Conf text) s lt h = in_when (AfterLine n done (Conf text)) (is_entry text) (with_draft (setting_line_read (next_number s.settings.lines) s.settings.draft text) s) (λ b. given_conf n done text s (setting_line_read (next_number s.settings.lines) s.settings.draft text) lt refl h)
 given_added n done (Access line) s lt h = given_access n done line s h
 given_added n done (Seed seed) s lt h = in_when (AfterLine n done (Seed seed)) (is_none s.seed) (Some (record s { seed = Some seed })) (λ b. given_seed n done seed s b h)
 given_added n done (Zone offset) s lt h = in_when (AfterLine n done (Zone offset)) (is_none s.zone && is_offset offset) (Some (record s { zone = Some offset })) (λ b. given_zone n done offset s (both (is_none s.zone) (is_offset offset) b) h)
@@ -241,7 +242,7 @@ permanent_length id (r ∷ rules) = omega (arith, permanent_length (id + 1) rule
 
 rules_given : (id : ℕ) (rules : List types.Rule) → as_given (permanent_entries id rules) ≡ permanent_entries id rules
 rules_given id [] = refl
-rules_given id (r ∷ rules) = ap (λ (l : List RuleEntry). new_entry id r false ∷ l) (rules_given (id + 1) rules)
+rules_given id (r ∷ rules) = ap (λ (l : List RuleEntry). new_entry id r mark.File ∷ l) (rules_given (id + 1) rules)
 
 ids_from : (id x : ℕ) (rules : List types.Rule) → Has (ids (permanent_entries id rules)) x → (id ≤ x) × (x < id + length rules)
 ids_from id x [] h = absurd h

@@ -11,12 +11,12 @@ use Rattle.ug_print.specs.RuleTexts.{rules_text_of}
 use Rattle.ug_generate.specs.Policies.{policy_rules, IsPolicy}
 use Rattle.ug_generate.proofs.Policies.{is_policy, admitted}
 use Rattle.ug_lines.specs.Lines.{lines_of, whole_lines}
-use Rattle.ug_console.specs.Statuses.{Answers}
-use Rattle.ug_console.specs.Fold.{Fault, BadLine, Outcome, Writes, Refused, Stage, Going, Halted, is_within, stage_after, plays, bad_line, fault_line, fault_of, no_memory, read_fault, whole_text}
+use Rattle.ug_command_io.specs.Statuses.{AnswersLines}
+use Rattle.ug_command_io.specs.Fold.{LineRefusal, BadLine, LineOutcome, Writes, Refused, Stage, Going, Halted, is_within, stage_after, plays, bad_line, fault_line, fault_of, no_memory, read_fault, whole_text}
 use Rattle.ug_script.specs.declared.step.Step.{Step}
 use Rattle.ug_script.specs.declared.step.Step.TheVariants.{Skip, Setup, Move, Schedule, Event, Restart}
 use Rattle.ug_script.specs.Grammar.{step_of_line}
-use Rattle.ug_script.specs.Setup.{SetupState, one_line_more, rule_asked, conf_asked, access_asked, seed_asked, zone_asked, steps_of}
+use Rattle.ug_script.specs.Setup.{SetupState, one_line_more, setup_rule, conf_asked, access_asked, seed_asked, zone_asked, steps_of}
 use Rattle.ug_script.specs.Script.{Script, fresh, takes_setup}
 use Rattle.ug_script.specs.Replay.{bad, header, line_added, quiet}
 use Rattle.ug_script.specs.Generating.{skimmed, skimmed_if, generate_step, generate_end, names_ports, move_asked, all_moved, devices_left, IsFirstPolicy, TellsFaultAlone}
@@ -34,13 +34,13 @@ record Skims (start : List Device) (n : ℕ) (done : List (Option Step)) (text :
   devices : ds ≡ all_moved (flat_map move_asked done) start
   silent : text ≡ []
 
-abbrev SkimsAfter : List Device → ℕ → List (Option Step) → List ℕ → Outcome (Option Script × World) → Type 0
+abbrev SkimsAfter : List Device → ℕ → List (Option Step) → List ℕ → LineOutcome (Option Script × World) → Type 0
 SkimsAfter start n done text (Writes more (Some s, w)) = Skims start n done (text ++ more) s.setup w.kernel.devices
 SkimsAfter start n done text (Writes more (None, w)) = ⊥
 SkimsAfter start n done text (Refused fault p) = fault ≡ BadLine
 
 -- a step that neither sets up nor moves
-skims_still : (start : List Device) (n : ℕ) (done : List (Option Step)) (text : List ℕ) (step : Option Step) (setup : SetupState) (ds : List Device) → rule_asked step ≡ [] → conf_asked step ≡ [] → access_asked step ≡ [] → seed_asked step ≡ [] → zone_asked step ≡ [] → move_asked step ≡ []
+skims_still : (start : List Device) (n : ℕ) (done : List (Option Step)) (text : List ℕ) (step : Option Step) (setup : SetupState) (ds : List Device) → setup_rule step ≡ [] → conf_asked step ≡ [] → access_asked step ≡ [] → seed_asked step ≡ [] → zone_asked step ≡ [] → move_asked step ≡ []
     → Skims start n done text setup ds → Skims start (n + 1) (done ++ step ∷ []) (text ++ []) setup ds
 skims_still start n done text step setup ds rule conf access seed zone move h = record {
   given = given_still n done step setup rule conf access seed zone h.given;
@@ -64,7 +64,7 @@ skims_added start n done text step (Some setup) s w move h given = record {
   silent = append-nil text ∙ h.silent;
 }
 
-skims_when : (start : List Device) (n : ℕ) (done : List (Option Step)) (text : List ℕ) (opened : Bool) (o : Outcome (Option Script × World)) (s : Script) (w : World) → SkimsAfter start n done text o → SkimsAfter start n done text (cond opened o (bad s w))
+skims_when : (start : List Device) (n : ℕ) (done : List (Option Step)) (text : List ℕ) (opened : Bool) (o : LineOutcome (Option Script × World)) (s : Script) (w : World) → SkimsAfter start n done text o → SkimsAfter start n done text (cond opened o (bad s w))
 skims_when start n done text true o s w h = h
 skims_when start n done text false o s w h = refl
 
@@ -86,7 +86,7 @@ skims_line start n done text (Some step) s w lt h = skims_step start n done text
 
 -- ---- lines one after another
 
-halted : (fault : Fault) (n : ℕ) (text : List ℕ) (p : Option Script × World) (lines : List (List ℕ)) → plays generate_step (Halted fault n text p) lines ≡ Halted fault n text p
+halted : (fault : LineRefusal) (n : ℕ) (text : List ℕ) (p : Option Script × World) (lines : List (List ℕ)) → plays generate_step (Halted fault n text p) lines ≡ Halted fault n text p
 halted fault n text p [] = refl
 halted fault n text p (line ∷ lines) = halted fault n text p lines
 
@@ -96,7 +96,7 @@ SkimsAt start done (Going n text (Some s, w)) = Skims start n done text s.setup 
 SkimsAt start done (Going n text (None, w)) = ⊥
 SkimsAt start done (Halted fault n text p) = (fault ≡ BadLine) × (text ≡ [])
 
-still_halted : (start : List Device) (done : List (Option Step)) (fault : Fault) (n : ℕ) (text : List ℕ) (p : Option Script × World) (lines : List (List ℕ)) → fault ≡ BadLine → text ≡ [] → SkimsAt start done (plays generate_step (Halted fault n text p) lines)
+still_halted : (start : List Device) (done : List (Option Step)) (fault : LineRefusal) (n : ℕ) (text : List ℕ) (p : Option Script × World) (lines : List (List ℕ)) → fault ≡ BadLine → text ≡ [] → SkimsAt start done (plays generate_step (Halted fault n text p) lines)
 still_halted start done fault n text p lines bad silent = subst (SkimsAt start done) (sym (halted fault n text p lines)) (bad, silent)
 
 both : (a b : Bool) → (a && b) ≡ true → a ≡ true
@@ -108,7 +108,7 @@ within n line e = let t : nat_lt n 1048576 ≡ true = both (nat_lt n 1048576) (n
 
 skims_rest : (start : List Device) (done : List (Option Step)) (n : ℕ) (text : List ℕ) (p : Option Script × World) (step : Option Step) (lines : List (List ℕ)) → text ≡ []
     → ((more : List ℕ) (s : Script) (w : World) → Skims start (n + 1) (done ++ step ∷ []) more s.setup w.kernel.devices → SkimsAt start ((done ++ step ∷ []) ++ map step_of_line lines) (plays generate_step (Going (n + 1) more (Some s, w)) lines))
-    → (b : Bool) (o : Outcome (Option Script × World)) → (b ≡ true → SkimsAfter start (n + 1) (done ++ step ∷ []) text o) → SkimsAt start (done ++ (step ∷ map step_of_line lines)) (plays generate_step (cond b (stage_after n text o) (Halted BadLine n text p)) lines)
+    → (b : Bool) (o : LineOutcome (Option Script × World)) → (b ≡ true → SkimsAfter start (n + 1) (done ++ step ∷ []) text o) → SkimsAt start (done ++ (step ∷ map step_of_line lines)) (plays generate_step (cond b (stage_after n text o) (Halted BadLine n text p)) lines)
 skims_rest start done n text p step lines silent again true (Writes more (Some s, w)) k =
     subst (λ (steps : List (Option Step)). SkimsAt start steps (plays generate_step (Going (n + 1) (text ++ more) (Some s, w)) lines)) (append_assoc done (step ∷ []) (map step_of_line lines)) (again (text ++ more) s w (k refl))
 skims_rest start done n text p step lines silent again true (Writes more (None, w)) k = absurd (k refl)
@@ -173,12 +173,12 @@ all_silent first (line ∷ lines) =
 silent_text : (first : World) (lines : List (List ℕ)) (n : ℕ) (text : List ℕ) (p : Option Script × World) → plays generate_step (Going 0 [] (None, first)) lines ≡ Going n text p → text ≡ []
 silent_text first lines n text p e = subst IsSilent e (all_silent first lines)
 
-bad_at : (stage : Stage (Option Script × World)) (fault : Fault) → IsSilent stage → fault_of generate_end stage ≡ Some fault → (n : ℕ) × (whole_text generate_end stage ≡ bad_line n)
+bad_at : (stage : Stage (Option Script × World)) (fault : LineRefusal) → IsSilent stage → fault_of generate_end stage ≡ Some fault → (n : ℕ) × (whole_text generate_end stage ≡ bad_line n)
 bad_at (Going n text (Some s, w)) fault h e = let none : ⊥ = cc in absurd none
 bad_at (Going n text (None, w)) fault h e = (n + 1, ap (λ (bytes : List ℕ). bytes ++ bad_line (n + 1)) h)
-bad_at (Halted fault n text p) wanted h e = (n + 1, ap (λ (bytes : List ℕ). bytes ++ fault_line fault n) h.1 ∙ ap (λ (f : Fault). fault_line f n) h.0)
+bad_at (Halted fault n text p) wanted h e = (n + 1, ap (λ (bytes : List ℕ). bytes ++ fault_line fault n) h.1 ∙ ap (λ (f : LineRefusal). fault_line f n) h.0)
 
-pub faults_alone : (first : World) (all base : List ℕ) (left held : Option (List ℕ)) (p : Option Script × World) (status : ℕ) → Answers generate_step generate_end (None, first) all base left held p status → TellsFaultAlone base held status
+pub faults_alone : (first : World) (all base : List ℕ) (left held : Option (List ℕ)) (p : Option Script × World) (status : ℕ) → AnswersLines generate_step generate_end (None, first) all base left held p status → TellsFaultAlone base held status
 faults_alone first all base left held p status a = record {
   bad = λ e.
       let k = a.bad e in

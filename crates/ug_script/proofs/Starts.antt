@@ -2,7 +2,7 @@
 use Rattle.std.proofs.Common.{◌≡◌, ℕ, ◌<◌, ◌≤◌, Bool, true, false, ◌&&◌, if◌then◌else◌, nat_le, List, [], ◌∷◌, length, Option, None, Result, Ok, Err, inl, inr, refl, sym, ◌∙◌, ap, subst}
 use Rattle.std.proofs.lemmas.Bool.{leb-false, leb-true, le-leb, lt-leb}
 use Rattle.rand_core.specs.Stream.{Stream}
-use Rattle.ug_types.specs.declared.control.Write.{Write}
+use Rattle.ug_kernel.specs.declared.control.Write.{Write}
 use Rattle.ug_types.specs.declared.rule.Rule.{Rule}
 use Rattle.ug_types.specs.declared.text_fault.TextFault.{TextFault}
 use Rattle.ug_acl.specs.Acls.{Addition}
@@ -11,7 +11,7 @@ use Rattle.ug_table.specs.declared.standing.Standing.{Standing}
 use Rattle.ug_policy.specs.Rules.{Rules}
 use Rattle.ug_policy.specs.declared.entry.RuleEntry.{RuleEntry}
 use Rattle.ug_proto.specs.declared.reply.Reply.{Reply}
-use Rattle.ug_console.specs.Fold.{Fault, BadLine, InputTooLong}
+use Rattle.ug_command_io.specs.Fold.{LineRefusal, BadLine, InputTooLong}
 use Rattle.ug_rule.specs.Files.{file_read}
 use Rattle.ug_print.specs.RuleTexts.{rules_limit, rules_text_of}
 use Rattle.ug_store.specs.DiskCalls.{Load, DiskTold, file_limit}
@@ -29,7 +29,7 @@ use Rattle.ug_core.specs.declared.start_fault.StartFault.{StartFault}
 use Rattle.ug_core.specs.declared.start_fault.StartFault.TheVariants as fault
 use Rattle.ug_script.specs.declared.start.NoStart.{NoStart}
 use Rattle.ug_script.specs.declared.start.NoStart.TheVariants as no_start
-use Rattle.ug_script.specs.Setup.{Beside, SetupState, StartsOn, access_of, beside_of, after_reading, policy_of, rules_from, rules_if_read, rules_taken, started, started_at, with_rules}
+use Rattle.ug_script.specs.Setup.{Beside, SetupState, StartsOn, access_of, beside_of, after_reading, policy_of, rules_from, rules_if_read, rules_taken, first_started, started_at, with_rules}
 use Rattle.ug_script.specs.Script.{fits_file, no_start_of}
 
 abbrev made : List Standing → ℕ → Bool → Judging → Option Write → List Entry → List Addition → Bool → ℕ → Option Reply → Bool → DaemonState
@@ -51,10 +51,10 @@ started_is p beside number d h given =
 
 -- ---- the rules of a text
 
-abbrev taken_if : List Rule → Bool → Bool → Result (List Rule) Fault
+abbrev taken_if : List Rule → Bool → Bool → Result (List Rule) LineRefusal
 taken_if rules few fits = if few && fits then Ok rules else Err InputTooLong
 
-abbrev from_if : Bool → Result (List Rule) TextFault → Result (List Rule) Fault
+abbrev from_if : Bool → Result (List Rule) TextFault → Result (List Rule) LineRefusal
 from_if fits read = if fits then rules_if_read read else Err InputTooLong
 
 -- a text for which a file has room gives what its rules give
@@ -215,7 +215,7 @@ start_refused outset faults o e t h = refused_loading outset faults o h.loaded e
 
 -- ---- the first daemon
 
-same_rules : (rules others : List Rule) (read : Result (List Rule) Fault) → read ≡ Ok rules → read ≡ Ok others → others ≡ rules
+same_rules : (rules others : List Rule) (read : Result (List Rule) LineRefusal) → read ≡ Ok rules → read ≡ Ok others → others ≡ rules
 same_rules rules others read h g =
     let e : Ok rules ≡ Ok others = sym h ∙ g in
     cc
@@ -226,5 +226,5 @@ first_rules setup o is reads fits few =
     let room : length (rules_text_of setup.rules) ≤ rules_limit = leb-true (length (rules_text_of setup.rules)) rules_limit fits in
     ap (λ (x : DiskWorld). rules_from x.disk.text) is ∙ from_text (rules_text_of setup.rules) (Ok setup.rules) room reads ∙ are_taken setup.rules few room
 
-pub first_daemon : (setup : SetupState) (o : DiskWorld) (d : DaemonState) → rules_from o.disk.text ≡ Ok setup.rules → StartsOn setup 1 o d → d ≡ started setup
+pub first_daemon : (setup : SetupState) (o : DiskWorld) (d : DaemonState) → rules_from o.disk.text ≡ Ok setup.rules → StartsOn setup 1 o d → d ≡ first_started setup
 first_daemon setup o d has h = h.is ∙ ap (λ (rs : List Rule). started_at 1 (beside_of setup) (with_rules rs (policy_of setup))) (same_rules setup.rules h.rules (rules_from o.disk.text) has h.loaded)

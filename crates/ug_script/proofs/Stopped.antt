@@ -4,12 +4,12 @@ use Rattle.std.proofs.lemmas.Bool.{both_ways, cond_both}
 use Rattle.ug_kernel.specs.Calls.{Call, Names, Open, Read, Ask_alive, Put, Close}
 use Rattle.ug_kernel.specs.Kernel.{Kernel}
 use Rattle.ug_kernel.specs.Tree.{Prog, Return, Ask, Room}
-use Rattle.ug_sysfs.specs.World.{World, answer_from, answer_of, begun, effect, entered, fate, halting, refusing}
-use Rattle.ug_play.specs.Play.{play}
+use Rattle.ug_sysfs.specs.World.{World, answer_from, scripted_answer, event_begun, effect, entered, fate, halting, refusing_memory}
+use Rattle.ug_simulation.specs.Play.{play}
 use Rattle.ug_print.specs.RuleTexts.{rules_limit}
 use Rattle.ug_types.specs.declared.saved.Saved.{Saved}
 use Rattle.ug_types.specs.declared.saved.Saved.TheVariants as saved
-use Rattle.ug_rules.specs.RuleFile.{permanent_text}
+use Rattle.ug_ruleset.specs.RuleFile.{permanent_text}
 use Rattle.ug_store.specs.DiskCalls.{DiskTold, Write_new, Sync_new, Swap}
 use Rattle.ug_store.specs.PlayDisk.{play_disk}
 use Rattle.ug_store.specs.Scripted.{DiskWorld, answer_of_fate, disk_answer, fate_by, plan_at, stops_by, with_number}
@@ -30,7 +30,7 @@ use Rattle.ug_core.specs.declared.daemon.Event.TheVariants.{Sweep, Order}
 use Rattle.ug_core.specs.declared.storing.Stored.{Stored}
 use Rattle.ug_core.specs.declared.storing.Stored.TheVariants as stored
 use Rattle.ug_script.specs.Laws.{IsLawfulEvent}
-use Rattle.ug_script.specs.Replay.{answered_by, answered_from, disk_of, event_from, halted, tried_by}
+use Rattle.ug_script.specs.Replay.{order_played_by, answered_from, disk_of, event_from, halted, tried_by}
 use Rattle.ug_script.specs.Script.{Script, daemon_in, disk_in}
 use Rattle.ug_script.proofs.FirstStop.{event_runs_on, event_stops}
 use Rattle.ug_script.proofs.Halts.{halted_kernel}
@@ -49,11 +49,11 @@ call_fails w call h =
     let u : World = entered w in
     record { halted = h; log = ap (λ (f : Option Bool). (effect f call u.kernel).1.log) (ap (λ (b : Bool). cond b (Some false) (fate u.calls None u.fails)) h) }
 
-by_out : (w : World) (call : Call) → w.halted ≡ true → (out : Bool) → Unwritten w (cond out (refusing w call) (answer_from (entered w) call)).1
+by_out : (w : World) (call : Call) → w.halted ≡ true → (out : Bool) → Unwritten w (cond out (refusing_memory w call) (answer_from (entered w) call)).1
 by_out w call h true = record { halted = h; log = refl }
 by_out w call h false = call_fails w call h
 
-call_unwritten : (w : World) (call : Call) → w.halted ≡ true → Unwritten w (answer_of w call).1
+call_unwritten : (w : World) (call : Call) → w.halted ≡ true → Unwritten w (scripted_answer w call).1
 call_unwritten w Names h = by_out w Names h w.ran_out
 call_unwritten w (Open name control) h = by_out w (Open name control) h w.ran_out
 call_unwritten w (Read name attr) h = by_out w (Read name attr) h w.ran_out
@@ -65,11 +65,11 @@ play_unwritten : {R : Type 0} (p : Prog R) (w : World) → w.halted ≡ true →
 play_unwritten (Return value) w h = record { halted = h; log = refl }
 play_unwritten (Ask call next) w h =
     let one = call_unwritten w call h in
-    let rest = play_unwritten (next (answer_of w call).0) (answer_of w call).1 one.halted in
+    let rest = play_unwritten (next (scripted_answer w call).0) (scripted_answer w call).1 one.halted in
     record { halted = rest.halted; log = rest.log ∙ one.log }
 play_unwritten (Room next) w h = play_unwritten (next true) w h
 
-order_unwritten : (event : Event) (d : DaemonState) (w : World) (o : DiskWorld) → w.halted ≡ true → Unwritten w (answered_by event d w o).world
+order_unwritten : (event : Event) (d : DaemonState) (w : World) (o : DiskWorld) → w.halted ≡ true → Unwritten w (order_played_by event d w o).world
 order_unwritten (Sweep moment) d w o h = record { halted = h; log = refl }
 order_unwritten (Order moment who line) d w o h =
     let c = play (asking d who line) w in
@@ -169,7 +169,7 @@ refused_log (Order moment who line) k d became l e count is (inl h) = h.quiet.lo
 refused_log (Order moment who line) k d became l e count is (inr (inl h)) = absurd (failed_unforced d.sweep.judge h.1.outcome.change became count is h.1.in_force)
 refused_log (Order moment who line) k d became l e count is (inr (inr h)) = absurd (failed_unforced d.sweep.judge h.change became count is h.in_force)
 
-stored_fails : (event : Event) (d : DaemonState) (w : World) (o : DiskWorld) → o.stopped ≡ false → (answered_by event d w o).disk.stopped ≡ true → (count : ℕ) × ((answered_by event d w o).became ≡ stored.Failed count)
+stored_fails : (event : Event) (d : DaemonState) (w : World) (o : DiskWorld) → o.stopped ≡ false → (order_played_by event d w o).disk.stopped ≡ true → (count : ℕ) × ((order_played_by event d w o).became ≡ stored.Failed count)
 stored_fails (Sweep moment) d w o e f = unstopped o e f
 stored_fails (Order moment who line) d w o e f = store_fails d (play (asking d who line) w).0.change o e f
 
@@ -180,7 +180,7 @@ halts o w e = ap (λ (b : Bool). (cond b (halting w) w).halted) e
 answered_log : (event : Event) (d : DaemonState) (w : World) (o : DiskWorld) → HoldsOf d w → (answered_from event d w o).disk.stopped ≡ true → (stopped : Bool) → (tried_by d o).1.stopped ≡ stopped → (answered_from event d w o).world.kernel.log ≡ w.kernel.log
 answered_log event d w o h e true is =
     let q : DiskWorld = (tried_by d o).1 in
-    (order_unwritten event (ready event (tried_by d o).0 d) (start_of d w o) q (halts q (begun w) is)).log ∙ ap (λ (k : Kernel). k.log) (halted_kernel q (begun w))
+    (order_unwritten event (ready event (tried_by d o).0 d) (start_of d w o) q (halts q (event_begun w) is)).log ∙ ap (λ (k : Kernel). k.log) (halted_kernel q (event_begun w))
 answered_log event d w o h e false is =
     let a = answered_from event d w o in
     let r : DaemonState = ready event (tried_by d o).0 d in

@@ -3,8 +3,8 @@ use Rattle.std.proofs.Common.{◌≡◌, ℕ, ◌+◌, Bool, true, false, if◌t
 use Rattle.ug_lines.specs.Lines.{lines_of, whole_lines}
 use Rattle.ug_lines.proofs.FirstLine.{nothing}
 use Rattle.ug_sysfs.specs.World.{World}
-use Rattle.ug_console.specs.Fold.{BadLine, Fault, Outcome, Writes, Refused, Stage, Going, Halted, advance, fault_line, fault_of, is_within, no_memory, plays, read_fault, stage_after, whole_text}
-use Rattle.ug_console.specs.Statuses.{Answers}
+use Rattle.ug_command_io.specs.Fold.{BadLine, LineRefusal, LineOutcome, Writes, Refused, Stage, Going, Halted, advance, fault_line, fault_of, is_within, no_memory, plays, read_fault, stage_after, whole_text}
+use Rattle.ug_command_io.specs.Statuses.{AnswersLines}
 use Rattle.ug_script.specs.Script.{Script}
 use Rattle.ug_script.specs.Replay.{script_step}
 use Rattle.ug_script.specs.declared.totals.Totals.{Totals}
@@ -26,7 +26,7 @@ abbrev AtWhole : {M : Type 0} → Stage M → Type 0
 AtWhole (Going n text p) = IsWhole text
 AtWhole (Halted fault n text p) = IsWhole text
 
-after_sums : (n : ℕ) (text : List ℕ) (outcome : Outcome (Option Script × World)) → IsWhole text → WritesWhole outcome
+after_sums : (n : ℕ) (text : List ℕ) (outcome : LineOutcome (Option Script × World)) → IsWhole text → WritesWhole outcome
     → (stage_after n [] (counted (totals_of text) outcome) ≡ summed (stage_after n text outcome)) × AtWhole (stage_after n text outcome)
 after_sums n text (Writes more p) whole w = (ap (λ (t : Totals). Going (n + 1) [] ((p.0, t), p.1)) (totals_behind text more whole), both_whole text more whole w)
 after_sums n text (Refused fault p) whole w = (refl, whole)
@@ -77,13 +77,13 @@ done_at (Going n journal (Some s, w)) good = (n, journal, s, w, refl, refl)
 done_at (Going n journal (None, w)) good = let none : ⊥ = cc in absurd none
 done_at (Halted fault n journal p) good = let none : ⊥ = cc in absurd none
 
-bad_at : (stage : Stage (Option Script × World)) (fault : Fault) → fault_of summary_end (summed stage) ≡ Some fault → (why : Fault) × (n : ℕ) × (whole_text summary_end (summed stage) ≡ fault_line why n)
+bad_at : (stage : Stage (Option Script × World)) (fault : LineRefusal) → fault_of summary_end (summed stage) ≡ Some fault → (why : LineRefusal) × (n : ℕ) × (whole_text summary_end (summed stage) ≡ fault_line why n)
 bad_at (Going n journal (Some s, w)) fault e = let none : ⊥ = cc in absurd none
 bad_at (Going n journal (None, w)) fault e = (BadLine, n, refl)
 bad_at (Halted why n journal p) fault e = (why, n, refl)
 
 pub summary_told : (first : World) (all base : List ℕ) (left held : Option (List ℕ)) (p : Summary × World) (status : ℕ)
-    → Answers summary_step summary_end ((None, no_totals), first) all base left held p status → TellsSummary first all base held status
+    → AnswersLines summary_step summary_end ((None, no_totals), first) all base left held p status → TellsSummary first all base held status
 summary_told first all base left held p status a =
     let sums = sums_up first (lines_of all) in
     let stage : Stage (Option Script × World) = plays script_step (Going 0 [] (None, first)) (lines_of all) in

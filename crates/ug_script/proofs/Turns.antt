@@ -6,7 +6,7 @@ use Rattle.std.proofs.lemmas.List.{take-append-drop, take_all}
 use Rattle.std.proofs.lemmas.List.Elements.{filter-append}
 use Rattle.std.proofs.Math.Seq.{drop-length, take-length}
 use Rattle.ug_sysfs.specs.declared.script.Scheduled.{Scheduled}
-use Rattle.ug_sysfs.specs.Queue.{comes_later, goes_last, isnt_later, or_end, place_for, with_move}
+use Rattle.ug_sysfs.specs.Queue.{comes_later, goes_last, isnt_later, or_end, queue_place, with_move}
 use Rattle.ug_script.specs.Schedules.{AreInTurn, IsSchedule, of_turn, turn_of}
 
 abbrev AreLow : Scheduled → List Scheduled → Type 0
@@ -71,7 +71,7 @@ last_low m (x ∷ y ∷ ms) h last =
 cut_at_end : (m : Scheduled) (ms : List Scheduled) → AreLow m ms → IsCutFor m ms (length ms)
 cut_at_end m ms low = (subst (AreLow m) (sym (take-length ms)) low, subst (AreHigh m) (sym (drop-length ms)) tt)
 
-place_cut : (m : Scheduled) (ms : List Scheduled) → AreInTurn ms → IsCutFor m ms (place_for m ms)
+place_cut : (m : Scheduled) (ms : List Scheduled) → AreInTurn ms → IsCutFor m ms (queue_place m ms)
 place_cut m ms h = by (position_or_len (λ x. comes_later x m) ms) (goes_last m ms) (nat_lt (position_or_len (λ x. comes_later x m) ms) (length ms)) (first_cut m ms h) refl refl
   where
     by : (first : ℕ) (u v : Bool) → IsCutFor m ms first → goes_last m ms ≡ u → nat_lt first (length ms) ≡ v → IsCutFor m ms (cond u (length ms) (or_end (cond v (Some first) None) ms))
@@ -123,6 +123,6 @@ put written xs ys m h low high = record {
 
 pub one_more_move : (written ms : List Scheduled) (m : Scheduled) → IsSchedule written ms → IsSchedule (written ++ m ∷ []) (with_move m ms)
 one_more_move written ms m h =
-    let place : ℕ = place_for m ms in
+    let place : ℕ = queue_place m ms in
     let c = place_cut m ms h.in_turn in
     put written (take place ms) (drop place ms) m (subst (IsSchedule written) (sym (take-append-drop place ms)) h) c.0 c.1

@@ -10,7 +10,7 @@ use Rattle.ug_lines.proofs.Lines.{rest_from-append, rest_from-end, rest_from-nil
 use Rattle.ug_proto.specs.declared.reply.Reply.{Reply}
 use Rattle.ug_proto.specs.Replies.{reply_text}
 use Rattle.ug_sysfs.specs.World.{World}
-use Rattle.ug_console.specs.Fold.{Fault, Outcome, Writes, Refused, BadLine, InputTooLong}
+use Rattle.ug_command_io.specs.Fold.{LineRefusal, LineOutcome, Writes, Refused, BadLine, InputTooLong}
 use Rattle.ug_core.specs.Event.{has_numbers}
 use Rattle.ug_script.specs.declared.step.Step.{Step}
 use Rattle.ug_script.specs.declared.step.Step.TheVariants as step
@@ -43,11 +43,11 @@ reply_whole (Some reply) = each_whole quoted (λ line. line_whole (62 ∷ 32 ∷
 outcome_whole : (outcome : EventOutcome) → IsWhole (outcome_text outcome)
 outcome_whole outcome = both_whole (lines_text outcome.entries) (reply_lines outcome.reply) (each_whole terminated (λ entry. line_whole (entry_line entry)) outcome.entries) (reply_whole outcome.reply)
 
-abbrev pub WritesWhole : {M : Type 0} → Outcome M → Type 0
+abbrev pub WritesWhole : {M : Type 0} → LineOutcome M → Type 0
 WritesWhole (Writes text p) = IsWhole text
 WritesWhole (Refused fault p) = Unit {0}
 
-either : {M : Type 0} (b : Bool) (x y : Outcome M) → WritesWhole x → WritesWhole y → WritesWhole (cond b x y)
+either : {M : Type 0} (b : Bool) (x y : LineOutcome M) → WritesWhole x → WritesWhole y → WritesWhole (cond b x y)
 either true x y p q = p
 either false x y p q = q
 
@@ -59,14 +59,14 @@ call_whole : (call : ℕ) → IsWhole (stopped_line call)
 unfolding stopped_line
 call_whole call = subst (λ (text : List ℕ). IsWhole text) (append_assoc (codes "stopped ") (decimal call) (10 ∷ [])) (line_whole (codes "stopped " ++ decimal call))
 
-stopped_whole : (setup : SetupState) (call : ℕ) (p : Played) (rules : Result (List types.Rule) Fault) → WritesWhole (stopped_of setup call p rules)
+stopped_whole : (setup : SetupState) (call : ℕ) (p : Played) (rules : Result (List types.Rule) LineRefusal) → WritesWhole (stopped_of setup call p rules)
 stopped_whole setup call p (Ok rules) = both_whole (first_line p.daemon.sweep.entries) (stopped_line call) (first_whole p.daemon.sweep.entries) (call_whole call)
 stopped_whole setup call p (Err fault) = tt
 
 came_whole : (setup : SetupState) (plan : List Planned) (p : Played) → WritesWhole (came_of setup plan p)
 came_whole setup plan p = either p.disk.stopped (stopped_of setup (stop_in plan p) p (rules_from p.disk.disk.text)) (finished p) (stopped_whole setup (stop_in plan p) p (rules_from p.disk.disk.text)) (outcome_whole (outcome_of p.daemon))
 
-script_whole : (s : Script) (o : Outcome Played) → WritesWhole o → WritesWhole (in_script s o)
+script_whole : (s : Script) (o : LineOutcome Played) → WritesWhole o → WritesWhole (in_script s o)
 script_whole s (Writes text p) w = w
 script_whole s (Refused fault p) w = tt
 
@@ -74,7 +74,7 @@ added_whole : (setup : Option SetupState) (s : Script) (w : World) → WritesWho
 added_whole None s w = tt
 added_whole (Some setup) s w = none_whole
 
-restarted_whole : (rules : Result (List types.Rule) Fault) (s : Script) (w : World) → WritesWhole (restarted rules s w)
+restarted_whole : (rules : Result (List types.Rule) LineRefusal) (s : Script) (w : World) → WritesWhole (restarted rules s w)
 restarted_whole (Ok rules) s w = none_whole
 restarted_whole (Err fault) s w = tt
 

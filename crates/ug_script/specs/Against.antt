@@ -1,8 +1,8 @@
 -- Why a line of a script is refused.
 use Rattle.std.specs.Prelude.{◌≡◌, ℕ, Bool, true, false, List, [], Option, Some, None}
 use Rattle.ug_sysfs.specs.World.{World}
-use Rattle.ug_console.specs.Fold.{Fault, BadLine, InputTooLong, Going, Refused, of_first}
-use Rattle.ug_console.specs.Refusals.{RefusesLines}
+use Rattle.ug_command_io.specs.Fold.{LineRefusal, BadLine, InputTooLong, Going, Refused, of_first}
+use Rattle.ug_command_io.specs.Refusals.{RefusesLines}
 use Rattle.ug_core.specs.Event.{has_numbers}
 use Rattle.ug_core.specs.declared.daemon.Event.{Event}
 use Rattle.ug_script.specs.declared.step.SetupLine.{SetupLine}
@@ -24,7 +24,7 @@ starts_daemon step.Restart = true
 
 -- What speaks against a line where it stands. It is the line itself or its place, or the rules of
 -- the `rule` lines: never what the daemon has written to its rule file.
-pub data SpeaksAgainst : Option Script × World → List ℕ → Fault → Type 0 where
+pub data SpeaksAgainst : Option Script × World → List ℕ → LineRefusal → Type 0 where
   -- it stands first, and isn't the header
   NoHeader : (w : World) (line : List ℕ) → (line ≡ header → ⊥)
       → SpeaksAgainst (None, w) line BadLine
@@ -57,11 +57,11 @@ LacksNumbers (Some s, w) line =
 -- or it is past a limit; or there is none.
 abbrev pub RefusesScript : World → List (List ℕ) → Type 0
 RefusesScript first lines =
-    (fault : Fault) × RefusesLines script_step (of_first script_end) SpeaksAgainst
+    (fault : LineRefusal) × RefusesLines script_step (of_first script_end) SpeaksAgainst
     (Going 0 [] (None, first)) lines fault
 
 -- a line against which something speaks is refused, and for that fault
 abbrev pub AreRefused : Type 0
 AreRefused =
-    (p : Option Script × World) (line : List ℕ) (fault : Fault) → SpeaksAgainst p line fault
+    (p : Option Script × World) (line : List ℕ) (fault : LineRefusal) → SpeaksAgainst p line fault
     → (next : Option Script × World) × (script_step p line ≡ Refused fault next)

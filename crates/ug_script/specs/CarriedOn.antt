@@ -2,14 +2,14 @@
 use Rattle.std.specs.Prelude.{◌≡◌, ℕ, List, [], ◌∷◌, flat_map, Some, None}
 use Rattle.ug_sysfs.specs.World.{World}
 use Rattle.ug_core.specs.Policy.{Judging}
-use Rattle.ug_console.specs.Fold.{Going, plays}
-use Rattle.ug_console.specs.Refusals.{HoldsOfEach}
+use Rattle.ug_command_io.specs.Fold.{Going, plays}
+use Rattle.ug_command_io.specs.Refusals.{HoldsOfEach}
 use Rattle.ug_script.specs.Journal.{AreSuccessive, CarriesOn, first_start, runs_in}
 use Rattle.ug_script.specs.Journal.{Recorded, RunEnd, RunStart}
 use Rattle.ug_script.specs.LinesRead.{LineReads}
 use Rattle.ug_script.specs.Replay.{script_step}
 use Rattle.ug_script.specs.Script.{Script}
-use Rattle.ug_script.specs.Setup.{Beside, rule_asked, steps_of}
+use Rattle.ug_script.specs.Setup.{Beside, setup_rule, steps_of}
 
 -- behind each of these runs the next one begins with rules that carry it on
 abbrev pub EachCarriesOn : (beside : Beside) (policy : Judging) (b : RunStart) (runs : List RunEnd)
@@ -27,7 +27,7 @@ abbrev pub CarriesThrough : World → List (List ℕ) → Type 0
 CarriesThrough first lines =
     (text : List ℕ) (s : Script) (w : World) (r : Recorded first lines text s w)
     → EachCarriesOn r.beside r.policy
-    (first_start (flat_map rule_asked (steps_of lines)) first.kernel)
+    (first_start (flat_map setup_rule (steps_of lines)) first.kernel)
     (runs_in first lines).ended r.runs.start r.runs.ended
 
 -- where the rules can be read again from their texts, at each line

@@ -13,7 +13,7 @@ use Rattle.ug_sysfs.specs.Devices.{plugged}
 use Rattle.ug_sysfs.specs.World.{World, over}
 use Rattle.ug_core.specs.declared.daemon.Event.TheVariants.{Sweep}
 use Rattle.ug_script.specs.Replay.{Played, event_from, with_devices}
-use Rattle.ug_script.specs.Setup.{SetupState, no_setup, rules_disk, started}
+use Rattle.ug_script.specs.Setup.{SetupState, no_setup, rules_disk, first_started}
 
 -- a device with nothing but its descriptors
 abbrev pub device_of : List ℕ → List ℕ → NewDevice
@@ -89,7 +89,7 @@ ruled = record no_setup { rules = key_rule ∷ [] }
 
 -- a daemon with it, over the root hub
 abbrev pub first_played : Played
-first_played = record { daemon = started ruled; world = hub_world; disk = rules_disk ruled }
+first_played = record { daemon = first_started ruled; world = hub_world; disk = rules_disk ruled }
 
 -- an event at that moment
 abbrev pub event_at : ℕ → Played → Played
@@ -130,7 +130,7 @@ with_none =
 -- a daemon with that, over the root hub
 abbrev pub first_with_none : Played
 first_with_none =
-    record { daemon = started with_none; world = hub_world; disk = rules_disk with_none }
+    record { daemon = first_started with_none; world = hub_world; disk = rules_disk with_none }
 
 -- a device is plugged in that would start authorised
 abbrev pub born_later : Played → Played

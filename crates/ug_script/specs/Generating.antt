@@ -14,7 +14,7 @@ use Rattle.ug_conf.specs.Texts.{setting_line}
 use Rattle.ug_lines.specs.LineReading.{lines_read}
 use Rattle.ug_print.specs.RuleTexts.{rules_text_of}
 use Rattle.ug_generate.specs.Policies.{judged_in, policy_rules, Admits, IsPolicy}
-use Rattle.ug_console.specs.Fold.{Outcome, bad_line, no_memory, read_fault}
+use Rattle.ug_command_io.specs.Fold.{LineOutcome, bad_line, no_memory, read_fault}
 use Rattle.ug_script.specs.declared.generator.Generator.{Generator}
 use Rattle.ug_script.specs.declared.step.Step.{Step}
 use Rattle.ug_script.specs.declared.step.Step.TheVariants as step
@@ -31,7 +31,7 @@ generator_state generator = interpreter_state generator.script
 -- Setup lines and moves are carried out as in a replay. Other lines are read alone: nothing is
 -- scheduled, no event is run, and no daemon is started. Lines of setup may stand where they may in
 -- a replay.
-abbrev pub skimmed : Step → Script → World → Outcome (Option Script × World)
+abbrev pub skimmed : Step → Script → World → LineOutcome (Option Script × World)
 skimmed step.Skip s w = quiet s w
 skimmed (step.Setup line) s w = line_taken line s w
 skimmed (step.Move action) s w =
@@ -40,11 +40,11 @@ skimmed (step.Schedule plan) s w = quiet (with_setup_closed s) w
 skimmed (step.Event event) s w = quiet (with_setup_closed s) w
 skimmed step.Restart s w = quiet (with_setup_closed s) w
 
-abbrev pub skimmed_if : Option Step → Script → World → Outcome (Option Script × World)
+abbrev pub skimmed_if : Option Step → Script → World → LineOutcome (Option Script × World)
 skimmed_if None s w = bad s w
 skimmed_if (Some step) s w = skimmed step s w
 
-abbrev pub generate_step : Option Script × World → List ℕ → Outcome (Option Script × World)
+abbrev pub generate_step : Option Script × World → List ℕ → LineOutcome (Option Script × World)
 generate_step (None, w) line = first_step line w
 generate_step (Some s, w) line = skimmed_if (step_of_line line) s w
 

@@ -34,7 +34,7 @@ use Rattle.ug_script.specs.declared.step.Step.{Step}
 use Rattle.ug_script.specs.declared.step.Step.TheVariants as step
 use Rattle.ug_script.specs.LineWords.{line_word_of}
 use Rattle.ug_script.specs.Plugs.{device_of}
-use Rattle.ug_script.specs.Words.{name_of, moment_of, call_of, cut_by_space, seed_of, offset_of, is_entry, is_one_line}
+use Rattle.ug_script.specs.Words.{name_of, moment_word, call_of, cut_by_space, seed_of, offset_of, is_entry, is_one_line}
 
 -- ---- lines that stand before all others
 
@@ -153,7 +153,7 @@ order_at moment text =
 -- `MOMENT PRINCIPAL REQUEST`
 abbrev pub order_of : List ℕ → Option Event
 order_of text =
-    cut_by_space (λ moment rest. option_and_then (λ n. order_at n rest) (moment_of moment)) None
+    cut_by_space (λ moment rest. option_and_then (λ n. order_at n rest) (moment_word moment)) None
     text
 
 -- ---- all lines
@@ -169,7 +169,7 @@ step_behind word.Fail text = option_map (λ f. step.Schedule (plan.Fail f)) (fai
 step_behind word.Disk text = option_map (λ p. step.Schedule (plan.OnDisk p)) (disk_fail_of text)
 step_behind word.Stop text = option_map (λ p. step.Schedule (plan.OnDisk p)) (stop_of text)
 step_behind word.Sweep text =
-    option_map (λ moment. step.Event (Sweep (record { 0 = moment }))) (moment_of text)
+    option_map (λ moment. step.Event (Sweep (record { 0 = moment }))) (moment_word text)
 step_behind word.Order text = option_map step.Event (order_of text)
 step_behind word.Rule text = option_map step.Setup (in_rule (rule_read text))
 step_behind word.Conf text = Some (step.Setup (Conf text))

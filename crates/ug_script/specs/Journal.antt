@@ -2,13 +2,13 @@
 -- device.
 use Rattle.std.specs.Prelude.{◌≡◌, ◌⊎◌, ℕ, ◌≤◌, Bool, true, false, ◌&&◌, if◌then◌else◌, List, [], ◌∷◌, ◌++◌, length, flat_map, Option, Some, None, Ok}
 use Rattle.ug_types.specs.Elements.{Has}
-use Rattle.ug_types.specs.declared.control.Write.{Write}
+use Rattle.ug_kernel.specs.declared.control.Write.{Write}
 use Rattle.ug_types.specs.declared.rule.Rule as types
 use Rattle.ug_kernel.specs.declared.device.Device.{Device}
 use Rattle.ug_kernel.specs.Kernel.{Kernel, Live}
 use Rattle.ug_sysfs.specs.World.{IsUnfailing, World}
 use Rattle.ug_audit.specs.declared.entry.Entry.{Entry}
-use Rattle.ug_play.specs.Play.{NameNobody}
+use Rattle.ug_simulation.specs.Play.{NameNobody}
 use Rattle.ug_conf.specs.Texts.{conf_read}
 use Rattle.ug_core.specs.Chain.{Happened, Chain, journal, IsRun, IsJudgedOnce, unsure_of}
 use Rattle.ug_core.specs.Event.{DaemonState, has_numbers}
@@ -19,16 +19,16 @@ use Rattle.ug_core.specs.Verdicts.{IsLater}
 use Rattle.ug_core.specs.declared.daemon.Event as events
 use Rattle.ug_lines.specs.Lines.{lines_of}
 use Rattle.ug_print.specs.RuleTexts.{rules_text_of}
-use Rattle.ug_rules.specs.RuleFile.{IsRuleFile, permanent_rules, permanent_text}
+use Rattle.ug_ruleset.specs.RuleFile.{IsRuleFile, permanent_rules, permanent_text}
 use Rattle.ug_store.specs.Disk.{Disk, IsImage}
 use Rattle.ug_store.specs.Scripted.{DiskWorld, disk_told}
-use Rattle.ug_console.specs.Fold.{Outcome, Writes, Refused, Going, plays}
+use Rattle.ug_command_io.specs.Fold.{LineOutcome, Writes, Refused, Going, plays}
 use Rattle.ug_script.specs.declared.step.Step.{Step}
 use Rattle.ug_script.specs.declared.step.Step.TheVariants.{Schedule, Event, Restart}
 use Rattle.ug_script.specs.Grammar.{step_of_line}
 use Rattle.ug_script.specs.Script.{Script, can_start, daemon_in, disk_in}
 use Rattle.ug_script.specs.Replay.{answered_from, disk_of, event_from, event_of, outcome_of, outcome_text, script_step, stop_in, stopped_text, tried_by}
-use Rattle.ug_script.specs.Setup.{steps_of, conf_asked, rule_asked, IsSetup, Beside, started_at, with_rules}
+use Rattle.ug_script.specs.Setup.{steps_of, conf_asked, setup_rule, IsSetup, Beside, started_at, with_rules}
 
 -- an event of a daemon over a kernel and a disk that are ready for it
 abbrev pub happened_from : events.Event → DaemonState → World → DiskWorld → Happened
@@ -56,7 +56,7 @@ happens_at event s w =
     then happened_at event s w ∷ [] else []
 
 -- where a line leads
-abbrev pub left_by : {M : Type 0} → Outcome M → M
+abbrev pub left_by : {M : Type 0} → LineOutcome M → M
 left_by (Writes text next) = next
 left_by (Refused fault next) = next
 
@@ -270,7 +270,7 @@ pub record Recorded (first : World) (lines : List (List ℕ)) (text : List ℕ) 
       (words_for (with_rules rules policy) steps) (judgements_for (with_rules rules policy) steps)
       (after_steps (with_rules rules policy) steps)
   pub runs : AreDaemonRuns beside policy
-      (first_start (flat_map rule_asked (steps_of lines)) first.kernel) (runs_in first lines)
+      (first_start (flat_map setup_rule (steps_of lines)) first.kernel) (runs_in first lines)
       w.kernel (disk_told (disk_in s)) (daemon_in s)
   pub written : text ≡ text_of_runs (runs_in first lines)
   pub nobody : AreQuiet (steps_of lines) → IsUnfailing first

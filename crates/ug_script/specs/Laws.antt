@@ -4,10 +4,10 @@ use Rattle.ug_types.specs.Elements.{AllDistinct}
 use Rattle.ug_kernel.specs.Defaults.{HasOnEntries}
 use Rattle.ug_kernel.specs.Kernel.{IsKernel, Kernel}
 use Rattle.ug_kernel.specs.Tree.{Prog, Return, Ask, Room}
-use Rattle.ug_sysfs.specs.World.{World, Gives, answer_of, begun, over}
+use Rattle.ug_sysfs.specs.World.{World, Gives, scripted_answer, event_begun, over}
 use Rattle.ug_table.specs.Laws.{Stand}
 use Rattle.ug_table.specs.Parts.{unsettled_names}
-use Rattle.ug_play.specs.Play.{play, tells_memory}
+use Rattle.ug_simulation.specs.Play.{play, tells_memory}
 use Rattle.ug_core.specs.Answering.{acting, asking, deed_after}
 use Rattle.ug_core.specs.Event.{DaemonState, handling, has_numbers, ready}
 use Rattle.ug_core.specs.Laws.{AnswersEvent, Handled, TellsEvent}
@@ -22,7 +22,7 @@ use Rattle.ug_store.specs.Disk.{IsImage}
 use Rattle.ug_store.specs.PlayDisk.{play_disk}
 use Rattle.ug_store.specs.Scripted.{DiskWorld, plan_at, stops_by}
 use Rattle.ug_store.specs.declared.mishap.Planned.{Planned}
-use Rattle.ug_console.specs.Fold.{Going, plays}
+use Rattle.ug_command_io.specs.Fold.{Going, plays}
 use Rattle.ug_script.specs.Script.{Script, daemon_in, disk_in}
 use Rattle.ug_script.specs.Replay.{answered_of, disk_of, event_of, halted, script_step, stop_in, tried_by}
 
@@ -37,8 +37,8 @@ abbrev pub tried_of : Script → Option Saved
 tried_of s = (tried_by (daemon_in s) (disk_of s)).0
 
 -- what the order of an event begins with
-abbrev pub ready_of : Event → Script → DaemonState
-ready_of event s = ready event (tried_of s) (daemon_in s)
+abbrev pub order_ready : Event → Script → DaemonState
+order_ready event s = ready event (tried_of s) (daemon_in s)
 
 -- The first of so many calls of the disk for which the last line stops the machine in it: the call
 -- in which it stops.
@@ -58,7 +58,7 @@ HasNoStop plan calls =
 abbrev pub BehindEach : {R : Type 0} → (Kernel → Type 0) → Prog R → World → Type 0
 BehindEach holds (Return value) w = holds w.kernel
 BehindEach holds (Ask call next) w =
-    holds w.kernel × BehindEach holds (next (answer_of w call).0) (answer_of w call).1
+    holds w.kernel × BehindEach holds (next (scripted_answer w call).0) (scripted_answer w call).1
 BehindEach holds (Room next) w = BehindEach holds (next true) w
 
 -- what is done in an order, where this was chosen and that became of the save of its change
@@ -83,8 +83,8 @@ EachInOrder holds (Order moment who line) d w o =
 -- is so too where the machine stops
 abbrev pub AtEachCall : (Kernel → Type 0) → Event → Script → World → Type 0
 AtEachCall holds event s w =
-    EachInOrder holds event (ready_of event s)
-    (halted (tried_by (daemon_in s) (disk_of s)).1 (begun w))
+    EachInOrder holds event (order_ready event s)
+    (halted (tried_by (daemon_in s) (disk_of s)).1 (event_begun w))
     (tried_by (daemon_in s) (disk_of s)).1
     × BehindEach holds (handling (answered_of event s w).daemon)
     (halted (answered_of event s w).disk (answered_of event s w).world)
@@ -101,12 +101,12 @@ AtEachCall holds event s w =
 -- it does where there is one. A device that was born while its controller's default was off is on
 -- only after an On entry, behind each call, if so it was before.
 pub record IsLawfulEvent (event : Event) (s : Script) (w : World) : Type 0 where
-  pub answers : AnswersEvent event w.kernel (ready_of event s) (answered_of event s w).became
+  pub answers : AnswersEvent event w.kernel (order_ready event s) (answered_of event s w).became
       (answered_of event s w).world.kernel (answered_of event s w).daemon
   pub handled : Handled (answered_of event s w).world.kernel (answered_of event s w).daemon
       (event_of event s w).world.kernel (event_of event s w).daemon
   pub faults : (event_of event s w).disk.stopped ≡ false
-      → TellsEvent Gives calls_of faults_of event (begun w) (ready_of event s)
+      → TellsEvent Gives calls_of faults_of event (event_begun w) (order_ready event s)
       (answered_of event s w).became (answered_of event s w).world (answered_of event s w).daemon
       (event_of event s w).world (event_of event s w).daemon
   pub once : AllDistinct (unsettled_names (event_of event s w).daemon.sweep.entries)

@@ -143,18 +143,19 @@ abbrev pub IsMoment : ℕ → Type 0
 IsMoment n = n ≤ 250000000000
 
 -- `sweep MOMENT`
-abbrev pub IsSweep : List ℕ → Moment → Type 0
-IsSweep line moment = (line ≡ codes "sweep " ++ decimal moment.0) × IsMoment moment.0
+abbrev pub IsSweepLine : List ℕ → Moment → Type 0
+IsSweepLine line moment = (line ≡ codes "sweep " ++ decimal moment.0) × IsMoment moment.0
 
 -- `order MOMENT PRINCIPAL REQUEST`, where the request is any text
-pub record IsOrder (line : List ℕ) (moment : Moment) (who : Named) (request : List ℕ) : Type 0 where
+pub record IsOrderLine (line : List ℕ) (moment : Moment) (who : Named)
+    (request : List ℕ) : Type 0 where
   pub is : line ≡ codes "order " ++ (decimal moment.0 ++ 32 ∷ (principal_text who ++ 32 ∷ request))
   pub moment_is : IsMoment moment.0
   pub named : is_name who.name ≡ true
 
 abbrev pub IsEventLine : List ℕ → Event → Type 0
-IsEventLine line (Sweep moment) = IsSweep line moment
-IsEventLine line (Order moment who request) = IsOrder line moment who request
+IsEventLine line (Sweep moment) = IsSweepLine line moment
+IsEventLine line (Order moment who request) = IsOrderLine line moment who request
 
 -- ---- lines that stand before all others
 

@@ -1,7 +1,7 @@
 -- Rules that can be read again from their texts, at each line of a script.
 use Rattle.std.specs.Prelude.{◌≡◌, ℕ, false, List, Option, Some, None}
 use Rattle.ug_sysfs.specs.World.{World}
-use Rattle.ug_rules.specs.RuleFile.{CanSave}
+use Rattle.ug_ruleset.specs.RuleFile.{CanSave}
 use Rattle.ug_core.specs.Stops.{IsReadable}
 use Rattle.ug_script.specs.declared.step.Step.{Step}
 use Rattle.ug_script.specs.declared.step.Step.TheVariants.{Event, Restart}

@@ -6,13 +6,13 @@ use Rattle.ug_types.specs.declared.rule.Rule as types
 use Rattle.ug_types.specs.declared.saved.Saved.{Saved}
 use Rattle.ug_kernel.specs.declared.device.Device.{Device}
 use Rattle.ug_sysfs.specs.Queue.{with_move}
-use Rattle.ug_sysfs.specs.World.{halting, World, begun, moved, over}
+use Rattle.ug_sysfs.specs.World.{halting, World, event_begun, moved, over}
 use Rattle.ug_audit.specs.declared.entry.Entry.{Entry}
 use Rattle.ug_audit.specs.Lines.{entry_line}
 use Rattle.ug_lines.specs.Lines.{lines_of}
 use Rattle.ug_proto.specs.declared.reply.Reply.{Reply}
 use Rattle.ug_proto.specs.Replies.{reply_text}
-use Rattle.ug_play.specs.Play.{play, tells_memory}
+use Rattle.ug_simulation.specs.Play.{play, tells_memory}
 use Rattle.ug_store.specs.PlayDisk.{play_disk}
 use Rattle.ug_store.specs.Scripted.{DiskWorld, begun_on, coming_up, forgetting, plan_at, stops_by}
 use Rattle.ug_store.specs.declared.mishap.Planned.{Planned}
@@ -24,10 +24,10 @@ use Rattle.ug_core.specs.declared.choosing.Choice.{Choice}
 use Rattle.ug_core.specs.Event.{DaemonState, daemon_of, handling, has_numbers, ready, trying}
 use Rattle.ug_core.specs.declared.daemon.Event.{Event}
 use Rattle.ug_core.specs.declared.daemon.Event.TheVariants.{Sweep, Order}
-use Rattle.ug_console.specs.Fold.{Fault, Outcome, Writes, Refused, BadLine, InputTooLong, is_within}
-use Rattle.ug_console.specs.Runs.{Steps}
-use Rattle.ug_console.specs.declared.machine.Ran.{Ran}
-use Rattle.ug_console.specs.declared.machine.Ran.TheVariants as ran
+use Rattle.ug_command_io.specs.Fold.{LineRefusal, LineOutcome, Writes, Refused, BadLine, InputTooLong, is_within}
+use Rattle.ug_command_io.specs.Runs.{Steps}
+use Rattle.ug_command_io.specs.declared.machine.Ran.{Ran}
+use Rattle.ug_command_io.specs.declared.machine.Ran.TheVariants as ran
 use Rattle.ug_script.specs.declared.interpreter.Interpreter.{Interpreter}
 use Rattle.ug_script.specs.declared.runner.Runner.{Runner}
 use Rattle.ug_script.specs.declared.progress.Running.{Running}
@@ -100,20 +100,20 @@ abbrev pub outcome_text : EventOutcome → List ℕ
 outcome_text outcome = lines_text outcome.entries ++ reply_lines outcome.reply
 
 -- a line writes nothing and leads there
-abbrev pub quiet : Script → World → Outcome (Option Script × World)
+abbrev pub quiet : Script → World → LineOutcome (Option Script × World)
 quiet s w = Writes [] (Some s, w)
 
 -- a line that may not stand there
-abbrev pub bad : Script → World → Outcome (Option Script × World)
+abbrev pub bad : Script → World → LineOutcome (Option Script × World)
 bad s w = Refused BadLine (Some s, w)
 
 -- ---- lines of setup
 
-abbrev pub line_added : Option SetupState → Script → World → Outcome (Option Script × World)
+abbrev pub line_added : Option SetupState → Script → World → LineOutcome (Option Script × World)
 line_added None s w = bad s w
 line_added (Some setup) s w = quiet (record s { setup = setup }) w
 
-abbrev pub line_taken : SetupLine → Script → World → Outcome (Option Script × World)
+abbrev pub line_taken : SetupLine → Script → World → LineOutcome (Option Script × World)
 line_taken line s w =
     cond (takes_setup s.phase) (line_added (one_line_more line s.setup) s w) (bad s w)
 
@@ -163,10 +163,10 @@ abbrev pub with_choice : Named → DaemonState → DiskWorld → Choice × World
 with_choice who d o chosen = with_store who d chosen (play_disk (storing d chosen.0.change) o)
 
 -- a sweep alone has none
-abbrev pub answered_by : Event → DaemonState → World → DiskWorld → OrderPlayed
-answered_by (Sweep moment) d w o =
+abbrev pub order_played_by : Event → DaemonState → World → DiskWorld → OrderPlayed
+order_played_by (Sweep moment) d w o =
     record { daemon = d; became = stored.NotNeeded; world = w; disk = o }
-answered_by (Order moment who line) d w o = with_choice who d o (play (asking d who line) w)
+order_played_by (Order moment who line) d w o = with_choice who d o (play (asking d who line) w)
 
 -- An event as the world and the disk fix it, whose calls are numbered anew: a pending save is
 -- tried, the order is answered, and then comes the sweep. The kernel is halted as soon as the
@@ -180,7 +180,7 @@ tried_by d o = play_disk (trying d) o
 
 abbrev pub answered_from : Event → DaemonState → World → DiskWorld → OrderPlayed
 answered_from event d w o =
-    answered_by event (ready event (tried_by d o).0 d) (halted (tried_by d o).1 (begun w))
+    order_played_by event (ready event (tried_by d o).0 d) (halted (tried_by d o).1 (event_begun w))
     (tried_by d o).1
 
 abbrev pub swept_over : DiskWorld → DaemonState × World → Played
@@ -223,7 +223,7 @@ event_of event s w = event_from event (daemon_in s) w (disk_of s)
 abbrev pub left_played : Played → Played
 left_played p = record p { world = over p.world; disk = forgetting p.disk }
 
-abbrev pub finished : Played → Outcome Played
+abbrev pub finished : Played → LineOutcome Played
 finished p = Writes (outcome_text (outcome_of p.daemon)) (left_played p)
 
 -- the first of so many calls in which the machine is to stop, else that one
@@ -259,20 +259,21 @@ begun_again setup rules p =
     record (up_again p)
     { daemon = started_at p.daemon.event (beside_of setup) (with_rules rules (policy_of setup)) }
 
-abbrev pub stopped_of : SetupState → ℕ → Played → Result (List types.Rule) Fault → Outcome Played
+abbrev pub stopped_of : SetupState → ℕ → Played → Result (List types.Rule) LineRefusal
+    → LineOutcome Played
 stopped_of setup call p (Ok rules) =
     Writes (stopped_text call p.daemon.sweep.entries) (begun_again setup rules p)
 stopped_of setup call p (Err fault) = Refused fault (up_again p)
 
 -- what an event with that plan comes to
-abbrev pub came_of : SetupState → List Planned → Played → Outcome Played
+abbrev pub came_of : SetupState → List Planned → Played → LineOutcome Played
 came_of setup plan p =
     cond p.disk.stopped (stopped_of setup (stop_in plan p) p (rules_from p.disk.disk.text))
     (finished p)
 
 -- unless the numbers have run out
 abbrev pub event_by : SetupState → Event → List Planned → DaemonState → World → DiskWorld
-    → Outcome Played
+    → LineOutcome Played
 event_by setup event plan d w o =
     cond (has_numbers d w.faults o.faults)
     (came_of setup plan (event_from event d w (begun_disk plan o)))
@@ -282,12 +283,12 @@ event_by setup event plan d w o =
 abbrev pub with_played : Script → Played → Script
 with_played s p = record s { phase = Started p.daemon p.disk; planned = [] }
 
-abbrev pub in_script : Script → Outcome Played → Outcome (Option Script × World)
+abbrev pub in_script : Script → LineOutcome Played → LineOutcome (Option Script × World)
 in_script s (Writes text p) = Writes text (Some (with_played s p), p.world)
 in_script s (Refused fault p) = Refused fault (Some (with_played s p), p.world)
 
 -- the first event starts the daemon
-abbrev pub event_taken : Event → Script → World → Outcome (Option Script × World)
+abbrev pub event_taken : Event → Script → World → LineOutcome (Option Script × World)
 event_taken event s w =
     cond (can_start s.setup s.phase)
     (in_script s (event_by s.setup event s.planned (daemon_in s) w (disk_in s)))
@@ -304,7 +305,8 @@ abbrev pub with_restart : List types.Rule → Script → Script
 with_restart rules s =
     record s {
       phase = Started
-          (started_at (daemon_in s).event (beside_of s.setup) (with_rules rules (policy_of s.setup)))
+          (started_at (daemon_in s).event (beside_of s.setup)
+          (with_rules rules (policy_of s.setup)))
           (after_reading (disk_in s));
     }
 
@@ -312,20 +314,20 @@ with_restart rules s =
 abbrev pub without_restart : Script → Script
 without_restart s = record s { phase = Started (daemon_in s) (after_reading (disk_in s)) }
 
-abbrev pub restarted : Result (List types.Rule) Fault → Script → World
-    → Outcome (Option Script × World)
+abbrev pub restarted : Result (List types.Rule) LineRefusal → Script → World
+    → LineOutcome (Option Script × World)
 restarted (Ok rules) s w = quiet (with_restart rules s) w
 restarted (Err fault) s w = Refused fault (Some (without_restart s), w)
 
 -- the first daemon is started before, if none was
-abbrev pub restart_taken : Script → World → Outcome (Option Script × World)
+abbrev pub restart_taken : Script → World → LineOutcome (Option Script × World)
 restart_taken s w =
     cond (can_start s.setup s.phase) (restarted (rules_from (disk_in s).disk.text) s w)
     (Refused InputTooLong (Some s, w))
 
 -- ---- all lines
 
-abbrev pub taken : Step → Script → World → Outcome (Option Script × World)
+abbrev pub taken : Step → Script → World → LineOutcome (Option Script × World)
 taken step.Skip s w = quiet s w
 taken (step.Setup line) s w = line_taken line s w
 taken (step.Move action) s w =
@@ -334,7 +336,7 @@ taken (step.Schedule plan) s w = quiet (with_plan plan (with_setup_closed s)) (p
 taken (step.Event event) s w = event_taken event s w
 taken step.Restart s w = restart_taken s w
 
-abbrev pub taken_if : Option Step → Script → World → Outcome (Option Script × World)
+abbrev pub taken_if : Option Step → Script → World → LineOutcome (Option Script × World)
 taken_if None s w = bad s w
 taken_if (Some step) s w = taken step s w
 
@@ -350,10 +352,10 @@ StartsAgain (Some step.Restart) s w result =
 StartsAgain other s w result = Unit {0}
 
 -- the first line is the header
-abbrev pub first_step : List ℕ → World → Outcome (Option Script × World)
+abbrev pub first_step : List ℕ → World → LineOutcome (Option Script × World)
 first_step line w = cond (pointwise nat_eq line header) (quiet fresh w) (Refused BadLine (None, w))
 
-abbrev pub script_step : Option Script × World → List ℕ → Outcome (Option Script × World)
+abbrev pub script_step : Option Script × World → List ℕ → LineOutcome (Option Script × World)
 script_step (None, w) line = first_step line w
 script_step (Some s, w) line = taken_if (step_of_line line) s w
 
@@ -378,8 +380,8 @@ runner_state r =
     record { script = interpreter_state r.interpreter; lines = r.lines; so_far = r.so_far }
 
 -- what a line comes to behind so many lines; one that is past a limit may not stand there
-abbrev pub step_behind : (Option Script × World → List ℕ → Outcome (Option Script × World)) → ℕ
-    → Option Script × World → List ℕ → Outcome (Option Script × World)
+abbrev pub step_behind : (Option Script × World → List ℕ → LineOutcome (Option Script × World)) → ℕ
+    → Option Script × World → List ℕ → LineOutcome (Option Script × World)
 step_behind takes n p line = cond (is_within n line) (takes p line) (Refused BadLine p)
 
 -- one line more was taken, unless it was refused or there was a fault
@@ -391,7 +393,7 @@ lines_after ran.SinkFailed n = n
 lines_after ran.Memory n = n
 
 -- a line was taken as it stands there, and how that ended is kept
-pub record TakesLine (takes : Option Script × World → List ℕ → Outcome (Option Script × World))
+pub record TakesLine (takes : Option Script × World → List ℕ → LineOutcome (Option Script × World))
     (r : RunnerState) (w : World) (line : List ℕ) (before after : Option (List ℕ)) (answer : Ran)
     (s : RunnerState) (v : World) : Type 0 where
   pub steps : Steps (step_behind takes r.lines (r.script, w) line) (s.script, v) before after answer

@@ -3,13 +3,13 @@ use Rattle.std.specs.Prelude.{◌≡◌, ℕ, ◌<◌, ◌↔◌, Bool, true, fa
 use Rattle.std.specs.List.{list_any}
 use Rattle.ug_print.specs.RuleTexts.{rules_text_of}
 use Rattle.ug_sysfs.specs.World.{World}
-use Rattle.ug_console.specs.Fold.{Going, input_too_long, is_within, plays}
+use Rattle.ug_command_io.specs.Fold.{Going, input_too_long, is_within, plays}
 use Rattle.ug_script.specs.declared.step.Step.{Step}
 use Rattle.ug_script.specs.Against.{starts_daemon}
 use Rattle.ug_script.specs.Grammar.{step_of_line}
 use Rattle.ug_script.specs.Replay.{script_step}
 use Rattle.ug_script.specs.Script.{Script}
-use Rattle.ug_script.specs.Setup.{rule_asked, steps_of}
+use Rattle.ug_script.specs.Setup.{setup_rule, steps_of}
 
 abbrev pub starts_one : Option Step → Bool
 starts_one None = false
@@ -31,7 +31,7 @@ pub record FindsNoRoom (first : World) (lines : List (List ℕ)) : Type 0 where
   pub within : is_within count line ≡ true
   pub unstarted : list_any starts_one (steps_of earlier) ≡ false
   pub starts : starts_one (step_of_line line) ≡ true
-  pub long : 67108864 < length (rules_text_of (flat_map rule_asked (steps_of earlier)))
+  pub long : 67108864 < length (rules_text_of (flat_map setup_rule (steps_of earlier)))
 
 -- where the status is 2, `input too long` is all that is written exactly where that is so
 abbrev pub TellsRoom : World → List (List ℕ) → List ℕ → Option (List ℕ) → ℕ → Type 0

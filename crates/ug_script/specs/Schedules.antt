@@ -11,7 +11,7 @@ use Rattle.ug_sysfs.specs.declared.script.Scheduled.{Scheduled}
 use Rattle.ug_sysfs.specs.Below.{IsFelled}
 use Rattle.ug_sysfs.specs.Birth.{CanBeBorn, IsBorn}
 use Rattle.ug_sysfs.specs.World.{World}
-use Rattle.ug_console.specs.Fold.{Going, Writes, plays}
+use Rattle.ug_command_io.specs.Fold.{Going, Writes, plays}
 use Rattle.ug_script.specs.declared.step.Plan.TheVariants as plan
 use Rattle.ug_script.specs.declared.step.Step.{Step}
 use Rattle.ug_script.specs.declared.step.Step.TheVariants as step

@@ -10,7 +10,7 @@ use Rattle.ug_script.specs.declared.progress.Phase as progress
 use Rattle.ug_script.specs.declared.progress.Phase.TheVariants as at
 use Rattle.ug_script.specs.declared.start.NoStart.{NoStart}
 use Rattle.ug_script.specs.declared.start.NoStart.TheVariants as no_start
-use Rattle.ug_script.specs.Setup.{SetupState, no_setup, rules_disk, started}
+use Rattle.ug_script.specs.Setup.{SetupState, no_setup, rules_disk, first_started}
 
 -- how far a script has come: lines of setup may still come; none may, and no daemon was started; or
 -- one was, from its disk
@@ -55,8 +55,8 @@ with_setup_closed s = record s { phase = closed_phase s.phase }
 
 -- the daemon, or the one that an event would start
 abbrev pub daemon_by : SetupState → Phase → DaemonState
-daemon_by setup SettingUp = started setup
-daemon_by setup Unstarted = started setup
+daemon_by setup SettingUp = first_started setup
+daemon_by setup Unstarted = first_started setup
 daemon_by setup (Started d disk) = d
 
 abbrev pub daemon_in : Script → DaemonState

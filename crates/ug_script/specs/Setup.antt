@@ -5,13 +5,13 @@ use Rattle.rand_chacha.specs.ChaCha.{next_word, of_seed}
 use Rattle.rand_core.specs.Steps.{stream_of, steps_u32}
 use Rattle.rand_core.specs.Stream.{Stream}
 use Rattle.ug_types.specs.Principals.{Named}
-use Rattle.ug_types.specs.declared.control.Write.{Write}
+use Rattle.ug_kernel.specs.declared.control.Write.{Write}
 use Rattle.ug_types.specs.declared.rule.Rule as types
 use Rattle.ug_acl.specs.Acls.{Addition, addition}
 use Rattle.ug_acl.specs.Pairs.{all_pairs}
 use Rattle.ug_conf.specs.Faults.{SettingFault}
 use Rattle.ug_conf.specs.Settings.{defaults}
-use Rattle.ug_conf.specs.Draft.{Draft, draft_of, line_read}
+use Rattle.ug_conf.specs.Draft.{Draft, draft_of, setting_line_read}
 use Rattle.ug_conf.specs.Reader.{Progress, next_number}
 use Rattle.ug_conf.specs.Texts.{setting_line}
 use Rattle.ug_lines.specs.LineReading.{lines_read}
@@ -22,7 +22,7 @@ use Rattle.ug_core.specs.Event.{DaemonState}
 use Rattle.ug_print.specs.RuleTexts.{rules_limit, rules_text_of}
 use Rattle.ug_rule.specs.Files.{file_read}
 use Rattle.ug_types.specs.declared.text_fault.TextFault.{TextFault}
-use Rattle.ug_console.specs.Fold.{Fault, BadLine, InputTooLong}
+use Rattle.ug_command_io.specs.Fold.{LineRefusal, BadLine, InputTooLong}
 use Rattle.ug_store.specs.DiskCalls.{Load, file_limit}
 use Rattle.ug_store.specs.Scripted.{DiskWorld, past_within, world_at_first}
 use Rattle.ug_script.specs.declared.step.SetupLine.{SetupLine}
@@ -73,7 +73,8 @@ with_draft (Err fault) s = None
 abbrev pub one_setting_more : List ℕ → SetupState → Option SetupState
 one_setting_more text s =
     if is_entry text
-    then with_draft (line_read (next_number s.settings.lines) s.settings.draft text) s else None
+    then with_draft (setting_line_read (next_number s.settings.lines) s.settings.draft text) s else
+    None
 
 abbrev pub one_line_more : SetupLine → SetupState → Option SetupState
 one_line_more (Rule rule) s = one_rule_more rule s
@@ -157,8 +158,14 @@ rules_disk s = after_reading (world_at_first (rules_text_of s.rules))
 abbrev pub started_at : ℕ → Beside → Judging → DaemonState
 started_at number beside policy =
     record {
-      sweep = record
-          { standings = []; next = 1; listed = false; judge = policy; hub = beside.hub; entries = [] };
+      sweep = record {
+        standings = [];
+        next = 1;
+        listed = false;
+        judge = policy;
+        hub = beside.hub;
+        entries = [];
+      };
       access = beside.access;
       pending = false;
       event = number;
@@ -167,23 +174,23 @@ started_at number beside policy =
     }
 
 -- the first one of a script, whose events are numbered from 1
-abbrev pub started : SetupState → DaemonState
-started s = started_at 1 (beside_of s) (policy_of s)
+abbrev pub first_started : SetupState → DaemonState
+first_started s = started_at 1 (beside_of s) (policy_of s)
 
 -- ---- the rules that a daemon starts with
 
 -- no more than 65,536, with a canonical text for which a rule file has room
-abbrev pub rules_taken : List types.Rule → Result (List types.Rule) Fault
+abbrev pub rules_taken : List types.Rule → Result (List types.Rule) LineRefusal
 rules_taken rules =
     if nat_le (length rules) 65536 && nat_le (length (rules_text_of rules)) rules_limit
     then Ok rules else Err InputTooLong
 
-abbrev pub rules_if_read : Result (List types.Rule) TextFault → Result (List types.Rule) Fault
+abbrev pub rules_if_read : Result (List types.Rule) TextFault → Result (List types.Rule) LineRefusal
 rules_if_read (Ok rules) = rules_taken rules
 rules_if_read (Err bad) = Err BadLine
 
 -- those of the text of a rule file, or why no daemon starts with it
-abbrev pub rules_from : List ℕ → Result (List types.Rule) Fault
+abbrev pub rules_from : List ℕ → Result (List types.Rule) LineRefusal
 rules_from text =
     if nat_le (length text) file_limit then rules_if_read (file_read text) else Err InputTooLong
 
@@ -201,9 +208,9 @@ steps_of lines = map step_of_line (drop 1 lines)
 
 -- the rules, the lines of settings and of access, the seeds and the zones among them, in order
 
-abbrev pub rule_asked : Option Step → List types.Rule
-rule_asked (Some (Setup (Rule rule))) = rule ∷ []
-rule_asked step = []
+abbrev pub setup_rule : Option Step → List types.Rule
+setup_rule (Some (Setup (Rule rule))) = rule ∷ []
+setup_rule step = []
 
 abbrev pub conf_asked : Option Step → List (List ℕ)
 conf_asked (Some (Setup (Conf text))) = text ∷ []
@@ -235,8 +242,8 @@ pub record IsSetup (steps : List (Option Step)) (beside : Beside) (policy : Judg
   pub settings : lines_read setting_line 1 (draft_of defaults []) (flat_map conf_asked steps)
       ≡ Ok draft
   pub classes : policy.classes ≡ classes_of draft.settings
-  pub rules : policy.rules ≡ permanent_entries 1 (flat_map rule_asked steps)
-  pub next : policy.next ≡ length (flat_map rule_asked steps) + 1
+  pub rules : policy.rules ≡ permanent_entries 1 (flat_map setup_rule steps)
+  pub next : policy.next ≡ length (flat_map setup_rule steps) + 1
   pub clock : policy.clock ≡ clock_ahead (first_or (pos 0) (flat_map zone_asked steps))
   pub ctx : policy.ctx ≡ record { moment = record { 0 = 0 }; second = 0 }
   pub hub : beside.hub ≡ hub_default draft.settings.default

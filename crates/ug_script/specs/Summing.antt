@@ -4,7 +4,7 @@ use Rattle.std.specs.Prelude.{◌≡◌, ℕ, ◌+◌, ◌-◌, ◌^◌, min, na
 use Rattle.std.specs.List.{starts_with}
 use Rattle.ug_lines.specs.Lines.{lines_of}
 use Rattle.ug_sysfs.specs.World.{World}
-use Rattle.ug_console.specs.Fold.{Fault, Outcome, Writes, Refused, Going, fault_line, no_memory, plays, read_fault}
+use Rattle.ug_command_io.specs.Fold.{LineRefusal, LineOutcome, Writes, Refused, Going, fault_line, no_memory, plays, read_fault}
 use Rattle.ug_script.specs.Script.{Script}
 use Rattle.ug_script.specs.Replay.{interpreter_state, script_step}
 use Rattle.ug_script.specs.declared.summarizer.Summarizer.{Summarizer}
@@ -13,8 +13,8 @@ use Rattle.ug_script.specs.declared.totals.Totals.{Totals}
 -- ---- numbers of lines
 
 -- a number stands still at its type's end
-abbrev pub kept : ℕ → ℕ
-kept n = min n (2 ^ 64 - 1)
+abbrev pub bounded_count : ℕ → ℕ
+bounded_count n = min n (2 ^ 64 - 1)
 
 -- how many of the lines begin so
 abbrev pub count : List ℕ → List (List ℕ) → ℕ
@@ -26,10 +26,10 @@ no_totals = record { events = 0; judged = 0; writes = 0; unsettled = 0 }
 -- with the events, the verdicts, the writes and the unsettled devices of more lines of a journal
 abbrev pub with_lines : List (List ℕ) → Totals → Totals
 with_lines lines t = record {
-  events = kept (t.events + count (codes "event ") lines);
-  judged = kept (t.judged + count (codes "judged ") lines);
-  writes = kept (t.writes + count (codes "wrote ") lines);
-  unsettled = kept (t.unsettled + count (codes "unsettled ") lines);
+  events = bounded_count (t.events + count (codes "event ") lines);
+  judged = bounded_count (t.judged + count (codes "judged ") lines);
+  writes = bounded_count (t.writes + count (codes "wrote ") lines);
+  unsettled = bounded_count (t.unsettled + count (codes "unsettled ") lines);
 }
 
 -- those of a whole journal
@@ -46,11 +46,11 @@ abbrev pub summary_of : Summarizer → Summary
 summary_of summarizer = (interpreter_state summarizer.script, summarizer.totals)
 
 -- the text of a line is counted in place of being written
-abbrev pub counted : Totals → Outcome (Option Script × World) → Outcome (Summary × World)
+abbrev pub counted : Totals → LineOutcome (Option Script × World) → LineOutcome (Summary × World)
 counted t (Writes text p) = Writes [] ((p.0, with_lines (lines_of text) t), p.1)
 counted t (Refused fault p) = Refused fault ((p.0, t), p.1)
 
-abbrev pub summary_step : Summary × World → List ℕ → Outcome (Summary × World)
+abbrev pub summary_step : Summary × World → List ℕ → LineOutcome (Summary × World)
 summary_step p line = counted p.0.1 (script_step (p.0.0, p.1) line)
 
 -- ---- the end
@@ -77,6 +77,7 @@ pub record TellsSummary (first : World) (all base : List ℕ) (held : Option (Li
   pub done : status ≡ 0 → (n : ℕ) × (journal : List ℕ) × (s : Script) × (w : World)
       × (plays script_step (Going 0 [] (None, first)) (lines_of all) ≡ Going n journal (Some s, w))
       × (held ≡ Some (base ++ summary_line (totals_of journal)))
-  pub bad : status ≡ 2 → (fault : Fault) × (n : ℕ) × (held ≡ Some (base ++ fault_line fault n))
+  pub bad : status ≡ 2 → (fault : LineRefusal) × (n : ℕ)
+      × (held ≡ Some (base ++ fault_line fault n))
   pub read : status ≡ 4 → held ≡ Some (base ++ read_fault)
   pub memory : status ≡ 6 → held ≡ Some (base ++ no_memory)

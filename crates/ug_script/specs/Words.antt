@@ -3,7 +3,7 @@ use Rattle.std.specs.Prelude.{◌≡◌, ℕ, ◌+◌, ◌-◌, ◌*◌, ℤ, po
 use Rattle.std.specs.List.{fold, list_any, position}
 use Rattle.hex.specs.Hex.{decode_of, decode_sized}
 use Rattle.hex.specs.declared.error.FromHexError.{FromHexError}
-use Rattle.ug_decimals.specs.Numbers.{number_in}
+use Rattle.ug_numerals.specs.Numbers.{number_in}
 use Rattle.ug_types.specs.Reading.{after, ends_name}
 use Rattle.ug_types.specs.declared.reading.Reading.{Reading}
 use Rattle.ug_types.specs.declared.reading.Reading.TheVariants.{Start}
@@ -39,8 +39,8 @@ moment_in None = None
 moment_in (Some n) = if nat_le n 250000000000 then Some n else None
 
 -- a decimal number without sign or leading zero, up to the limit
-unfoldable pub moment_of : List ℕ → Option ℕ
-moment_of text = moment_in (number_in text)
+unfoldable pub moment_word : List ℕ → Option ℕ
+moment_word text = moment_in (number_in text)
 
 abbrev pub call_in : Option ℕ → Option ℕ
 call_in None = None
@@ -48,7 +48,7 @@ call_in (Some n) = if nat_le 1 n && nat_le n 1048576 then Some n else None
 
 -- the number of a call in an event, from 1 to 1,048,576
 abbrev pub call_of : List ℕ → Option ℕ
-call_of text = call_in (moment_of text)
+call_of text = call_in (moment_word text)
 
 abbrev pub begins_entry : Option ℕ → Bool
 begins_entry None = false
@@ -62,14 +62,14 @@ is_entry text = begins_entry (find (λ b. not (nat_eq b 32 || nat_eq b 9)) text)
 abbrev pub is_one_line : List ℕ → Bool
 is_one_line text = not (list_any (λ b. nat_eq b 10) text)
 
-abbrev pub filled : Result (List ℕ) FromHexError → Option (List ℕ)
-filled (Ok []) = None
-filled (Ok (b ∷ bytes)) = Some (b ∷ bytes)
-filled (Err e) = None
+abbrev pub some_bytes : Result (List ℕ) FromHexError → Option (List ℕ)
+some_bytes (Ok []) = None
+some_bytes (Ok (b ∷ bytes)) = Some (b ∷ bytes)
+some_bytes (Err e) = None
 
 -- an even number of hexadecimal digits of either case, at least two
 unfoldable pub bytes_of : List ℕ → Option (List ℕ)
-bytes_of text = filled (decode_of text)
+bytes_of text = some_bytes (decode_of text)
 
 abbrev pub seed_in : Result (List ℕ) FromHexError → Option (List ℕ)
 seed_in (Ok bytes) = Some bytes

@@ -1,10 +1,10 @@
 // Events of a script.
 ghost use Rattle.std.specs.Prelude.{◌≡◌, ◌≤◌, ◌++◌, ◌∷◌, [], true, false, cond, IfOk, OnOk, None, Some};
 ghost use Rattle.ug_types.specs.Ends.{Rose};
-ghost use Rattle.ug_console.specs.Runs.{Closes, Steps};
+ghost use Rattle.ug_command_io.specs.Runs.{Closes, Steps};
 ghost use Rattle.ug_core.specs.Event.{daemon_of, has_numbers};
 ghost use Rattle.ug_core.specs.Stops.{IsReadable};
-ghost use Rattle.ug_play.specs.Play.{tells_memory};
+ghost use Rattle.ug_simulation.specs.Play.{tells_memory};
 ghost use Rattle.ug_script.specs.Journal.{happened_from};
 ghost use Rattle.ug_script.specs.RuleFiles.{IsStillOn};
 ghost use Rattle.ug_store.specs.Scripted.{coming_up, plan_at, stops_by};
@@ -20,7 +20,7 @@ use crate::start::restart_daemon;
 use crate::text::{outcome_text, put, stopped_text, tells_memory};
 use std::alloc::Global;
 use ug_audit::Panel;
-use ug_console::Ran;
+use ug_command_io::Ran;
 use ug_core::{Event, Report};
 use ug_store::{MemDisk, Planned, RuleDisk};
 use ug_sysfs::{SimKernel, Sysfs};
@@ -36,7 +36,8 @@ fn plan_failure(disk: &mut MemDisk, planned: &Planned) -> Result<(), NoMemory>
 }
 
 fn plan_failures(disk: &mut MemDisk, plan: &[Planned]) -> Result<(), NoMemory>
-    ensures ok { OnOk result (disk.new ≡ record disk.old { planned = disk.old.planned ++ plan.now }) }
+    ensures ok { OnOk result (disk.new
+        ≡ record disk.old { planned = disk.old.planned ++ plan.now }) }
     ensures same { IsStillOn disk.old disk.new }
 {
     for planned in plan {
@@ -59,7 +60,8 @@ fn begin_disk(disk: &mut MemDisk, plan: &[Planned]) -> Result<(), NoMemory>
 fn handle(alloc: Global, session: &mut Session, event: &Event, kernel: &mut SimKernel)
     requires { has_numbers (daemon_of session.old.daemon) kernel.old.faults session.old.disk.faults
         ≡ true }
-    ensures played { IsEventPlayed event.now (daemon_of session.old.daemon) kernel.old session.old.disk
+    ensures played { IsEventPlayed event.now
+        (daemon_of session.old.daemon) kernel.old session.old.disk
         (daemon_of session.new.daemon) kernel.new session.new.disk }
     ensures readable { tells_memory (daemon_of session.new.daemon).sweep.entries ≡ false
         → kernel.new.ran_out ≡ false → session.new.disk.ran_out ≡ false
@@ -99,7 +101,8 @@ fn put_outcome<K: Sink>(alloc: Global, report: &Report, out: &mut K) -> Ran
 fn write_event<K: Sink>(alloc: Global, session: &mut Session, out: &mut K) -> Ran
     requires { session.old.daemon.report.entries.entries
         ≡ (daemon_of session.old.daemon).sweep.entries }
-    ensures ran { (w : World) → Steps (replay.finished (record { daemon = daemon_of session.old.daemon; world = w; disk = session.old.disk }))
+    ensures ran { (w : World) → Steps (replay.finished
+        (record { daemon = daemon_of session.old.daemon; world = w; disk = session.old.disk }))
         (record { daemon = daemon_of session.new.daemon; world = over w; disk = session.new.disk })
         (K.held out.old) (K.held out.new) result }
     ensures taken { (¬ (result ≡ Ran.Bad)) × (¬ (result ≡ Ran.TooLong)) }
@@ -219,7 +222,11 @@ fn play_event<K: Sink>(
         ≡ true }
     ensures ran { Steps (came_of setup.now plan.now
         (event_from event.now (daemon_of session.old.daemon) kernel.old session.old.disk))
-        (record { daemon = daemon_of session.new.daemon; world = kernel.new; disk = session.new.disk })
+        (record {
+          daemon = daemon_of session.new.daemon;
+          world = kernel.new;
+          disk = session.new.disk;
+        })
         (K.held out.old) (K.held out.new) result }
     ensures readable { result ≡ Ran.Done → IsReadable (happened_from event.now
         (daemon_of session.old.daemon) kernel.old session.old.disk) }
@@ -253,9 +260,14 @@ fn run_event<K: Sink>(
 ) -> Ran
     requires { has_numbers (daemon_of session.old.daemon) kernel.old.faults session.old.disk.faults
         ≡ true }
-    ensures ran { Steps (came_of setup.now plan.now (event_from event.now (daemon_of session.old.daemon) kernel.old
+    ensures ran { Steps
+        (came_of setup.now plan.now (event_from event.now (daemon_of session.old.daemon) kernel.old
         (replay.begun_disk plan.now session.old.disk)))
-        (record { daemon = daemon_of session.new.daemon; world = kernel.new; disk = session.new.disk })
+        (record {
+          daemon = daemon_of session.new.daemon;
+          world = kernel.new;
+          disk = session.new.disk;
+        })
         (K.held out.old) (K.held out.new) result }
     ensures readable { result ≡ Ran.Done → IsReadable (happened_from event.now
         (daemon_of session.old.daemon) kernel.old (replay.begun_disk plan.now session.old.disk)) }
@@ -279,13 +291,19 @@ pub fn next_event<K: Sink>(
     kernel: &mut SimKernel,
     out: &mut K,
 ) -> Ran
-    ensures ran { Steps (event_by setup.now event.now plan.now (daemon_of session.old.daemon) kernel.old session.old.disk)
-        (record { daemon = daemon_of session.new.daemon; world = kernel.new; disk = session.new.disk })
+    ensures ran { Steps (event_by setup.now event.now plan.now
+        (daemon_of session.old.daemon) kernel.old session.old.disk)
+        (record {
+          daemon = daemon_of session.new.daemon;
+          world = kernel.new;
+          disk = session.new.disk;
+        })
         (K.held out.old) (K.held out.new) result }
     ensures readable { result ≡ Ran.Done → IsReadable (happened_from event.now
         (daemon_of session.old.daemon) kernel.old (replay.begun_disk plan.now session.old.disk)) }
     ensures numbers { result ≡ Ran.Bad
-        → has_numbers (daemon_of session.old.daemon) kernel.old.faults session.old.disk.faults ≡ false }
+        → has_numbers (daemon_of session.old.daemon) kernel.old.faults session.old.disk.faults
+        ≡ false }
     ensures short { ¬ (result ≡ Ran.TooLong) }
     ensures counted { K.faults out.old ≤ K.faults out.new }
     ensures cause { result ≡ Ran.SinkFailed → Rose (K.faults out.old) (K.faults out.new) }

@@ -1,19 +1,19 @@
 // The machine that makes the rules of a script's devices.
 ghost use Rattle.std.specs.Prelude.{◌≡◌, ◌++◌, ℕ, List, Option, Some, None};
 ghost use Rattle.ug_types.specs.Ends.{Rose};
-ghost use Rattle.ug_console.specs.Statuses.{Answers, status_of};
-ghost use Rattle.ug_console.specs.declared.results.Ended.{Ended};
+ghost use Rattle.ug_command_io.specs.Statuses.{AnswersLines, status_of};
+ghost use Rattle.ug_command_io.specs.declared.results.Ended.{Ended};
 ghost use Rattle.ug_lines.specs.Lines.{lines_of};
 ghost use Rattle.ug_script.specs.Script.{Script};
 ghost use Rattle.ug_script.specs.Generating.{IsFirstPolicy, TellsFaultAlone, generate_end, generate_step, generator_state};
 
 use crate::interpreter::Interpreter;
 use std::alloc::Global;
-use ug_console::{Machine, Ran, run};
+use ug_command_io::{Machine, Ran, run};
 use ug_sysfs::SimKernel;
 use ug_types::{Sink, Source};
 
-/// A machine of `ug_console` that takes a script's lines over the kernel that it is lent. It carries out setup lines, `plug` and `unplug`,
+/// A machine of `ug_command_io` that takes a script's lines over the kernel that it is lent. It carries out setup lines, `plug` and `unplug`,
 /// only reads the others, and writes the rules of the devices that are there at the end.
 #[derive(Drop)]
 pub struct Generator {
@@ -71,7 +71,7 @@ pub fn generate_policy<S: Source, K: Sink>(
     kernel: &mut SimKernel,
 ) -> u8
     ensures answers { (all base : List ℕ) → S.left input.old ≡ Some all → K.held out.old ≡ Some base
-        → (script : Option Script) × Answers generate_step generate_end (None, kernel.old)
+        → (script : Option Script) × AnswersLines generate_step generate_end (None, kernel.old)
         all base (S.left input.new) (K.held out.new) (script, kernel.new) result }
     ensures policy { (all base : List ℕ) → S.left input.old ≡ Some all → K.held out.old ≡ Some base
         → result ≡ 0 → (text : List ℕ) × (K.held out.new ≡ Some (base ++ text))

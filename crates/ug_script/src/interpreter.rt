@@ -1,7 +1,7 @@
 // The machine that takes a script's lines.
 ghost use Rattle.std.specs.Prelude.{◌≡◌, ◌≤◌, ◌⊎◌, ℕ, List, Option, None, Some};
-ghost use Rattle.ug_console.specs.Fold.{of_first};
-ghost use Rattle.ug_console.specs.Runs.{Closes, Steps};
+ghost use Rattle.ug_command_io.specs.Fold.{of_first};
+ghost use Rattle.ug_command_io.specs.Runs.{Closes, Steps};
 ghost use Rattle.ug_types.specs.Ends.{Rose};
 ghost use Rattle.ug_script.specs.Script.{Script};
 ghost use Rattle.ug_sysfs.specs.World.{World};
@@ -15,12 +15,12 @@ use crate::progress::Running;
 use crate::step::StepFault;
 use crate::text::put;
 use std::alloc::Global;
-use ug_console::{Machine, Ran};
+use ug_command_io::{Machine, Ran};
 use ug_generate::generated_text;
 use ug_sysfs::SimKernel;
 use ug_types::{Line, Sink};
 
-/// A machine of `ug_console` that takes a script's lines, over the kernel that it is lent. It keeps neither limits nor its end:
+/// A machine of `ug_command_io` that takes a script's lines, over the kernel that it is lent. It keeps neither limits nor its end:
 /// who hands it lines does.
 #[derive(Drop)]
 pub struct Interpreter {

@@ -3,7 +3,7 @@ ghost use Rattle.std.specs.Prelude.{◌≡◌, ◌≤◌, ◌↔◌, ℕ, false,
 ghost use Rattle.ug_types.specs.NodeNames.{IsNodeName};
 ghost use Rattle.ug_types.specs.declared.verdict.Target.TheVariants as target;
 ghost use Rattle.ug_types.specs.declared.verdict.Cause.TheVariants as cause;
-ghost use Rattle.ug_types.specs.declared.control.Write.TheVariants as write;
+ghost use Rattle.ug_kernel.specs.declared.control.Write.TheVariants as write;
 ghost use Rattle.ug_kernel.specs.declared.calls.Wrote.TheVariants as wrote;
 ghost use Rattle.ug_kernel.specs.Along.{Along, Made};
 ghost use Rattle.ug_kernel.specs.Defaults.{HasOnEntries};
@@ -32,13 +32,13 @@ ghost use Rattle.ug_script.specs.Journal.{StaysRecorded};
 ghost use Rattle.ug_script.specs.Laws.{StaysLawful};
 ghost use Rattle.ug_script.specs.Schedules.{DoesAtOnce, StaysScheduled};
 ghost use Rattle.ug_script.specs.Script.{Script};
-ghost use Rattle.ug_script.specs.Words.{moment_of, name_of};
+ghost use Rattle.ug_script.specs.Words.{moment_word, name_of};
 
 /// Names are read as themselves, each moment up to 250,000,000,000 is read from its decimal text, and nothing else is read.
 pub fn words_law()
     ensures names { (text name : List ℕ) → (name_of text ≡ Some name)
         ↔ (IsNodeName text × (length text ≤ 31) × (name ≡ text)) }
-    ensures moments { (text : List ℕ) (moment : ℕ) → (moment_of text ≡ Some moment)
+    ensures moments { (text : List ℕ) (moment : ℕ) → (moment_word text ≡ Some moment)
         ↔ ((text ≡ decimal moment) × (moment ≤ 250000000000)) }
 {}
 
@@ -180,7 +180,8 @@ pub fn default_law()
         ∷ entry.Intent 1 (codes "usb1") write.DefaultOff
         ∷ entry.Wrote 1 (codes "usb1") write.DefaultOff wrote.Done
         ∷ entry.End 1 ∷ [] }
-    ensures born_off { (event_at 101 (born_later (event_at 100 first_with_none))).daemon.sweep.entries
+    ensures born_off { (event_at 101
+        (born_later (event_at 100 first_with_none))).daemon.sweep.entries
         ≡ entry.Event 2 (record { 0 = 101 })
         ∷ entry.Judged 2 (codes "1-1") (record { 0 = 2 }) target.Block cause.Implicit
         ∷ entry.End 2 ∷ [] }
@@ -191,7 +192,8 @@ pub fn default_law()
         ∷ entry.Wrote 1 (codes "usb1") write.DefaultOff wrote.Failed
         ∷ entry.Unsettled (codes "usb1") (fault.Call (record { call = 10; count = 1 }))
         ∷ entry.End 1 ∷ [] }
-    ensures born_on { (event_at 101 (born_later (event_with 100 [] tenth_fails first_with_none))).daemon.sweep.entries
+    ensures born_on { (event_at 101
+        (born_later (event_with 100 [] tenth_fails first_with_none))).daemon.sweep.entries
         ≡ entry.Event 2 (record { 0 = 101 })
         ∷ entry.Intent 1 (codes "usb1") write.DefaultOff
         ∷ entry.Wrote 1 (codes "usb1") write.DefaultOff wrote.Done

@@ -1,8 +1,8 @@
 // The run of a script by single lines.
 ghost use Rattle.std.specs.Prelude.{◌≡◌, ◌≢◌, ◌≤◌, ℕ, true, List, None, Option, Some};
-ghost use Rattle.ug_console.specs.Fold as fold;
+ghost use Rattle.ug_command_io.specs.Fold as fold;
 ghost use Rattle.ug_types.specs.Ends.{Rose};
-ghost use Rattle.ug_console.specs.Runs.{Closes};
+ghost use Rattle.ug_command_io.specs.Runs.{Closes};
 ghost use Rattle.ug_script.specs.Generating as generating;
 ghost use Rattle.ug_script.specs.Generating.{generate_end};
 ghost use Rattle.ug_script.specs.Grammar.{step_of_line};
@@ -12,7 +12,7 @@ ghost use Rattle.ug_script.specs.Replay.{StartsAgain, TakesLine, runner_state, s
 
 use crate::interpreter::Interpreter;
 use std::alloc::Global;
-use ug_console::{Ran, is_within};
+use ug_command_io::{Ran, is_within};
 use ug_sysfs::SimKernel;
 use ug_types::Sink;
 
@@ -43,7 +43,8 @@ impl Runner {
         requires { self.old.so_far ≡ Ran.Done }
         ensures taken { TakesLine script_step (runner_state self.old) kernel.old line.now
             (K.held out.old) (K.held out.new) result (runner_state self.new) kernel.new }
-        ensures why { (s : Script) → (runner_state self.old).script ≡ Some s → fold.is_within self.old.lines line.now ≡ true
+        ensures why { (s : Script) → (runner_state self.old).script ≡ Some s
+            → fold.is_within self.old.lines line.now ≡ true
             → StartsAgain (step_of_line line.now) s kernel.old result }
         ensures readable { result ≡ Ran.Done
             → LineReads ((runner_state self.old).script, kernel.old) line.now }
@@ -86,7 +87,8 @@ impl Runner {
         ensures taken { (runner_state self.old).so_far ≡ Ran.Done
             → TakesLine script_step (runner_state self.old) kernel.old line.now
             (K.held out.old) (K.held out.new) result (runner_state self.new) kernel.new }
-        ensures why { (s : Script) → (runner_state self.old).so_far ≡ Ran.Done → (runner_state self.old).script ≡ Some s
+        ensures why { (s : Script) → (runner_state self.old).so_far ≡ Ran.Done
+            → (runner_state self.old).script ≡ Some s
             → fold.is_within (runner_state self.old).lines line.now ≡ true
             → StartsAgain (step_of_line line.now) s kernel.old result }
         ensures readable { (runner_state self.old).so_far ≡ Ran.Done → result ≡ Ran.Done
@@ -111,7 +113,8 @@ impl Runner {
     /// Writes the last line, which tells the number of events. It is `Bad` where no line was taken.
     pub fn finish<K: Sink>(&mut self, out: &mut K) -> Ran
         ensures closed { (runner_state self.old).so_far ≡ Ran.Done
-            → Closes (script_end (runner_state self.old).script) (K.held out.old) (K.held out.new) result }
+            → Closes (script_end (runner_state self.old).script) (K.held out.old)
+            (K.held out.new) result }
         ensures counted { K.faults out.old ≤ K.faults out.new }
         ensures cause { (runner_state self.old).so_far ≡ Ran.Done → result ≡ Ran.SinkFailed
             → Rose (K.faults out.old) (K.faults out.new) }

@@ -1,7 +1,7 @@
 // A script whose first line was read.
 ghost use Rattle.std.specs.Prelude.{◌≡◌, ◌≤◌, ◌-◌, ◌++◌, ◌∷◌, [], ℕ, false, List, Option, Some, IfOk, OnOk};
 ghost use Rattle.ug_types.specs.Ends.{Rose};
-ghost use Rattle.ug_console.specs.Runs.{Steps};
+ghost use Rattle.ug_command_io.specs.Runs.{Steps};
 ghost use Rattle.ug_sysfs.specs.World.{World, moved};
 ghost use Rattle.ug_script.specs.Generating as generating;
 ghost use Rattle.ug_script.specs.Generating.{skimmed, skimmed_if};
@@ -25,7 +25,7 @@ use crate::setup::Setup;
 use crate::start::{restart_daemon, start_daemon};
 use crate::step::{Plan, SetupLine, Step, StepFault};
 use std::alloc::Global;
-use ug_console::Ran;
+use ug_command_io::Ran;
 use ug_core::Event;
 use ug_print::RulesTextFault;
 use ug_store::Planned;
@@ -62,14 +62,20 @@ fn planned_event<K: Sink>(
     kernel: &mut SimKernel,
     out: &mut K,
 ) -> Ran
-    ensures ran { Steps (event_by setup.now event.now plan.old.items (daemon_of session.old.daemon) kernel.old session.old.disk)
-        (record { daemon = daemon_of session.new.daemon; world = kernel.new; disk = session.new.disk })
+    ensures ran { Steps (event_by setup.now event.now plan.old.items
+        (daemon_of session.old.daemon) kernel.old session.old.disk)
+        (record {
+          daemon = daemon_of session.new.daemon;
+          world = kernel.new;
+          disk = session.new.disk;
+        })
         (K.held out.old) (K.held out.new) result }
     ensures readable { result ≡ Ran.Done → IsReadable (happened_from event.now
         (daemon_of session.old.daemon) kernel.old
         (replay.begun_disk plan.old.items session.old.disk)) }
     ensures numbers { result ≡ Ran.Bad
-        → has_numbers (daemon_of session.old.daemon) kernel.old.faults session.old.disk.faults ≡ false }
+        → has_numbers (daemon_of session.old.daemon) kernel.old.faults session.old.disk.faults
+        ≡ false }
     ensures short { ¬ (result ≡ Ran.TooLong) }
     ensures planned { plan.new.items ≡ [] }
     ensures counted { K.faults out.old ≤ K.faults out.new }
@@ -135,7 +141,8 @@ impl Running {
     fn set_up(&mut self, line: SetupLine) -> Ran
         requires { AsksForRule line }
         ensures silent { ¬ (result ≡ Ran.SinkFailed) }
-        ensures ran { (w : World) (held : Option (List ℕ)) → Steps (line_taken line (script_of self.old) w)
+        ensures ran { (w : World) (held : Option (List ℕ))
+            → Steps (line_taken line (script_of self.old) w)
             (Some (script_of self.new), w) held held result }
     {
         if !takes_setup(&self.phase) {
@@ -151,7 +158,8 @@ impl Running {
     /// Takes what the kernel does by itself, and writes nothing.
     fn carry_out(&mut self, action: Move, kernel: &mut SimKernel) -> Ran
         ensures silent { ¬ (result ≡ Ran.SinkFailed) }
-        ensures ran { (held : Option (List ℕ)) → Steps (replay.quiet (with_setup_closed (script_of self.old))
+        ensures ran { (held : Option (List ℕ))
+            → Steps (replay.quiet (with_setup_closed (script_of self.old))
             (replay.with_devices (moved action kernel.old.kernel.devices) kernel.old))
             (Some (script_of self.new), kernel.new) held held result }
     {
@@ -175,7 +183,8 @@ impl Running {
             (Some (script_of self.new), kernel.new) (K.held out.old) (K.held out.new) result }
         ensures readable { result ≡ Ran.Done
             → StepReads (Some (Step.Event event.now)) (script_of self.old) kernel.old }
-        ensures numbers { result ≡ Ran.Bad → has_numbers (daemon_in (script_of self.old)) kernel.old.faults
+        ensures numbers { result ≡ Ran.Bad
+            → has_numbers (daemon_in (script_of self.old)) kernel.old.faults
             (disk_in (script_of self.old)).faults ≡ false }
         ensures short { result ≡ Ran.TooLong
             → can_start (script_of self.old).setup (script_of self.old).phase ≡ false }
@@ -204,7 +213,8 @@ impl Running {
         ensures readable { result ≡ Ran.Done → FirstReads (script_of self.old) }
         ensures short { result ≡ Ran.TooLong
             → can_start (script_of self.old).setup (script_of self.old).phase ≡ false }
-        ensures ran { (w : World) (held : Option (List ℕ)) → Steps (restart_taken (script_of self.old) w)
+        ensures ran { (w : World) (held : Option (List ℕ))
+            → Steps (restart_taken (script_of self.old) w)
             (Some (script_of self.new), w) held held result }
     {
         match start_daemon(alloc, &self.setup) {
@@ -226,7 +236,8 @@ impl Running {
         ensures readable { result ≡ Ran.Done → FirstReads (script_of self.old) }
         ensures short { result ≡ Ran.TooLong
             → can_start (script_of self.old).setup (script_of self.old).phase ≡ false }
-        ensures ran { (w : World) (held : Option (List ℕ)) → Steps (restart_taken (script_of self.old) w)
+        ensures ran { (w : World) (held : Option (List ℕ))
+            → Steps (restart_taken (script_of self.old) w)
             (Some (script_of self.new), w) held held result }
     {
         if let Phase::Started(session) = &mut self.phase {
@@ -246,7 +257,8 @@ impl Running {
             (Some (script_of self.new), kernel.new) (K.held out.old) (K.held out.new) result }
         ensures readable { result ≡ Ran.Done
             → StepReads (Some (Step.Event event.now)) (script_of self.old) kernel.old }
-        ensures numbers { result ≡ Ran.Bad → has_numbers (daemon_in (script_of self.old)) kernel.old.faults
+        ensures numbers { result ≡ Ran.Bad
+            → has_numbers (daemon_in (script_of self.old)) kernel.old.faults
             (disk_in (script_of self.old)).faults ≡ false }
         ensures short { result ≡ Ran.TooLong
             → can_start (script_of self.old).setup (script_of self.old).phase ≡ false }

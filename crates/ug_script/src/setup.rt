@@ -33,7 +33,13 @@ impl Model for Setup {
 
     ghost Value = { SetupState };
 
-    ghost view = { λ s. record { rules = s.rules; settings = s.settings; access = s.access.items; seed = s.seed; zone = s.zone } };
+    ghost view = { λ s. record {
+      rules = s.rules;
+      settings = s.settings;
+      access = s.access.items;
+      seed = s.seed;
+      zone = s.zone;
+    } };
 
     ghost invariant = { λ s. IfSome s.zone (λ offset. IsTrue (is_offset offset)) };
 }

@@ -1,7 +1,7 @@
 // The daemons that a script starts.
 ghost use Rattle.std.specs.Prelude.{◌≡◌, ◌≤◌, length, pos, true, false, Err, Ok, IfOk, IfSome, IsTrue, OnErr, OnOk};
-ghost use Rattle.ug_console.specs.Fold.{BadLine, InputTooLong};
-ghost use Rattle.ug_rules.specs.RuleFile.{CanSave, IsSaveable};
+ghost use Rattle.ug_command_io.specs.Fold.{BadLine, InputTooLong};
+ghost use Rattle.ug_ruleset.specs.RuleFile.{CanSave, IsSaveable};
 ghost use Rattle.ug_script.specs.RuleFiles.{IsStillOn};
 ghost use Rattle.ug_core.specs.Event.{daemon_of};
 ghost use Rattle.ug_core.specs.Policy.{clock_of};
@@ -10,7 +10,7 @@ ghost use Rattle.ug_rule.specs.Files.{file_read};
 ghost use Rattle.ug_store.specs.Scripted.{world_at_first};
 ghost use Rattle.ug_print.specs.RuleTexts.{rules_text_of};
 ghost use Rattle.ug_script.specs.Script.{fits_file, no_start_of};
-ghost use Rattle.ug_script.specs.Setup.{StartsOn, after_reading, beside_of, clock_ahead, given_or, is_offset, no_seed, policy_of, rules_disk, rules_from, started};
+ghost use Rattle.ug_script.specs.Setup.{StartsOn, after_reading, beside_of, clock_ahead, given_or, is_offset, no_seed, policy_of, rules_disk, rules_from, first_started};
 
 use crate::access::access_of;
 use crate::session::Session;
@@ -172,7 +172,7 @@ fn start_on(
 
 /// The daemon that judges by the setup lines, before its first event, which is number 1.
 pub fn start_daemon(alloc: Global, setup: &Setup) -> Result<Session, RulesTextFault>
-    ensures daemon { IfOk result (λ s. daemon_of s.daemon ≡ started setup.now) }
+    ensures daemon { IfOk result (λ s. daemon_of s.daemon ≡ first_started setup.now) }
     ensures disk { IfOk result (λ s. s.disk ≡ rules_disk setup.now) }
     ensures fits { OnOk result (fits_file setup.now ≡ true) }
     ensures saves { OnOk result (CanSave setup.now.rules) }

@@ -1,8 +1,8 @@
 // The machine that counts a script's journal in place of writing it.
 ghost use Rattle.std.specs.Prelude.{◌≡◌, ◌⊎◌, ℕ, List, Some, None, false};
 ghost use Rattle.ug_types.specs.Ends.{Rose};
-ghost use Rattle.ug_console.specs.Statuses.{Answers, status_of};
-ghost use Rattle.ug_console.specs.declared.results.Ended.{Ended};
+ghost use Rattle.ug_command_io.specs.Statuses.{AnswersLines, status_of};
+ghost use Rattle.ug_command_io.specs.declared.results.Ended.{Ended};
 ghost use Rattle.ug_kernel.specs.Kernel.{IsKernel};
 ghost use Rattle.ug_lines.specs.Lines.{lines_of};
 ghost use Rattle.ug_script.specs.Against.{LacksNumbers, RefusesScript, SpeaksAgainst};
@@ -13,11 +13,11 @@ use crate::interpreter::Interpreter;
 use crate::text::put;
 use crate::totals::{Totals, line_of_totals};
 use std::alloc::Global;
-use ug_console::{Machine, Ran, run};
+use ug_command_io::{Machine, Ran, run};
 use ug_sysfs::SimKernel;
 use ug_types::{MemSink, Sink, Source};
 
-/// A machine of `ug_console` that runs a script over the kernel that it is lent, and keeps four numbers of its journal.
+/// A machine of `ug_command_io` that runs a script over the kernel that it is lent, and keeps four numbers of its journal.
 #[derive(Drop)]
 pub struct Summarizer {
     script: Interpreter,
@@ -92,7 +92,8 @@ pub fn summarize<S: Source, K: Sink>(
     kernel: &mut SimKernel,
 ) -> u8
     ensures answers { (all base : List ℕ) → S.left input.old ≡ Some all → K.held out.old ≡ Some base
-        → (summary : Summary) × Answers summary_step summary_end ((None, no_totals), kernel.old)
+        → (summary : Summary)
+        × AnswersLines summary_step summary_end ((None, no_totals), kernel.old)
         all base (S.left input.new) (K.held out.new) (summary, kernel.new) result }
     ensures told { (all base : List ℕ) → S.left input.old ≡ Some all → K.held out.old ≡ Some base
         → TellsSummary kernel.old all base (K.held out.new) result }

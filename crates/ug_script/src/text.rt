@@ -1,16 +1,17 @@
 // The text of an event.
 ghost use Rattle.std.specs.Prelude.{◌≡◌, ◌≤◌, ◌++◌, Some, IfOk, OnOk};
 ghost use Rattle.ug_types.specs.Ends.{Rose};
-ghost use Rattle.ug_console.specs.Runs.{Closes};
-ghost use Rattle.ug_play.specs.Play as play;
+ghost use Rattle.ug_command_io.specs.Runs.{Closes};
+ghost use Rattle.ug_simulation.specs.Play as play;
 ghost use Rattle.ug_script.specs.Replay as replay;
 ghost use Rattle.ug_script.specs.Replay.{terminated, lines_text};
 
 use crate::quoting::push_reply;
 use std::alloc::Global;
-use ug_console::Ran;
+use ug_command_io::Ran;
 use ug_core::{Entry, Fault, Report, line_of};
-use ug_types::{Line, NoMemory, Put, Refusal, Saved, Sink};
+use ug_refusal::Refusal;
+use ug_types::{Line, NoMemory, Put, Saved, Sink};
 
 fn push_line(text: &mut Vec<u8>, entry: &Entry) -> Result<(), NoMemory>
     ensures { OnOk result (text.new.items ≡ text.old.items ++ terminated entry.now) }

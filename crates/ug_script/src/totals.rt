@@ -2,7 +2,7 @@
 ghost use Rattle.std.specs.Prelude.{◌≡◌, ◌≤◌, ◌+◌, ◌∷◌, [], nat_eq, length, codes};
 ghost use Rattle.std.specs.List.{starts_with};
 ghost use Rattle.ug_lines.specs.Lines.{lines_of};
-ghost use Rattle.ug_script.specs.Summing.{count, kept, no_totals, summary_line, with_lines};
+ghost use Rattle.ug_script.specs.Summing.{count, bounded_count, no_totals, summary_line, with_lines};
 
 use ug_lines::next_line;
 use ug_types::Line;
@@ -17,7 +17,7 @@ pub struct Totals {
 }
 
 fn counted(total: u64, line: &[u8], front: &[u8]) -> u64
-    ensures { result ≡ kept (total + count front.now (line.now ∷ [])) }
+    ensures { result ≡ bounded_count (total + count front.now (line.now ∷ [])) }
 {
     if line.starts_with(front) {
         total.saturating_add(1)

@@ -2,11 +2,11 @@
 ghost use Rattle.std.specs.Prelude.{◌≡◌, ◌||◌, Some, find, nat_eq, not};
 ghost use Rattle.std.specs.List.{list_any, position};
 ghost use Rattle.ug_script.specs.Words as words;
-ghost use Rattle.ug_script.specs.Words.{name_of, moment_of, bytes_of, Parses};
+ghost use Rattle.ug_script.specs.Words.{name_of, moment_word, bytes_of, Parses};
 
 use crate::step::StepFault;
 use std::alloc::Global;
-use ug_decimals::parse_decimal;
+use ug_numerals::parse_decimal;
 use ug_types::{NodeName, Text};
 
 /// A node name of at most 31 bytes.
@@ -20,9 +20,9 @@ pub fn name(text: &[u8]) -> Option<NodeName>
 }
 
 /// A decimal number without sign or leading zero, up to 250,000,000,000.
-#[tactic(auto, unfolding(crate::specs::Words::moment_of))]
+#[tactic(auto, unfolding(crate::specs::Words::moment_word))]
 pub fn moment(text: &[u8]) -> Option<u64>
-    ensures { result ≡ moment_of text.now }
+    ensures { result ≡ moment_word text.now }
 {
     match parse_decimal(text) {
         Some(number) => {

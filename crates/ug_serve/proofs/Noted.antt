@@ -5,7 +5,7 @@ use Rattle.std.proofs.lemmas.List.{map-append}
 use Rattle.ug_audit.specs.declared.entry.Entry.{Entry}
 use Rattle.ug_audit.specs.declared.journal.Journal.{Journal}
 use Rattle.ug_audit.specs.declared.panel.Panel.{Panel}
-use Rattle.ug_audit.specs.Journal.{Told, members, SameEntries}
+use Rattle.ug_audit.specs.Journal.{AuditorTold, members, SameEntries}
 use Rattle.ug_audit.specs.Noting.{NotesEntries, without_drops}
 use Rattle.ug_audit.specs.Panels.{Member}
 use Rattle.ug_audit.proofs.Noting.{notes_on, drops_append}
@@ -27,7 +27,7 @@ next_noted {A} make xs i d ms ns os below h k =
     subst (λ (es : List Entry). AreNoted es ms os) (sym grown) (both_noted (map make (take i xs)) (make (get_or xs i d) ∷ []) ms ns os h k)
 
 -- an entry that is pushed into a journal of none, by the panel that it leaves
-pub pushed_alone : {X : Type 0} {F : X → Type 0} (told : Told X F) (e : Entry) (a b : Journal X F) (panel last : Panel X F) → a.panel.now ≡ panel → last ≡ b.panel.now → a.entries.now.entries ≡ [] → SameEntries told a b → without_drops b.entries.now.entries ≡ without_drops a.entries.now.entries ++ e ∷ [] → AreNoted (e ∷ []) (members told panel) (members told last)
+pub pushed_alone : {X : Type 0} {F : X → Type 0} (told : AuditorTold X F) (e : Entry) (a b : Journal X F) (panel last : Panel X F) → a.panel.now ≡ panel → last ≡ b.panel.now → a.entries.now.entries ≡ [] → SameEntries told a b → without_drops b.entries.now.entries ≡ without_drops a.entries.now.entries ++ e ∷ [] → AreNoted (e ∷ []) (members told panel) (members told last)
 pushed_alone {X} {F} told e a b panel last same end none s noted =
     let from = subst (λ (p : Panel X F). NotesEntries s.added (members told p) (members told b.panel.now)) same s.noted in
     record {

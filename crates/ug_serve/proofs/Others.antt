@@ -1,7 +1,7 @@
 -- The calls of a turn and of a flush are of its sessions, and of no other.
 use Rattle.std.proofs.Common.{◌≡◌, ℕ, Bool, true, false, cond, nat_eq, flat_map, List, [], ◌∷◌, ◌++◌, take, Option, refl, sym, ◌∙◌, ap}
-use Rattle.ug_types.specs.declared.waiter.LinkId.{LinkId}
-use Rattle.ug_types.specs.declared.waiter.Ready.{Ready}
+use Rattle.ug_links.specs.declared.waiter.LinkId.{LinkId}
+use Rattle.ug_links.specs.declared.waiter.Ready.{Ready}
 use Rattle.ug_links.specs.declared.step.LinkStep.{LinkStep}
 use Rattle.ug_links.specs.declared.step.LinkStep.TheVariants.{Closed}
 use Rattle.ug_sessions.specs.declared.session.Session.{Session}

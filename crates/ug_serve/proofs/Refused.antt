@@ -10,11 +10,11 @@ use Rattle.ug_acl.specs.Acls.{Addition}
 use Rattle.ug_acl.specs.Pairs.{Pair}
 use Rattle.ug_acl.specs.Texts.{access_read}
 use Rattle.ug_types.specs.declared.rule.Rule.{Rule}
-use Rattle.ug_types.specs.declared.waiter.Waiter
-use Rattle.ug_types.specs.declared.clock.Clock
+use Rattle.ug_links.specs.declared.waiter.Waiter
+use Rattle.ug_links.specs.declared.clock.Clock
 use Rattle.ug_rule.specs.Files.{file_read}
 use Rattle.ug_print.specs.RuleTexts.{rules_text_of}
-use Rattle.ug_conf.specs.Files.{FileStep, Read_at, Listed_at, Tree, text_at, names_at, conf_limit, Says, SaysText, SaysNames}
+use Rattle.ug_conf.specs.Files.{FileStep, Read_at, Listed_at, Tree, text_at, names_at, conf_limit, SaysFiles, SaysText, SaysNames}
 use Rattle.ug_conf.specs.Texts.{conf_read}
 use Rattle.ug_conf.specs.declared.files.FileRead.{FileRead}
 use Rattle.ug_conf.specs.declared.files.FileRead.TheVariants as file
@@ -261,7 +261,7 @@ status_for (Some c) why.DiskFailed h = inr (inr (inr (inl refl)))
 
 module _ {F Y D N W C : Type 0} (reads : F → FileStep → F → Type 0) (sysfs : Sysfs.Ghosts Y)
     (disk : RuleDisk.Ghosts D) (net : Links.Ghosts N) (wait : Waiter.Ghosts W) (ticks : Clock.Ghosts C)
-    (files_told : F → Option Tree) (files_tell : (s : F) (step : FileStep) (t : F) (tree : Tree) → reads s step t → files_told t ≡ Some tree → (files_told s ≡ Some tree) × Says tree step) where
+    (files_told : F → Option Tree) (files_tell : (s : F) (step : FileStep) (t : F) (tree : Tree) → reads s step t → files_told t ≡ Some tree → (files_told s ≡ Some tree) × SaysFiles tree step) where
   open disk use {told as disk_told}
 
   -- what is added tells no more than what was read

@@ -1,11 +1,11 @@
 -- What turns tell, and the run that they are.
 use Rattle.std.proofs.Common.{◌≡◌, ℕ, ◌+◌, ◌<◌, Bool, true, false, List, [], ◌∷◌, ◌++◌, Option, Some, inl, inr, length, map, refl, sym, ◌∙◌, ap, subst, append_assoc, append-nil, length-append}
 use Rattle.std.specs.List.{flat_map}
-use Rattle.ug_types.specs.declared.control.Write.{Write}
+use Rattle.ug_kernel.specs.declared.control.Write.{Write}
 use Rattle.ug_types.specs.declared.verdict.Moment.{Moment}
-use Rattle.ug_types.specs.declared.waiter.Ready.{Ready}
+use Rattle.ug_links.specs.declared.waiter.Ready.{Ready}
 use Rattle.ug_types.specs.Told.{GrowsBy}
-use Rattle.ug_types.specs.Waits.{Waited, Tokens, tokens_of}
+use Rattle.ug_links.specs.Waits.{Waited, Tokens, wait_tokens}
 use Rattle.ug_kernel.specs.Kernel.{Kernel, IsKernel}
 use Rattle.ug_kernel.proofs.Stayed.{unmoving}
 use Rattle.ug_kernel.specs.declared.sysfs.Sysfs
@@ -21,15 +21,15 @@ use Rattle.ug_core.specs.Pending.{TriesSave}
 use Rattle.ug_core.specs.Laws.{AnswersEvent, Handled}
 use Rattle.ug_core.specs.Stops.{AllReadable}
 use Rattle.ug_core.specs.Durable.{WritesEvent}
-use Rattle.ug_rules.specs.RuleFile.{IsSaveable}
+use Rattle.ug_ruleset.specs.RuleFile.{IsSaveable}
 use Rattle.ug_core.specs.declared.storing.Stored.{Stored}
 use Rattle.ug_core.specs.Chain.{Happened, Chain, StaysOnDisk, journal}
 use Rattle.ug_core.proofs.Answered.{answered_stands}
 use Rattle.ug_store.specs.Disk.{Disk}
 use Rattle.ug_store.specs.declared.disk.RuleDisk
 use Rattle.ug_types.specs.declared.saved.Saved.{Saved}
-use Rattle.ug_types.specs.declared.waiter.Waiter
-use Rattle.ug_types.specs.declared.clock.Clock
+use Rattle.ug_links.specs.declared.waiter.Waiter
+use Rattle.ug_links.specs.declared.clock.Clock
 use Rattle.ug_core.proofs.Chained.{is_run}
 use Rattle.ug_audit.specs.Noting.{NotesEntries, without_drops}
 use Rattle.ug_audit.proofs.Noting.{notes_on, drops_append}
@@ -199,7 +199,7 @@ module _ {Y D : Type 0} (sysfs : Sysfs.Ghosts Y) (disk : RuleDisk.Ghosts D) wher
     serves_noted n s made end.WaitFailed t h = subst (λ (x : TurnWorld Y D N W C). NotesEntries (turns_entries made) s.core.members x.core.members) (sym h.2.same) (turns_noted s made h.0 h.1.2)
 
     module _ (links_tell : (s : N) (step : LinkStep) (t : N) (after : List LinkStep) → links s step t → links_told t ≡ Some after → TellsStep (links_told s) step after)
-        (waiter_tells : (s : W) (waited : Waited) (t : W) (after : List (List Ready)) → waits s waited t → waiter_told t ≡ Some after → GrowsBy (waiter_told s) (tokens_of waited) after)
+        (waiter_tells : (s : W) (waited : Waited) (t : W) (after : List (List Ready)) → waits s waited t → waiter_told t ≡ Some after → GrowsBy (waiter_told s) (wait_tokens waited) after)
         (clock_tells : (s : C) (moment : Moment) (t : C) (after : List Moment) → clocks s moment t → clock_told t ≡ Some after → GrowsBy (clock_told s) (moment ∷ []) after) where
       tokens_told : (s : TurnWorld Y D N W C) (turns : List Turned) (t : TurnWorld Y D N W C) (after : List (List Ready)) → Are s turns t → waiter_told t.waiter ≡ Some after → GrowsBy (waiter_told s.waiter) (turns_tokens turns) after
       tokens_told s [] t after h is = grows_none (waiter_told s.waiter) after (ap (λ (x : TurnWorld Y D N W C). waiter_told x.waiter) (sym h) ∙ is)

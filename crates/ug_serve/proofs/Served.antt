@@ -2,8 +2,8 @@
 use Rattle.std.proofs.Common.{◌≡◌, ℕ, List, [], ◌∷◌, ◌++◌, length, Option, Some, None, Result, Ok, Err, inl, inr, refl, sym, ◌∙◌, subst, append-nil, arith}
 use Rattle.rand_core.specs.Stream.{Stream}
 use Rattle.ug_types.specs.Elements.{Has}
-use Rattle.ug_types.specs.declared.waiter.Waiter
-use Rattle.ug_types.specs.declared.clock.Clock
+use Rattle.ug_links.specs.declared.waiter.Waiter
+use Rattle.ug_links.specs.declared.clock.Clock
 use Rattle.ug_conf.specs.Files.{FileStep}
 use Rattle.ug_store.specs.declared.disk.RuleDisk
 use Rattle.ug_kernel.specs.declared.sysfs.Sysfs

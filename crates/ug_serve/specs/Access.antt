@@ -29,7 +29,7 @@ abbrev pub IsInByteOrder : {A : Type 0} → (A → List ℕ) → List A → Type
 IsInByteOrder text xs = IsSorted (λ x y. slice_cmp nat_cmp (text x) (text y)) xs
 
 -- Those names, in byte order. There is one such list.
-pub record AreInOrder (names sorted : List (List ℕ)) : Type 0 where
+pub record AreInByteOrder (names sorted : List (List ℕ)) : Type 0 where
   pub all : IsPermutation names sorted
   pub in_order : IsInByteOrder (λ name. name) sorted
 
@@ -113,7 +113,7 @@ module _ {F : Type 0} (gives : F → FileStep → F → Type 0) (folder : List �
   pub record ReadsInOrder (names : List (List ℕ)) (s : F)
       (result : Result (List Addition) NotStarted) (t : F) : Type 0 where
     pub sorted : List (List ℕ)
-    pub order : AreInOrder names sorted
+    pub order : AreInByteOrder names sorted
     pub reads : ReadsNames sorted [] s result t
 
   -- an absent folder is empty

@@ -2,7 +2,7 @@
 use Rattle.std.specs.Prelude.{◌≡◌, ℕ, List, [], ◌∷◌, ◌++◌, Bool, true, false, Option, Some, None, codes}
 use Rattle.ug_types.specs.declared.access.Section.{Section}
 use Rattle.ug_types.specs.declared.access.Section.TheVariants as section
-use Rattle.ug_types.specs.declared.waiter.LinkId.{LinkId}
+use Rattle.ug_links.specs.declared.waiter.LinkId.{LinkId}
 use Rattle.ug_acl.specs.Acls.{Addition}
 use Rattle.ug_audit.specs.declared.entry.Entry.{Entry}
 use Rattle.ug_audit.specs.declared.entry.Entry.TheVariants as entry

@@ -3,8 +3,8 @@ use Rattle.std.specs.Prelude.{◌≡◌, ℕ, List, [], ◌∷◌, ◌++◌, len
 use Rattle.rand_core.specs.Stream.{Stream}
 use Rattle.ug_types.specs.Principals.{Named}
 use Rattle.ug_types.specs.declared.text_fault.TextFault.{TextFault}
-use Rattle.ug_types.specs.declared.waiter.Waiter
-use Rattle.ug_types.specs.declared.clock.Clock
+use Rattle.ug_links.specs.declared.waiter.Waiter
+use Rattle.ug_links.specs.declared.clock.Clock
 use Rattle.ug_conf.specs.Files.{FileStep}
 use Rattle.ug_store.specs.declared.disk.RuleDisk
 use Rattle.ug_kernel.specs.declared.sysfs.Sysfs

@@ -1,12 +1,12 @@
 -- What the objects tell of turns.
 use Rattle.std.specs.Prelude.{◌≡◌, ℕ, List, ◌++◌, map, Option, Some}
 use Rattle.std.specs.List.{flat_map}
-use Rattle.ug_types.specs.declared.control.Write.{Write}
+use Rattle.ug_kernel.specs.declared.control.Write.{Write}
 use Rattle.ug_types.specs.declared.verdict.Moment.{Moment}
-use Rattle.ug_types.specs.declared.waiter.Ready.{Ready}
+use Rattle.ug_links.specs.declared.waiter.Ready.{Ready}
 use Rattle.ug_types.specs.Told.{GrowsBy}
-use Rattle.ug_types.specs.declared.waiter.Waiter
-use Rattle.ug_types.specs.declared.clock.Clock
+use Rattle.ug_links.specs.declared.waiter.Waiter
+use Rattle.ug_links.specs.declared.clock.Clock
 use Rattle.ug_store.specs.Disk.{Disk}
 use Rattle.ug_store.specs.declared.disk.RuleDisk
 use Rattle.ug_audit.specs.Noting.{without_drops}

@@ -4,7 +4,7 @@ ghost use Rattle.ug_types.specs.Ends.{IsCounted, Rose};
 ghost use Rattle.ug_types.specs.Principals.{principal_of, principal_text};
 ghost use Rattle.ug_acl.specs.Acls.{addition};
 ghost use Rattle.ug_store.specs.Store.{seen_by};
-ghost use Rattle.ug_serve.specs.Access.{AreInOrder, AreListed, AreOnce, GrantsIn, GrantsOf, OpensTo, ReadsGrants};
+ghost use Rattle.ug_serve.specs.Access.{AreInByteOrder, AreListed, AreOnce, GrantsIn, GrantsOf, OpensTo, ReadsGrants};
 ghost use Rattle.ug_serve.specs.Access.{ReadsFolder, ReadsNamed, ReadsNames, added_for, path_in, user_additions, with_new};
 ghost use Rattle.ug_serve.specs.declared.not_started.NotStarted.TheVariants.{DiskFailed, FilesFailed};
 
@@ -142,7 +142,7 @@ fn add_files<F: ConfFiles>(
 }
 
 fn in_byte_order(names: List<Text>) -> Vec<Text>
-    ensures { AreInOrder names result.items }
+    ensures { AreInByteOrder names result.items }
 {
     let mut names = names.into_vec();
     names.sort_unstable_by(|a, b| a.bytes().cmp(b.bytes()));

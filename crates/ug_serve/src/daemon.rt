@@ -23,10 +23,9 @@ use ug_arguments::{WordsFault, read_daemon_words};
 use ug_audit::{Auditor, Entries, Panel};
 use ug_conf::ConfFiles;
 use ug_kernel::Sysfs;
-use ug_links::Links;
+use ug_links::{Clock, Links, Waiter};
 use ug_sessions::Server;
 use ug_store::RuleDisk;
-use ug_types::{Clock, Waiter};
 
 fn status_of(end: TurnEnd) -> u8
     ensures { result ≡ turns_status end }

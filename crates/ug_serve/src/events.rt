@@ -11,9 +11,10 @@ use std::alloc::Global;
 use ug_audit::{Auditor, Panel};
 use ug_core::{Daemon, Event};
 use ug_kernel::Sysfs;
+use ug_links::LinkId;
 use ug_sessions::Server;
 use ug_store::RuleDisk;
-use ug_types::{LinkId, Moment};
+use ug_types::Moment;
 
 /// Whether the numbers leave room for an event.
 pub fn has_room<Y: Sysfs, D: RuleDisk>(

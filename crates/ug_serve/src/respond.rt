@@ -10,9 +10,10 @@ use std::alloc::Global;
 use ug_acl::Acl;
 use ug_audit::{Entry, line_of};
 use ug_core::Daemon;
+use ug_links::LinkId;
 use ug_proto::{Reply, print_reply};
 use ug_sessions::Server;
-use ug_types::{LinkId, Section};
+use ug_types::Section;
 
 /// The section whose `listen` an entry wants, if it is a notice.
 fn section_of(entry: &Entry) -> Option<Section>

@@ -11,10 +11,9 @@ use std::alloc::Global;
 use ug_audit::{Auditor, Panel};
 use ug_core::Daemon;
 use ug_kernel::Sysfs;
-use ug_links::Links;
+use ug_links::{Clock, Links, Ready, Waiter, Woken};
 use ug_sessions::Server;
 use ug_store::RuleDisk;
-use ug_types::{Clock, Ready, Waiter, Woken};
 
 /// What a turn came to.
 #[derive(Clone, Copy, Debug, PartialEq, Eq)]

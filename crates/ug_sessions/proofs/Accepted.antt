@@ -4,8 +4,8 @@ use Rattle.std.proofs.lemmas.List.{append-nil}
 use Rattle.std.proofs.lemmas.Bool.Decides.{nat_tests}
 use Rattle.ug_types.specs.Principals.{Named}
 use Rattle.ug_types.specs.declared.access.Section.{Section}
-use Rattle.ug_types.specs.declared.waiter.LinkId.{LinkId}
-use Rattle.ug_types.specs.declared.waiter.Ready.{Ready}
+use Rattle.ug_links.specs.declared.waiter.LinkId.{LinkId}
+use Rattle.ug_links.specs.declared.waiter.Ready.{Ready}
 use Rattle.ug_links.specs.declared.links.Accepted.{Accepted}
 use Rattle.ug_links.specs.declared.links.Accepted.TheVariants as accepted
 use Rattle.ug_links.specs.declared.links.LinkWrote.TheVariants as wrote

@@ -4,8 +4,8 @@ use Rattle.std.proofs.lemmas.List.{append-nil}
 use Rattle.std.proofs.lemmas.List.Sums.{sum_by-cons}
 use Rattle.std.proofs.lemmas.Grind.{flat_map-append}
 use Rattle.std.proofs.lemmas.Bool.Decides.{nat_tests}
-use Rattle.ug_types.specs.declared.waiter.LinkId.{LinkId}
-use Rattle.ug_types.specs.declared.waiter.Ready.{Ready}
+use Rattle.ug_links.specs.declared.waiter.LinkId.{LinkId}
+use Rattle.ug_links.specs.declared.waiter.Ready.{Ready}
 use Rattle.ug_links.specs.declared.links.Accepted.{Accepted}
 use Rattle.ug_links.specs.declared.links.Accepted.TheVariants as accepted
 use Rattle.ug_links.specs.declared.step.LinkStep.{LinkStep}
@@ -18,7 +18,7 @@ use Rattle.ug_sessions.specs.declared.session.Turn.{Turn}
 use Rattle.ug_sessions.specs.declared.session.Why.TheVariants as why
 use Rattle.ug_sessions.specs.Sessions.{counted_as, counted_up, is_open_session, new_session, none_counted}
 use Rattle.ug_sessions.specs.Accepting.{AtListener, after_room, after_count, after_accepting, accepting_once, accepting_if, accepting_one}
-use Rattle.ug_sessions.specs.Arriving.{Arrival, Joins, Finds_full, Finds_no_room, Nobody, Fails, Lacks_memory, calls_in, sessions_in, is_accepted, is_busy, is_failed, is_memory, KeepLimit, arrivals_counted, AreArrivals}
+use Rattle.ug_sessions.specs.Arriving.{Arrival, Joins, Finds_full, Finds_no_room, Nobody, Fails, Lacks_memory, calls_in, sessions_in, is_accepted, is_busy, is_failed_arrival, is_short_arrival, KeepLimit, arrivals_counted, AreArrivals}
 use Rattle.ug_sessions.specs.Tried.{is_tried}
 
 abbrev after_one : Arrival → Turn → Turn
@@ -175,7 +175,7 @@ same_counts a b f m a' b' f' m' e g h k =
     ap (λ (n : ℕ). with_counts n b f m) e ∙ ap (λ (n : ℕ). with_counts a' n f m) g ∙ ap (λ (n : ℕ). with_counts a' b' n m) h ∙ ap (λ (n : ℕ). with_counts a' b' f' n) k
 
 abbrev summed : List Arrival → ℕ → ℕ → ℕ → ℕ → Turn
-summed xs a b f m = with_counts (plus a (how_many is_accepted xs)) (plus b (how_many is_busy xs)) (plus f (how_many is_failed xs)) (plus m (how_many is_memory xs))
+summed xs a b f m = with_counts (plus a (how_many is_accepted xs)) (plus b (how_many is_busy xs)) (plus f (how_many is_failed_arrival xs)) (plus m (how_many is_short_arrival xs))
 
 -- one field is one more, and the others stay
 other : (p : Arrival → Bool) (x : Arrival) (xs : List Arrival) (n : ℕ) → p x ≡ false → plus n (how_many p xs) ≡ plus n (how_many p (x ∷ xs))
@@ -188,22 +188,22 @@ all_counted : (xs : List Arrival) (a b f m : ℕ) → top a → top b → top f 
 all_counted [] a b f m ta tb tf tm = same_counts a b f m _ _ _ _ (plus_none a 0 ta refl) (plus_none b 0 tb refl) (plus_none f 0 tf refl) (plus_none m 0 tm refl)
 all_counted (Joins n id p ∷ xs) a b f m ta tb tf tm =
     let x : Arrival = Joins n id p in
-    all_counted xs (counted_up a) b f m (up_top a) tb tf tm ∙ same_counts _ _ _ _ _ _ _ _ (this is_accepted x xs a refl) (other is_busy x xs b refl) (other is_failed x xs f refl) (other is_memory x xs m refl)
+    all_counted xs (counted_up a) b f m (up_top a) tb tf tm ∙ same_counts _ _ _ _ _ _ _ _ (this is_accepted x xs a refl) (other is_busy x xs b refl) (other is_failed_arrival x xs f refl) (other is_short_arrival x xs m refl)
 all_counted (Finds_full n id ∷ xs) a b f m ta tb tf tm =
     let x : Arrival = Finds_full n id in
-    all_counted xs a (counted_up b) f m ta (up_top b) tf tm ∙ same_counts _ _ _ _ _ _ _ _ (other is_accepted x xs a refl) (this is_busy x xs b refl) (other is_failed x xs f refl) (other is_memory x xs m refl)
+    all_counted xs a (counted_up b) f m ta (up_top b) tf tm ∙ same_counts _ _ _ _ _ _ _ _ (other is_accepted x xs a refl) (this is_busy x xs b refl) (other is_failed_arrival x xs f refl) (other is_short_arrival x xs m refl)
 all_counted (Finds_no_room n id ∷ xs) a b f m ta tb tf tm =
     let x : Arrival = Finds_no_room n id in
-    all_counted xs a b f (counted_up m) ta tb tf (up_top m) ∙ same_counts _ _ _ _ _ _ _ _ (other is_accepted x xs a refl) (other is_busy x xs b refl) (other is_failed x xs f refl) (this is_memory x xs m refl)
+    all_counted xs a b f (counted_up m) ta tb tf (up_top m) ∙ same_counts _ _ _ _ _ _ _ _ (other is_accepted x xs a refl) (other is_busy x xs b refl) (other is_failed_arrival x xs f refl) (this is_short_arrival x xs m refl)
 all_counted (Nobody n ∷ xs) a b f m ta tb tf tm =
     let x : Arrival = Nobody n in
-    all_counted xs a b f m ta tb tf tm ∙ same_counts _ _ _ _ _ _ _ _ (other is_accepted x xs a refl) (other is_busy x xs b refl) (other is_failed x xs f refl) (other is_memory x xs m refl)
+    all_counted xs a b f m ta tb tf tm ∙ same_counts _ _ _ _ _ _ _ _ (other is_accepted x xs a refl) (other is_busy x xs b refl) (other is_failed_arrival x xs f refl) (other is_short_arrival x xs m refl)
 all_counted (Fails n ∷ xs) a b f m ta tb tf tm =
     let x : Arrival = Fails n in
-    all_counted xs a b (counted_up f) m ta tb (up_top f) tm ∙ same_counts _ _ _ _ _ _ _ _ (other is_accepted x xs a refl) (other is_busy x xs b refl) (this is_failed x xs f refl) (other is_memory x xs m refl)
+    all_counted xs a b (counted_up f) m ta tb (up_top f) tm ∙ same_counts _ _ _ _ _ _ _ _ (other is_accepted x xs a refl) (other is_busy x xs b refl) (this is_failed_arrival x xs f refl) (other is_short_arrival x xs m refl)
 all_counted (Lacks_memory n ∷ xs) a b f m ta tb tf tm =
     let x : Arrival = Lacks_memory n in
-    all_counted xs a b f (counted_up m) ta tb tf (up_top m) ∙ same_counts _ _ _ _ _ _ _ _ (other is_accepted x xs a refl) (other is_busy x xs b refl) (other is_failed x xs f refl) (this is_memory x xs m refl)
+    all_counted xs a b f (counted_up m) ta tb tf (up_top m) ∙ same_counts _ _ _ _ _ _ _ _ (other is_accepted x xs a refl) (other is_busy x xs b refl) (other is_failed_arrival x xs f refl) (this is_short_arrival x xs m refl)
 
 zero_top : top 0
 zero_top = omega arith
@@ -212,7 +212,7 @@ plus_zero : (k : ℕ) → plus 0 k ≡ min k (2 ^ 32 - 1)
 plus_zero k = omega arith
 
 from_none : (xs : List Arrival) → after_all xs none_counted ≡ arrivals_counted xs
-from_none xs = all_counted xs 0 0 0 0 zero_top zero_top zero_top zero_top ∙ same_counts _ _ _ _ _ _ _ _ (plus_zero (how_many is_accepted xs)) (plus_zero (how_many is_busy xs)) (plus_zero (how_many is_failed xs)) (plus_zero (how_many is_memory xs))
+from_none xs = all_counted xs 0 0 0 0 zero_top zero_top zero_top zero_top ∙ same_counts _ _ _ _ _ _ _ _ (plus_zero (how_many is_accepted xs)) (plus_zero (how_many is_busy xs)) (plus_zero (how_many is_failed_arrival xs)) (plus_zero (how_many is_short_arrival xs))
 
 pub accepts_counted : (ready : List Ready) (ls : List Listener) (ss : List Session) (steps : List LinkStep) (r : List Listener × (List Session × Turn)) → Path (walk (accepting_one ready) [] ls (ss, none_counted)) steps r → AreArrivals ss steps r.1.0 r.1.1
 accepts_counted ready ls ss steps r h =

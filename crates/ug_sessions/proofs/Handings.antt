@@ -3,14 +3,14 @@ use Rattle.std.proofs.Common.{◌≡◌, ℕ, Bool, true, false, cond, nat_eq, L
 use Rattle.std.proofs.lemmas.List.{append-nil}
 use Rattle.ug_types.specs.Principals.{Named}
 use Rattle.ug_types.specs.declared.access.Section.{Section}
-use Rattle.ug_types.specs.declared.waiter.LinkId.{LinkId}
+use Rattle.ug_links.specs.declared.waiter.LinkId.{LinkId}
 use Rattle.ug_links.specs.declared.step.LinkStep.{LinkStep}
 use Rattle.ug_sessions.specs.declared.session.Session.{Session}
 use Rattle.ug_sessions.specs.declared.session.Life.{Life}
 use Rattle.ug_sessions.specs.declared.session.Life.TheVariants as life
 use Rattle.ug_sessions.specs.declared.session.Why.TheVariants as why
 use Rattle.ug_sessions.specs.Sessions.{is_open_session, doomed_for}
-use Rattle.ug_sessions.specs.Answering.{Each, takes_text, refused_text, RefusesIf, is_due, with_none_left, with_lines, Passes, GivesUpOne, HandsFirst}
+use Rattle.ug_sessions.specs.Answering.{Each, takes_text, refused_text, RefusesIf, is_due, with_none_left, with_request_lines, Passes, GivesUpOne, HandsFirst}
 use Rattle.ug_sessions.specs.Due.{Dues, Accounts, AccountsBy, AllAccounts, IsNoneOf, HaveOwnIds, Said, Overlong, said_one, said_all, nothing_due, over_due, overlong_of, overlong_all, sent_to}
 use Rattle.ug_sessions.proofs.Saying.{gives_up_if}
 use Rattle.ug_sessions.proofs.Sends.{own}
@@ -106,10 +106,10 @@ module _ (holds : Section → Named → Bool) (steps : List LinkStep) where
   apart_said said [] b p k = subst (λ (l : List Said). AllAccounts holds steps l b) (sym (append-nil said)) k
   apart_said said (x ∷ a) b p k = subst (λ (l : List Said). AllAccounts holds steps l b) (append_assoc said (overlong_of x) (overlong_all a)) (apart_said (said ++ overlong_of x) a b p.1 (others_said said x b p.0 k))
 
-  lines_keep : (said : List Said) (s t : Session) (lines : List (List ℕ)) → t ≡ with_lines lines s → Accounts (said_all holds s.id s.principal nothing_due said) (sent_to s.id steps) s → Accounts (said_all holds t.id t.principal nothing_due said) (sent_to t.id steps) t
+  lines_keep : (said : List Said) (s t : Session) (lines : List (List ℕ)) → t ≡ with_request_lines lines s → Accounts (said_all holds s.id s.principal nothing_due said) (sent_to s.id steps) s → Accounts (said_all holds t.id t.principal nothing_due said) (sent_to t.id steps) t
   lines_keep said s t lines e k =
       subst (λ (x : Session). Accounts (said_all holds x.id x.principal nothing_due said) (sent_to x.id steps) x) (sym e)
-      (marks_keep s.life (said_all holds s.id s.principal nothing_due said) (sent_to s.id steps) s (with_lines lines s) refl (refl, refl, refl) k)
+      (marks_keep s.life (said_all holds s.id s.principal nothing_due said) (sent_to s.id steps) s (with_request_lines lines s) refl (refl, refl, refl) k)
 
   pub hands_keep : (said : List Said) (ss ts : List Session) (id : LinkId) (principal : Named) (line : List ℕ) → HaveOwnIds ss → (h : HandsFirst ss id principal line ts) → AllAccounts holds steps said ss → AllAccounts holds steps (said ++ overlong_all h.front) ts
   hands_keep said ss ts id principal line d h k =

@@ -6,7 +6,7 @@ use Rattle.ug_sessions.specs.declared.session.Why.TheVariants as why
 use Rattle.ug_sessions.specs.declared.session.Life.{Life}
 use Rattle.ug_sessions.specs.declared.session.Life.TheVariants as life
 use Rattle.ug_sessions.specs.Sessions.{is_open_life, is_overlong, doomed_for}
-use Rattle.ug_sessions.specs.Answering.{PutsBehind, PutsWhere, PutsWithin, put_if, with_text, with_answer, AnswersIf, NoticesIf, RefusesIf, is_due, with_none_left, with_lines, refused_text}
+use Rattle.ug_sessions.specs.Answering.{PutsBehind, PutsWhere, PutsWithin, put_if, with_text, with_answer, AnswersIf, NoticesIf, RefusesIf, is_due, with_none_left, with_request_lines, refused_text}
 use Rattle.ug_sessions.specs.Handed.{AreAllLines, AreFirstLines, AreLinesFor, AreLinesBy, HoldsLines}
 
 -- what came is as it was
@@ -106,24 +106,24 @@ refuse_lines false handed bytes s t p h = stays_lines handed bytes s t p h
 pub pass_lines : (handed : List (List ℕ)) (bytes : List ℕ) (s t : Session) → RefusesIf (is_due s) (with_none_left s) t → HoldsLines handed bytes s → HoldsLines handed bytes t
 pass_lines handed bytes s t p h = refuse_lines (is_due s) handed bytes (with_none_left s) t p (of_same handed bytes s (with_none_left s) refl (refl, refl) h)
 
-hand_all : (handed : List (List ℕ)) (bytes line : List ℕ) (lines : List (List ℕ)) (s : Session) → s.framer.lines ≡ line ∷ lines → AreAllLines handed bytes s → AreAllLines (handed ++ line ∷ []) bytes (with_lines lines s)
+hand_all : (handed : List (List ℕ)) (bytes line : List ℕ) (lines : List (List ℕ)) (s : Session) → s.framer.lines ≡ line ∷ lines → AreAllLines handed bytes s → AreAllLines (handed ++ line ∷ []) bytes (with_request_lines lines s)
 hand_all handed bytes line lines s e h = record { lines = append_assoc handed (line ∷ []) lines ∙ ap (λ (l : List (List ℕ)). handed ++ l) (sym e) ∙ h.lines; begun = h.begun; limit = h.limit }
 
 hand_first : {A : Type 0} (handed : List (List ℕ)) (bytes line : List ℕ) (lines : List (List ℕ)) (s : Session) → s.framer.lines ≡ line ∷ lines → AreFirstLines handed bytes s → A
 hand_first handed bytes line lines s e h = let none : ⊥ = (let f : [] ≡ line ∷ lines = sym h.none ∙ e in cc) in absurd none
 
-hand_for : (w : Why) (handed : List (List ℕ)) (bytes line : List ℕ) (lines : List (List ℕ)) (s : Session) → s.framer.lines ≡ line ∷ lines → AreLinesFor w handed bytes s → AreLinesFor w (handed ++ line ∷ []) bytes (with_lines lines s)
+hand_for : (w : Why) (handed : List (List ℕ)) (bytes line : List ℕ) (lines : List (List ℕ)) (s : Session) → s.framer.lines ≡ line ∷ lines → AreLinesFor w handed bytes s → AreLinesFor w (handed ++ line ∷ []) bytes (with_request_lines lines s)
 hand_for why.Backlog handed bytes line lines s e h = hand_first handed bytes line lines s e h
 hand_for why.Memory handed bytes line lines s e h = hand_first handed bytes line lines s e h
 hand_for why.Ended handed bytes line lines s e h = hand_all handed bytes line lines s e h
 hand_for why.Failed handed bytes line lines s e h = hand_all handed bytes line lines s e h
 hand_for why.TooLong handed bytes line lines s e h = hand_all handed bytes line lines s e h
 
-hand_by : (l : Life) (handed : List (List ℕ)) (bytes line : List ℕ) (lines : List (List ℕ)) (s : Session) → s.life ≡ l → s.framer.lines ≡ line ∷ lines → AreLinesBy l handed bytes s → HoldsLines (handed ++ line ∷ []) bytes (with_lines lines s)
-hand_by life.Open handed bytes line lines s e f h = subst (λ (l : Life). AreLinesBy l (handed ++ line ∷ []) bytes (with_lines lines s)) (sym e) (hand_all handed bytes line lines s f h)
-hand_by (life.Doomed w) handed bytes line lines s e f h = subst (λ (l : Life). AreLinesBy l (handed ++ line ∷ []) bytes (with_lines lines s)) (sym e) (hand_for w handed bytes line lines s f h)
-hand_by (life.Closed w) handed bytes line lines s e f h = subst (λ (l : Life). AreLinesBy l (handed ++ line ∷ []) bytes (with_lines lines s)) (sym e) (hand_for w handed bytes line lines s f h)
+hand_by : (l : Life) (handed : List (List ℕ)) (bytes line : List ℕ) (lines : List (List ℕ)) (s : Session) → s.life ≡ l → s.framer.lines ≡ line ∷ lines → AreLinesBy l handed bytes s → HoldsLines (handed ++ line ∷ []) bytes (with_request_lines lines s)
+hand_by life.Open handed bytes line lines s e f h = subst (λ (l : Life). AreLinesBy l (handed ++ line ∷ []) bytes (with_request_lines lines s)) (sym e) (hand_all handed bytes line lines s f h)
+hand_by (life.Doomed w) handed bytes line lines s e f h = subst (λ (l : Life). AreLinesBy l (handed ++ line ∷ []) bytes (with_request_lines lines s)) (sym e) (hand_for w handed bytes line lines s f h)
+hand_by (life.Closed w) handed bytes line lines s e f h = subst (λ (l : Life). AreLinesBy l (handed ++ line ∷ []) bytes (with_request_lines lines s)) (sym e) (hand_for w handed bytes line lines s f h)
 
 -- the line that is handed out is the next one
-pub hand_lines : (handed : List (List ℕ)) (bytes line : List ℕ) (s t : Session) → s.framer.lines ≡ line ∷ t.framer.lines → t ≡ with_lines t.framer.lines s → HoldsLines handed bytes s → HoldsLines (handed ++ line ∷ []) bytes t
-hand_lines handed bytes line s t e p h = stays_lines (handed ++ line ∷ []) bytes (with_lines t.framer.lines s) t p (hand_by s.life handed bytes line t.framer.lines s refl e h)
+pub hand_lines : (handed : List (List ℕ)) (bytes line : List ℕ) (s t : Session) → s.framer.lines ≡ line ∷ t.framer.lines → t ≡ with_request_lines t.framer.lines s → HoldsLines handed bytes s → HoldsLines (handed ++ line ∷ []) bytes t
+hand_lines handed bytes line s t e p h = stays_lines (handed ++ line ∷ []) bytes (with_request_lines t.framer.lines s) t p (hand_by s.life handed bytes line t.framer.lines s refl e h)

@@ -1,8 +1,8 @@
 -- What is read of a session becomes its lines.
 use Rattle.std.proofs.Common.{◌≡◌, ℕ, zero, suc, Bool, true, false, cond, nat_eq, List, [], ◌∷◌, ◌++◌, refl, sym, ap, ◌∙◌, subst, append_assoc}
 use Rattle.std.proofs.lemmas.List.{append-nil}
-use Rattle.ug_types.specs.declared.waiter.LinkId.{LinkId}
-use Rattle.ug_types.specs.declared.waiter.Ready.{Ready}
+use Rattle.ug_links.specs.declared.waiter.LinkId.{LinkId}
+use Rattle.ug_links.specs.declared.waiter.Ready.{Ready}
 use Rattle.ug_links.specs.declared.step.LinkStep.{LinkStep}
 use Rattle.ug_links.specs.declared.step.LinkStep.TheVariants.{Listened, AcceptedAt, ReadFrom, WroteTo, Closed}
 use Rattle.ug_links.specs.declared.step.Reading.{Reading}
@@ -16,7 +16,7 @@ use Rattle.ug_sessions.specs.declared.session.Turn.{Turn}
 use Rattle.ug_sessions.specs.declared.session.Life.{Life}
 use Rattle.ug_sessions.specs.declared.session.Life.TheVariants as life
 use Rattle.ug_sessions.specs.Tokens.{is_read}
-use Rattle.ug_sessions.specs.Sessions.{fed, not_owed, at_end, closed_for}
+use Rattle.ug_sessions.specs.Sessions.{fed, not_owed, behind_its_end, closed_for}
 use Rattle.ug_sessions.specs.Reading.{after_feed, after_read_answer, reading_piece, closing_by, closing_doomed, reading_if, reading_one}
 use Rattle.ug_sessions.specs.Tried.{AllRead}
 use Rattle.ug_sessions.specs.Handed.{bytes_read, AreAllLines, AreLinesBy, HoldsLines}
@@ -115,7 +115,7 @@ answer_on (Bytes new) s t rest r o h = record {
   same = fed_id h.0 s t new rest r h.1;
 }
 answer_on NotYet s t rest r o h = quiet s (not_owed s) (ReadFrom s.id 4096 NotYet ∷ rest) r.0 r.1.0 o refl (refl, refl) refl (ap (λ (l : List LinkStep). bytes_read s.id l) h.1) (ap (λ (x : Bool × (Session × Turn)). x.1.0) h.0)
-answer_on End s t rest r o h = quiet s (at_end s) (ReadFrom s.id 4096 End ∷ rest) r.0 r.1.0 o refl (refl, refl) refl (ap (λ (l : List LinkStep). bytes_read s.id l) h.1) (ap (λ (x : Bool × (Session × Turn)). x.1.0) h.0)
+answer_on End s t rest r o h = quiet s (behind_its_end s) (ReadFrom s.id 4096 End ∷ rest) r.0 r.1.0 o refl (refl, refl) refl (ap (λ (l : List LinkStep). bytes_read s.id l) h.1) (ap (λ (x : Bool × (Session × Turn)). x.1.0) h.0)
 answer_on Failed s t rest r o h = record {
   holds = λ handed bytes k. nothing_came handed bytes s.id (ReadFrom s.id 4096 Failed ∷ rest) r.1.0 (closed_reads s.id s.id rest h.0 h.1 h.2.1) (subst (λ (y : Session). HoldsLines handed bytes y) (sym (ap (λ (x : Bool × (Session × Turn)). x.1.0) h.2.0)) (record { lines = k.lines; begun = k.begun; limit = k.limit }));
   going = λ e. let none : ⊥ = (let f : false ≡ true = sym (ap (λ (x : Bool × (Session × Turn)). x.0) h.2.0) ∙ e in cc) in absurd none;

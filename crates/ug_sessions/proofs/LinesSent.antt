@@ -1,6 +1,6 @@
 -- A flush leaves a session's lines.
 use Rattle.std.proofs.Common.{◌≡◌, ℕ, zero, suc, Bool, true, false, cond, nat_eq, List, [], ◌++◌, length, ◌⊎◌, inl, inr, refl, sym, ap, ◌∙◌, subst}
-use Rattle.ug_types.specs.declared.waiter.LinkId.{LinkId}
+use Rattle.ug_links.specs.declared.waiter.LinkId.{LinkId}
 use Rattle.ug_links.specs.declared.links.LinkWrote.{LinkWrote}
 use Rattle.ug_links.specs.declared.links.LinkWrote.TheVariants as wrote
 use Rattle.ug_links.specs.declared.step.LinkStep.{LinkStep}

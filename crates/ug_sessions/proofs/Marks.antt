@@ -1,8 +1,8 @@
 -- A session is read exactly as the answers so far want it, and its marks are what they say then.
 use Rattle.std.proofs.Common.{◌≡◌, ℕ, zero, suc, Bool, true, false, cond, nat_eq, List, [], ◌∷◌, ◌++◌, Option, Some, None, refl, sym, ap, ◌∙◌, subst, append_assoc}
 use Rattle.std.proofs.lemmas.List.{append-nil}
-use Rattle.ug_types.specs.declared.waiter.LinkId.{LinkId}
-use Rattle.ug_types.specs.declared.waiter.Ready.{Ready}
+use Rattle.ug_links.specs.declared.waiter.LinkId.{LinkId}
+use Rattle.ug_links.specs.declared.waiter.Ready.{Ready}
 use Rattle.ug_links.specs.declared.step.LinkStep.{LinkStep}
 use Rattle.ug_links.specs.declared.step.LinkStep.TheVariants.{Listened, AcceptedAt, ReadFrom, WroteTo, Closed}
 use Rattle.ug_links.specs.declared.step.Reading.{Reading}
@@ -14,7 +14,7 @@ use Rattle.ug_sessions.specs.declared.session.Turn.{Turn}
 use Rattle.ug_sessions.specs.declared.session.Life.{Life}
 use Rattle.ug_sessions.specs.declared.session.Life.TheVariants as life
 use Rattle.ug_sessions.specs.Tokens.{is_read, names_session}
-use Rattle.ug_sessions.specs.Sessions.{is_open_life, fed, not_owed, at_end}
+use Rattle.ug_sessions.specs.Sessions.{is_open_life, fed, not_owed, behind_its_end}
 use Rattle.ug_sessions.specs.Reading.{after_feed, after_read_answer, reading_piece, closing_by, closing_doomed, reading_if, reading_one}
 use Rattle.ug_sessions.specs.Due.{IsNoneOf, HaveOwnIds}
 use Rattle.ug_sessions.specs.LastAnswers.{read_since, last_read, owes_read, has_ended, wants_read}
@@ -98,11 +98,11 @@ answer_read given.NotYet n last s t front rest v r o e next h k =
     read_at (suc n) last s (step ∷ (front ++ rest)) (step ∷ []) r.0 (not_owed s) (behind_none step front rest h.1 z.0) z.1
     (record { reads = subst (λ (l : Life). ReadsOf s.id (suc n) (step ∷ []) l) (sym o) (Nothing_ready n); marked = own_mark last given.NotYet s (not_owed s) s.life (open_mark (Some given.NotYet) (not_owed s) o m); id = refl; who = refl })
 answer_read given.End n last s t front rest v r o e next h k =
-    let z = rest_none n v (false, (at_end s, t)) rest r h.0 refl k in
+    let z = rest_none n v (false, (behind_its_end s, t)) rest r h.0 refl k in
     let step : LinkStep = ReadFrom s.id 4096 given.End in
-    let m : HasMarks (Some given.End) (at_end s) = record { ended = refl; owed = λ f. absurd (no_true f) } in
-    read_at (suc n) last s (step ∷ (front ++ rest)) (step ∷ []) r.0 (at_end s) (behind_none step front rest h.1 z.0) z.1
-    (record { reads = subst (λ (l : Life). ReadsOf s.id (suc n) (step ∷ []) l) (sym o) (Link_ends n); marked = own_mark last given.End s (at_end s) s.life (open_mark (Some given.End) (at_end s) o m); id = refl; who = refl })
+    let m : HasMarks (Some given.End) (behind_its_end s) = record { ended = refl; owed = λ f. absurd (no_true f) } in
+    read_at (suc n) last s (step ∷ (front ++ rest)) (step ∷ []) r.0 (behind_its_end s) (behind_none step front rest h.1 z.0) z.1
+    (record { reads = subst (λ (l : Life). ReadsOf s.id (suc n) (step ∷ []) l) (sym o) (Link_ends n); marked = own_mark last given.End s (behind_its_end s) s.life (open_mark (Some given.End) (behind_its_end s) o m); id = refl; who = refl })
 answer_read given.Failed n last s t front rest v r o e next h k =
     let z = rest_none n v _ rest r h.2.0 refl k in
     read_at (suc n) last s (ReadFrom s.id 4096 given.Failed ∷ (front ++ rest)) (ReadFrom s.id 4096 given.Failed ∷ Closed s.id ∷ []) r.0 _ (behind_closed (ReadFrom s.id 4096 given.Failed) s.id front h.0 rest h.1 h.2.1 z.0) z.1

@@ -1,6 +1,6 @@
 -- A session's writes are its own, and it stays who it is.
 use Rattle.std.proofs.Common.{◌≡◌, ℕ, zero, suc, Bool, true, false, cond, nat_eq, List, [], ◌∷◌, ◌++◌, length, take, ◌⊎◌, inl, inr, sym, ap, ◌∙◌, subst}
-use Rattle.ug_types.specs.declared.waiter.LinkId.{LinkId}
+use Rattle.ug_links.specs.declared.waiter.LinkId.{LinkId}
 use Rattle.ug_types.specs.Principals.{Named}
 use Rattle.ug_links.specs.declared.links.LinkWrote.{LinkWrote}
 use Rattle.ug_links.specs.declared.links.LinkWrote.TheVariants as wrote

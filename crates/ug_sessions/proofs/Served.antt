@@ -3,7 +3,7 @@ use Rattle.std.proofs.Common.{◌≡◌, List, filter, refl, sym, subst}
 use Rattle.ug_links.specs.declared.step.LinkStep.{LinkStep}
 use Rattle.ug_links.specs.Talk.{Return, Talks, and_then}
 use Rattle.ug_links.proofs.Runs.{runs_then}
-use Rattle.ug_types.specs.declared.waiter.Ready.{Ready}
+use Rattle.ug_links.specs.declared.waiter.Ready.{Ready}
 use Rattle.ug_types.specs.Principals.{Named}
 use Rattle.ug_sessions.specs.declared.session.Session.{Session}
 use Rattle.ug_sessions.specs.declared.session.Turn.{Turn}

@@ -1,6 +1,6 @@
 -- Only handing out takes lines away, and nothing adds any but a read.
 use Rattle.std.proofs.Common.{◌≡◌, ℕ, ◌+◌, ◌<◌, ◌≤◌, suc, List, [], ◌∷◌, ◌++◌, length, Bool, true, false, cond, nat_eq, nat_le, sym, ap, ◌∙◌, subst, arith}
-use Rattle.ug_types.specs.declared.waiter.LinkId.{LinkId}
+use Rattle.ug_links.specs.declared.waiter.LinkId.{LinkId}
 use Rattle.ug_types.specs.Principals.{Named}
 use Rattle.ug_sessions.specs.declared.session.Session.{Session}
 use Rattle.ug_sessions.specs.Answering.{Each, PutsWhere, PutsWithin, put_if, takes_text, with_answer, AnswersIf, NoticesIf, AnswersOne, WatchesOne, NoticesOne, GivesUpOne, RefusesIf, is_due, with_none_left, Passes, HandsFirst, refused_text}

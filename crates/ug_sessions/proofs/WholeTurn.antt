@@ -3,8 +3,8 @@ use Rattle.std.proofs.Common.{◌≡◌, ℕ, Bool, true, false, nat_lt, filter,
 use Rattle.std.proofs.lemmas.List.{append-nil}
 use Rattle.ug_types.specs.Principals.{Named}
 use Rattle.ug_types.specs.declared.access.Section.{Section}
-use Rattle.ug_types.specs.declared.waiter.LinkId.{LinkId}
-use Rattle.ug_types.specs.declared.waiter.Ready.{Ready}
+use Rattle.ug_links.specs.declared.waiter.LinkId.{LinkId}
+use Rattle.ug_links.specs.declared.waiter.Ready.{Ready}
 use Rattle.ug_links.specs.declared.step.LinkStep.{LinkStep}
 use Rattle.ug_links.specs.Talk.{Return, Path, AreSteps, and_then}
 use Rattle.ug_links.proofs.Paths.{path_split}

@@ -4,7 +4,7 @@ use Rattle.ug_types.specs.Principals.{Named}
 use Rattle.ug_types.specs.Told.{one_more}
 use Rattle.ug_types.specs.declared.access.Section.{Section}
 use Rattle.ug_types.specs.declared.access.Privilege.TheVariants.{Listen}
-use Rattle.ug_types.specs.declared.waiter.LinkId.{LinkId}
+use Rattle.ug_links.specs.declared.waiter.LinkId.{LinkId}
 use Rattle.ug_acl.specs.Acls.{Addition, is_allowed}
 use Rattle.ug_sessions.specs.declared.session.Session.{Session}
 use Rattle.ug_sessions.specs.declared.session.Why.TheVariants as why
@@ -38,7 +38,8 @@ abbrev pub PutsWhere : Bool → Session → List ℕ → Session → Type 0
 PutsWhere true s text t = PutsWithin (nat_le (length s.unsent + length text) 1048576) s text t
 PutsWhere false s text t = t ≡ s
 
--- a text is put behind what is unsent; the session is closed where that would be more than 1,048,576 bytes
+-- a text is put behind what is unsent; the session is closed where that
+-- would be more than 1,048,576 bytes
 abbrev pub PutsBehind : Session → List ℕ → Session → Type 0
 PutsBehind s text t = PutsWhere (takes_text s) s text t
 
@@ -58,7 +59,8 @@ abbrev pub WatchesOne : LinkId → Session → Session → Type 0
 WatchesOne id s t = t ≡ cond (nat_eq s.id.0 id.0) (record s { watch = true }) s
 
 abbrev pub GivesUpOne : LinkId → Session → Session → Type 0
-GivesUpOne id s t = t ≡ cond (nat_eq s.id.0 id.0) (cond (is_open_session s) (doomed_for why.Memory s) s) s
+GivesUpOne id s t =
+    t ≡ cond (nat_eq s.id.0 id.0) (cond (is_open_session s) (doomed_for why.Memory s) s) s
 
 abbrev pub NoticesIf : Bool → List ℕ → Session → Session → Type 0
 NoticesIf true text s t = PutsBehind s text t
@@ -87,19 +89,25 @@ abbrev pub with_none_left : Session → Session
 with_none_left s = record s { drained = true }
 
 -- its first line is handed out, and waits for its answer
-abbrev pub with_lines : List (List ℕ) → Session → Session
-with_lines lines s = record s { framer = record { lines = lines; begun = s.framer.begun }; unanswered = one_more s.unanswered }
+abbrev pub with_request_lines : List (List ℕ) → Session → Session
+with_request_lines lines s =
+    record s {
+      framer = record { lines = lines; begun = s.framer.begun };
+      unanswered = one_more s.unanswered;
+    }
 
 -- the next line of a session; behind its last line stands the refusal of a line that is too long
 abbrev pub HandsOne : Session → Option (List ℕ) → Session → Type 0
-HandsOne s (Some line) t = (s.framer.lines ≡ line ∷ t.framer.lines) × (t ≡ with_lines t.framer.lines s)
+HandsOne s (Some line) t =
+    (s.framer.lines ≡ line ∷ t.framer.lines) × (t ≡ with_request_lines t.framer.lines s)
 HandsOne s None t = (s.framer.lines ≡ []) × RefusesIf (is_due s) (with_none_left s) t
 
 abbrev pub Passes : Session → Session → Type 0
 Passes s t = HandsOne s None t
 
 -- the first session in order that has a line, and its first line; those before it have none
-pub record HandsFirst (old : List Session) (id : LinkId) (principal : Named) (line : List ℕ) (new : List Session) : Type 0 where
+pub record HandsFirst (old : List Session) (id : LinkId) (principal : Named) (line : List ℕ)
+    (new : List Session) : Type 0 where
   pub front : List Session
   pub passed : List Session
   pub session : Session

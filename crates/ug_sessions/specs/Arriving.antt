@@ -2,8 +2,8 @@
 use Rattle.std.specs.Prelude.{◌≡◌, ◌⊎◌, ℕ, ◌-◌, ◌^◌, ◌<◌, ◌≤◌, min, List, [], ◌∷◌, ◌++◌, Bool, true, false, length, count_by}
 use Rattle.std.specs.List.{flat_map}
 use Rattle.ug_types.specs.Principals.{Named}
-use Rattle.ug_types.specs.declared.waiter.LinkId.{LinkId}
-use Rattle.ug_types.specs.declared.waiter.Ready.{Ready}
+use Rattle.ug_links.specs.declared.waiter.LinkId.{LinkId}
+use Rattle.ug_links.specs.declared.waiter.Ready.{Ready}
 use Rattle.ug_links.specs.declared.links.Accepted.TheVariants as accepted
 use Rattle.ug_links.specs.declared.step.LinkStep.{LinkStep}
 use Rattle.ug_links.specs.declared.step.LinkStep.TheVariants.{AcceptedAt, Closed}
@@ -62,28 +62,33 @@ is_busy (Nobody n) = false
 is_busy (Fails n) = false
 is_busy (Lacks_memory n) = false
 
-abbrev pub is_failed : Arrival → Bool
-is_failed (Joins n id principal) = false
-is_failed (Finds_full n id) = false
-is_failed (Finds_no_room n id) = false
-is_failed (Nobody n) = false
-is_failed (Fails n) = true
-is_failed (Lacks_memory n) = false
+abbrev pub is_failed_arrival : Arrival → Bool
+is_failed_arrival (Joins n id principal) = false
+is_failed_arrival (Finds_full n id) = false
+is_failed_arrival (Finds_no_room n id) = false
+is_failed_arrival (Nobody n) = false
+is_failed_arrival (Fails n) = true
+is_failed_arrival (Lacks_memory n) = false
 
-abbrev pub is_memory : Arrival → Bool
-is_memory (Joins n id principal) = false
-is_memory (Finds_full n id) = false
-is_memory (Finds_no_room n id) = true
-is_memory (Nobody n) = false
-is_memory (Fails n) = false
-is_memory (Lacks_memory n) = true
+abbrev pub is_short_arrival : Arrival → Bool
+is_short_arrival (Joins n id principal) = false
+is_short_arrival (Finds_full n id) = false
+is_short_arrival (Finds_no_room n id) = true
+is_short_arrival (Nobody n) = false
+is_short_arrival (Fails n) = false
+is_short_arrival (Lacks_memory n) = true
 
--- who comes has a session, or finds no memory for it, where fewer than 64 are open, and else is closed since all places are taken
+-- who comes has a session, or finds no memory for it, where fewer than 64 are open, and else is
+-- closed since all places are taken
 abbrev pub KeepLimit : List Session → List Arrival → Type 0
 KeepLimit sessions [] = Unit {0}
-KeepLimit sessions (Joins n id principal ∷ more) = (count_by is_open_session sessions < 64) × KeepLimit (sessions ++ new_session id principal ∷ []) more
-KeepLimit sessions (Finds_full n id ∷ more) = (64 ≤ count_by is_open_session sessions) × KeepLimit sessions more
-KeepLimit sessions (Finds_no_room n id ∷ more) = (count_by is_open_session sessions < 64) × KeepLimit sessions more
+KeepLimit sessions (Joins n id principal ∷ more) =
+    (count_by is_open_session sessions < 64)
+    × KeepLimit (sessions ++ new_session id principal ∷ []) more
+KeepLimit sessions (Finds_full n id ∷ more) =
+    (64 ≤ count_by is_open_session sessions) × KeepLimit sessions more
+KeepLimit sessions (Finds_no_room n id ∷ more) =
+    (count_by is_open_session sessions < 64) × KeepLimit sessions more
 KeepLimit sessions (Nobody n ∷ more) = KeepLimit sessions more
 KeepLimit sessions (Fails n ∷ more) = KeepLimit sessions more
 KeepLimit sessions (Lacks_memory n ∷ more) = KeepLimit sessions more
@@ -94,18 +99,30 @@ counted_of holds arrivals = min (count_by holds arrivals) (2 ^ 32 - 1)
 
 -- each arrival is counted once at most, and nothing else is
 abbrev pub arrivals_counted : List Arrival → Turn
-arrivals_counted arrivals = record { accepted = counted_of is_accepted arrivals; busy = counted_of is_busy arrivals; ended = 0; failed = counted_of is_failed arrivals; backlog = 0; too_long = 0; memory = counted_of is_memory arrivals }
+arrivals_counted arrivals =
+    record {
+      accepted = counted_of is_accepted arrivals;
+      busy = counted_of is_busy arrivals;
+      ended = 0;
+      failed = counted_of is_failed_arrival arrivals;
+      backlog = 0;
+      too_long = 0;
+      memory = counted_of is_short_arrival arrivals;
+    }
 
 -- Accepting made these calls, led from the sessions before to those behind, and counted so.
-pub record AreArrivals (before : List Session) (steps : List LinkStep) (after : List Session) (counts : Turn) : Type 0 where
+pub record AreArrivals (before : List Session) (steps : List LinkStep) (after : List Session)
+    (counts : Turn) : Type 0 where
   pub arrivals : List Arrival
   pub calls : steps ≡ flat_map calls_in arrivals
   pub limit : KeepLimit before arrivals
   pub sessions : after ≡ before ++ flat_map sessions_in arrivals
   pub counted : counts ≡ arrivals_counted arrivals
 
--- A turn counts its arrivals, and then one for each session whose link it closes where it reads, for what that is closed.
-pub record CountsArrivals (ready : List Ready) (v : ServerState) (steps : List LinkStep) (u : ServerState) (counts : Turn) : Type 0 where
+-- A turn counts its arrivals, and then one for each session whose link it closes where it
+-- reads, for what that is closed.
+pub record CountsArrivals (ready : List Ready) (v : ServerState) (steps : List LinkStep)
+    (u : ServerState) (counts : Turn) : Type 0 where
   pub accepts : List LinkStep
   pub reads : List LinkStep
   pub calls : steps ≡ accepts ++ reads
@@ -116,7 +133,8 @@ pub record CountsArrivals (ready : List Ready) (v : ServerState) (steps : List L
   pub closings : counts ≡ counted_over sessions u.sessions arrived
 
 -- Memory was refused for the listeners: nothing is tried, and that is counted.
-pub record CountsNoRoom (v : ServerState) (steps : List LinkStep) (u : ServerState) (counts : Turn) : Type 0 where
+pub record CountsNoRoom (v : ServerState) (steps : List LinkStep) (u : ServerState)
+    (counts : Turn) : Type 0 where
   pub listeners : length v.listeners < length v.principals
   pub calls : steps ≡ []
   pub same : u ≡ v
@@ -124,4 +142,5 @@ pub record CountsNoRoom (v : ServerState) (steps : List LinkStep) (u : ServerSta
 
 -- these calls of a turn led from one state to the other, and the turn counted so
 abbrev pub CountsTurn : List Ready → ServerState → List LinkStep → ServerState → Turn → Type 0
-CountsTurn ready v steps u counts = CountsArrivals ready v steps u counts ⊎ CountsNoRoom v steps u counts
+CountsTurn ready v steps u counts =
+    CountsArrivals ready v steps u counts ⊎ CountsNoRoom v steps u counts

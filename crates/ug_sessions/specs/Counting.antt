@@ -20,4 +20,5 @@ counted_if_closed (life.Doomed v) (life.Closed w) t = counted_as w t
 abbrev pub counted_over : List Session → List Session → Turn → Turn
 counted_over [] after t = t
 counted_over (s ∷ before) [] t = t
-counted_over (s ∷ before) (u ∷ after) t = counted_over before after (counted_if_closed s.life u.life t)
+counted_over (s ∷ before) (u ∷ after) t =
+    counted_over before after (counted_if_closed s.life u.life t)

@@ -1,6 +1,6 @@
 -- The lines of a session: those that were handed out, and those that wait.
 use Rattle.std.specs.Prelude.{◌≡◌, ℕ, List, [], ◌∷◌, ◌++◌, true, cond, nat_eq}
-use Rattle.ug_types.specs.declared.waiter.LinkId.{LinkId}
+use Rattle.ug_links.specs.declared.waiter.LinkId.{LinkId}
 use Rattle.ug_links.specs.declared.step.LinkStep.{LinkStep}
 use Rattle.ug_links.specs.declared.step.LinkStep.TheVariants.{ReadFrom}
 use Rattle.ug_links.specs.declared.step.Reading.TheVariants.{Bytes}
@@ -15,10 +15,12 @@ use Rattle.ug_sessions.specs.Sessions.{is_overlong}
 -- the bytes that were read from a session
 abbrev pub bytes_read : LinkId → List LinkStep → List ℕ
 bytes_read id [] = []
-bytes_read id (ReadFrom other room (Bytes bytes) ∷ steps) = cond (nat_eq other.0 id.0) (bytes ++ bytes_read id steps) (bytes_read id steps)
+bytes_read id (ReadFrom other room (Bytes bytes) ∷ steps) =
+    cond (nat_eq other.0 id.0) (bytes ++ bytes_read id steps) (bytes_read id steps)
 bytes_read id (step ∷ steps) = bytes_read id steps
 
--- the lines that were handed out, and then those that wait, are the lines of the bytes, each once and in order
+-- the lines that were handed out, and then those that wait, are the lines of the
+-- bytes, each once and in order
 pub record AreAllLines (handed : List (List ℕ)) (bytes : List ℕ) (s : Session) : Type 0 where
   pub lines : handed ++ s.framer.lines ≡ stream_lines bytes
   pub begun : s.framer.begun ≡ begun_after (Partial []) bytes
@@ -56,7 +58,9 @@ abbrev pub lines_handed : LinkId → List (LinkId × List ℕ) → List (List �
 lines_handed id [] = []
 lines_handed id (h ∷ hs) = cond (nat_eq h.0.0 id.0) (h.1 ∷ lines_handed id hs) (lines_handed id hs)
 
--- each session that is kept: handed is all that was handed out, and steps are all calls, since the server was made
+-- each session that is kept: handed is all that was handed out, and steps are all
+-- calls, since the server was made
 abbrev pub AllLines : List LinkStep → List (LinkId × List ℕ) → List Session → Type 0
 AllLines steps handed [] = Unit {0}
-AllLines steps handed (s ∷ ss) = HoldsLines (lines_handed s.id handed) (bytes_read s.id steps) s × AllLines steps handed ss
+AllLines steps handed (s ∷ ss) =
+    HoldsLines (lines_handed s.id handed) (bytes_read s.id steps) s × AllLines steps handed ss

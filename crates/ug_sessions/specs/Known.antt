@@ -2,7 +2,7 @@
 use Rattle.std.specs.Prelude.{ℕ, ◌<◌, Bool, List, [], ◌∷◌}
 use Rattle.ug_types.specs.Principals.{Named}
 use Rattle.ug_types.specs.declared.access.Section.{Section}
-use Rattle.ug_types.specs.declared.waiter.LinkId.{LinkId}
+use Rattle.ug_links.specs.declared.waiter.LinkId.{LinkId}
 use Rattle.ug_links.specs.declared.step.LinkStep.{LinkStep}
 use Rattle.ug_links.specs.declared.step.LinkStep.TheVariants.{ReadFrom, WroteTo}
 use Rattle.ug_links.specs.Steps.{ids_end}
@@ -49,9 +49,11 @@ AreLinesTooLong steps (Watched id ∷ said) = AreLinesTooLong steps said
 AreLinesTooLong steps (Noticed section text ∷ said) = AreLinesTooLong steps said
 AreLinesTooLong steps (Overlong id ∷ said) = IsLineTooLong id steps × AreLinesTooLong steps said
 
--- each session has its account and its lines, no two have one id, and all that was said, handed out and called is of sessions
+-- each session has its account and its lines, no two have one id, and all that was said, handed
+-- out and called is of sessions
 -- that were accepted; and who was told that a line is too long has such a line
-pub record AreSound (holds : Section → Named → Bool) (steps : List LinkStep) (said : List Said) (handed : List (LinkId × List ℕ)) (sessions : List Session) : Type 0 where
+pub record AreSound (holds : Section → Named → Bool) (steps : List LinkStep) (said : List Said)
+    (handed : List (LinkId × List ℕ)) (sessions : List Session) : Type 0 where
   pub accounts : AllAccounts holds steps said sessions
   pub lines : AllLines steps handed sessions
   pub distinct : HaveOwnIds sessions

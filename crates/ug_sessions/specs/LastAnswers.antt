@@ -1,7 +1,7 @@
 -- What links last answered, and to whom a try is owed by that.
 use Rattle.std.specs.Prelude.{ℕ, List, [], ◌∷◌, Bool, true, false, cond, nat_eq, Option, Some, None}
-use Rattle.ug_types.specs.declared.waiter.LinkId.{LinkId}
-use Rattle.ug_types.specs.declared.waiter.Ready.{Ready}
+use Rattle.ug_links.specs.declared.waiter.LinkId.{LinkId}
+use Rattle.ug_links.specs.declared.waiter.Ready.{Ready}
 use Rattle.ug_links.specs.declared.links.Accepted.{Accepted}
 use Rattle.ug_links.specs.declared.links.Accepted.TheVariants as accepted
 use Rattle.ug_links.specs.declared.step.LinkStep.{LinkStep}

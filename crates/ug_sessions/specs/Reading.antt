@@ -1,6 +1,6 @@
 -- What is asked of a session's link when it is read.
 use Rattle.std.specs.Prelude.{ℕ, List, [], Bool, true, false}
-use Rattle.ug_types.specs.declared.waiter.Ready.{Ready}
+use Rattle.ug_links.specs.declared.waiter.Ready.{Ready}
 use Rattle.ug_links.specs.declared.step.Reading.{Reading}
 use Rattle.ug_links.specs.declared.step.Reading.TheVariants as given
 use Rattle.ug_links.specs.Talk.{Talk, Return, Read, Close, Room, and_then, walk, upto}
@@ -10,17 +10,19 @@ use Rattle.ug_sessions.specs.declared.session.Life.{Life}
 use Rattle.ug_sessions.specs.declared.session.Life.TheVariants as life
 use Rattle.ug_sessions.specs.declared.session.Why.TheVariants as why
 use Rattle.ug_sessions.specs.Tokens.{is_read}
-use Rattle.ug_sessions.specs.Sessions.{counted_as, fed, not_owed, at_end, closed_for, unsending, emptied}
+use Rattle.ug_sessions.specs.Sessions.{counted_as, fed, not_owed, behind_its_end, closed_for, unsending, emptied}
 
 abbrev pub after_feed : Session → Turn → List ℕ → Bool → Talk (Bool × (Session × Turn))
 after_feed s t bytes true = Return (true, (fed s bytes, t))
-after_feed s t bytes false = Close s.id (Return (false, (closed_for why.Memory (emptied s), counted_as why.Memory t)))
+after_feed s t bytes false =
+    Close s.id (Return (false, (closed_for why.Memory (emptied s), counted_as why.Memory t)))
 
 abbrev pub after_read_answer : Session → Turn → Reading → Talk (Bool × (Session × Turn))
 after_read_answer s t (given.Bytes bytes) = Room (after_feed s t bytes)
 after_read_answer s t given.NotYet = Return (false, (not_owed s, t))
-after_read_answer s t given.End = Return (false, (at_end s, t))
-after_read_answer s t given.Failed = Close s.id (Return (false, (closed_for why.Failed (unsending s), counted_as why.Failed t)))
+after_read_answer s t given.End = Return (false, (behind_its_end s, t))
+after_read_answer s t given.Failed =
+    Close s.id (Return (false, (closed_for why.Failed (unsending s), counted_as why.Failed t)))
 
 -- one piece, and whether there may be another
 unfoldable pub reading_piece : Session × Turn → Talk (Bool × (Session × Turn))

@@ -2,7 +2,7 @@
 use Rattle.std.specs.Prelude.{◌≡◌, ℕ, List, [], ◌∷◌, ◌++◌, Bool, true, false, cond, not, nat_eq, length, drop}
 use Rattle.ug_links.specs.declared.links.LinkWrote.{LinkWrote}
 use Rattle.ug_links.specs.declared.links.LinkWrote.TheVariants as wrote
-use Rattle.ug_types.specs.declared.waiter.LinkId.{LinkId}
+use Rattle.ug_links.specs.declared.waiter.LinkId.{LinkId}
 use Rattle.ug_links.specs.declared.step.LinkStep.{LinkStep}
 use Rattle.ug_links.specs.declared.step.LinkStep.TheVariants.{WroteTo}
 use Rattle.ug_links.specs.Talk.{Talk, Return, Write, Close, and_then, walk, upto}
@@ -17,7 +17,8 @@ use Rattle.ug_sessions.specs.Reading.{closing_doomed}
 abbrev pub after_writing : Session → Turn → LinkWrote → Talk (Bool × (Session × Turn))
 after_writing s t (wrote.Sent n) = Return (true, (record s { unsent = drop n s.unsent }, t))
 after_writing s t wrote.NotYet = Return (false, (s, t))
-after_writing s t wrote.Failed = Close s.id (Return (false, (closed_for why.Failed (unsending s), counted_as why.Failed t)))
+after_writing s t wrote.Failed =
+    Close s.id (Return (false, (closed_for why.Failed (unsending s), counted_as why.Failed t)))
 
 abbrev pub writing_if : Bool → Session → Turn → Talk (Bool × (Session × Turn))
 writing_if true s t = Return (false, (s, t))
@@ -47,7 +48,8 @@ abbrev pub finish_sent : Bool → Session → Turn → Talk (Session × Turn)
 finish_sent true s t = finish_open (is_open_session s) s t
 finish_sent false s t = Return (s, t)
 
--- an open session all of whose text is sent is closed where its line was too long, or where it is served
+-- an open session all of whose text is sent is closed where its line was
+-- too long, or where it is served
 unfoldable pub finishing : Session → Turn → Talk (Session × Turn)
 finishing s t = finish_sent (nat_eq (length s.unsent) 0) s t
 
@@ -72,4 +74,5 @@ stays s = stays_by s.life s.drained
 
 -- the last of the calls is a write of these bytes to the session, which wasn't ready
 abbrev pub EndsWaiting : LinkId → List ℕ → List LinkStep → Type 0
-EndsWaiting id bytes steps = (front : List LinkStep) × (steps ≡ front ++ WroteTo id bytes wrote.NotYet ∷ [])
+EndsWaiting id bytes steps =
+    (front : List LinkStep) × (steps ≡ front ++ WroteTo id bytes wrote.NotYet ∷ [])

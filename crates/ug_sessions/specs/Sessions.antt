@@ -1,7 +1,7 @@
 -- What becomes of one session.
 use Rattle.std.specs.Prelude.{ℕ, ◌+◌, ◌-◌, ◌^◌, min, List, [], true, false, Bool}
 use Rattle.ug_types.specs.Principals.{Named}
-use Rattle.ug_types.specs.declared.waiter.LinkId.{LinkId}
+use Rattle.ug_links.specs.declared.waiter.LinkId.{LinkId}
 use Rattle.ug_proto.specs.Frames.{with_piece}
 use Rattle.ug_proto.specs.Lines.{Begun, Frames, Partial, Overlong, Out_of_memory, begun_after}
 use Rattle.ug_sessions.specs.declared.session.Session.{Session}
@@ -16,7 +16,8 @@ abbrev pub counted_up : ℕ → ℕ
 counted_up n = min (n + 1) (2 ^ 32 - 1)
 
 abbrev pub none_counted : Turn
-none_counted = record { accepted = 0; busy = 0; ended = 0; failed = 0; backlog = 0; too_long = 0; memory = 0 }
+none_counted =
+    record { accepted = 0; busy = 0; ended = 0; failed = 0; backlog = 0; too_long = 0; memory = 0 }
 
 -- a session was closed for this
 abbrev pub counted_as : Why → Turn → Turn
@@ -39,7 +40,21 @@ no_frames = record { lines = []; begun = Partial [] }
 
 -- a session that was accepted just now
 abbrev pub new_session : LinkId → Named → Session
-new_session id principal = record { id = id; principal = principal; framer = no_frames; overlong = false; drained = true; unanswered = 0; unsent = []; watch = false; ended = false; refused = false; owed = true; life = life.Open }
+new_session id principal =
+    record {
+      id = id;
+      principal = principal;
+      framer = no_frames;
+      overlong = false;
+      drained = true;
+      unanswered = 0;
+      unsent = [];
+      watch = false;
+      ended = false;
+      refused = false;
+      owed = true;
+      life = life.Open;
+    }
 
 abbrev pub is_overlong : Begun → Bool
 is_overlong (Partial bytes) = false
@@ -48,15 +63,21 @@ is_overlong Out_of_memory = false
 
 -- bytes came
 abbrev pub fed : Session → List ℕ → Session
-fed s bytes = record s { framer = with_piece s.framer bytes; overlong = is_overlong (begun_after s.framer.begun bytes); drained = false; owed = true }
+fed s bytes =
+    record s {
+      framer = with_piece s.framer bytes;
+      overlong = is_overlong (begun_after s.framer.begun bytes);
+      drained = false;
+      owed = true;
+    }
 
 -- nothing was ready
 abbrev pub not_owed : Session → Session
 not_owed s = record s { owed = false }
 
 -- nothing more comes
-abbrev pub at_end : Session → Session
-at_end s = record s { ended = true }
+abbrev pub behind_its_end : Session → Session
+behind_its_end s = record s { ended = true }
 
 abbrev pub closed_for : Why → Session → Session
 closed_for w s = record s { life = life.Closed w }

@@ -4,7 +4,8 @@ use Rattle.ug_types.specs.Principals.{Named}
 use Rattle.ug_sessions.specs.declared.session.Listener.{Listener}
 use Rattle.ug_sessions.specs.declared.session.Session.{Session}
 
--- whose listeners it has, the listeners once they are made, and the sessions in the order in which they were accepted
+-- whose listeners it has, the listeners once they are made, and the sessions in the
+-- order in which they were accepted
 pub record ServerState : Type 0 where
   pub principals : List Named
   pub listeners : List Listener
@@ -13,4 +14,5 @@ pub record ServerState : Type 0 where
 -- a listener for each of them, numbered in order, none of which was tried
 abbrev pub listeners_from : ℕ → List Named → List Listener
 listeners_from n [] = []
-listeners_from n (principal ∷ principals) = record { number = n; principal = principal; owed = true } ∷ listeners_from (n + 1) principals
+listeners_from n (principal ∷ principals) =
+    record { number = n; principal = principal; owed = true } ∷ listeners_from (n + 1) principals

@@ -1,14 +1,15 @@
 -- Which sessions and listeners a call tries.
 use Rattle.std.specs.Prelude.{◌≡◌, ℕ, List, [], ◌∷◌, Bool, true, cond, ◌⊎◌}
-use Rattle.ug_types.specs.declared.waiter.LinkId.{LinkId}
-use Rattle.ug_types.specs.declared.waiter.Ready.{Ready}
+use Rattle.ug_links.specs.declared.waiter.LinkId.{LinkId}
+use Rattle.ug_links.specs.declared.waiter.Ready.{Ready}
 use Rattle.ug_links.specs.declared.step.LinkStep.{LinkStep}
 use Rattle.ug_links.specs.declared.step.LinkStep.TheVariants.{Listened, AcceptedAt, ReadFrom, WroteTo, Closed}
 use Rattle.ug_sessions.specs.declared.session.Session.{Session}
 use Rattle.ug_sessions.specs.declared.session.Listener.{Listener}
 use Rattle.ug_sessions.specs.Tokens.{is_read, names_listener}
 
--- one of these sessions has this id, and is to be read: it is open, its link hasn't said End, and it is named or owed a try
+-- one of these sessions has this id, and is to be read: it is open, its link hasn't said End,
+-- and it is named or owed a try
 abbrev pub IsOneRead : List Ready → List Session → LinkId → Type 0
 IsOneRead ready [] id = ⊥
 IsOneRead ready (s ∷ ss) id = ((s.id ≡ id) × (is_read ready s ≡ true)) ⊎ IsOneRead ready ss id

@@ -8,8 +8,8 @@ ghost use Rattle.ug_sessions.specs.Tokens.{names_listener};
 
 use crate::session::{Listener, Session, Turn, Why, counted_up};
 use std::alloc::Global;
-use ug_links::{Accepted, Links};
-use ug_types::{NoMemory, Principal, Ready};
+use ug_links::{Accepted, Links, Ready};
+use ug_types::{NoMemory, Principal};
 
 /// At most so many sessions are open.
 pub const MAX_SESSIONS: usize = 64;

@@ -6,7 +6,8 @@ ghost use Rattle.ug_sessions.specs.Answering.{is_due as due_now};
 use crate::session::{Session, Why};
 use std::alloc::Global;
 use ug_acl::Acl;
-use ug_types::{LinkId, Principal, Privilege, Section, Text};
+use ug_links::LinkId;
+use ug_types::{Principal, Privilege, Section, Text};
 
 /// At most so many bytes of a session are unsent.
 pub const MAX_UNSENT: usize = 1048576;

@@ -6,9 +6,8 @@ ghost use Rattle.ug_sessions.specs.Tokens.{names_session, is_read};
 
 use crate::session::{Life, Session, Turn, Why};
 use std::alloc::Global;
-use ug_links::{LinkRead, Links};
+use ug_links::{LinkId, LinkRead, Links, Ready};
 use ug_proto::FrameFault;
-use ug_types::{LinkId, Ready};
 
 /// The bytes of a piece.
 pub const PIECE: usize = 4096;

@@ -15,8 +15,8 @@ use crate::session::{Listener, Session, Turn, Why};
 use std::alloc::Global;
 use std::marker::Model;
 use ug_acl::Acl;
-use ug_links::Links;
-use ug_types::{LinkId, List, NoMemory, Principal, Ready, Section, Text};
+use ug_links::{LinkId, Links, Ready};
+use ug_types::{List, NoMemory, Principal, Section, Text};
 
 /// The listeners and the sessions. Listener i is that of the principal at place i.
 #[derive(Drop)]

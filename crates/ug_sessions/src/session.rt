@@ -5,9 +5,9 @@ ghost use Rattle.ug_sessions.specs.Sessions as sessions;
 ghost use Rattle.ug_sessions.specs.Sessions.{closed_for, counted_as, doomed_for, emptied, is_open_session, new_session, none_counted};
 
 use std::alloc::Global;
-use ug_links::ByteQueue;
+use ug_links::{ByteQueue, LinkId};
 use ug_proto::Framer;
-use ug_types::{LinkId, Principal};
+use ug_types::Principal;
 
 /// For what a session is closed.
 #[derive(Clone, Copy, Debug, PartialEq, Eq)]

@@ -5,7 +5,7 @@ use Rattle.ug_store.specs.DiskCalls.{DiskCall, Load, Write_new, Sync_new, Swap, 
 use Rattle.ug_store.specs.Disk.{Disk, IsImage}
 use Rattle.ug_store.specs.Store.{DiskProg, Ended, AskDisk, DiskRoom, RunsDisk, then_disk, after_swap, after_sync_new, after_write_new, saving}
 use Rattle.ug_store.specs.Scripted.{DiskWorld, IsUnplanned, plan_at, fate_by, stops_by, answer_of_fate, faults_by, with_number, fate_at, reply_by, world_after, answering_on, disk_answer, MemKeeps}
-use Rattle.ug_store.specs.MemLaw.{told_in, mem_did, up_within}
+use Rattle.ug_store.specs.MemLaw.{tells_disk, mem_did, up_within}
 use Rattle.ug_store.specs.PlayDisk.{play_disk}
 use Rattle.ug_store.proofs.Playing.{EndsByMemory}
 use Rattle.ug_store.proofs.Standing.{stays_possible}
@@ -93,8 +93,8 @@ image_still : (w : DiskWorld) (call : DiskCall) → w.ran_out ≡ false → IsIm
 image_still w call e is =
     let a : DiskTold call = (disk_answer w call).0 in
     let t : DiskWorld = (disk_answer w call).1 in
-    let did = mem_did w call a t t.disk (inl (refl, refl)) (told_in t (told_still w call e)) in
-    let same : Some did.disk ≡ Some w.disk = sym did.was_told ∙ told_in w e in
+    let did = mem_did w call a t t.disk (inl (refl, refl)) (tells_disk t (told_still w call e)) in
+    let same : Some did.disk ≡ Some w.disk = sym did.was_told ∙ tells_disk w e in
     let at : w.disk ≡ did.disk = cc in
     stays_possible call a did.disk t.disk did.called (subst (λ (m : Disk). IsImage m.left m.text) at is)
 

@@ -31,12 +31,12 @@ pub record DiskTold (call : DiskCall) : Type 0 where
 abbrev pub file_limit : ℕ
 file_limit = 67108864
 
-abbrev pub FitsFile : Loaded → Type 0
-FitsFile (loaded.Bytes text) = length text ≤ file_limit
-FitsFile loaded.Absent = Unit {0}
-FitsFile loaded.TooLong = Unit {0}
-FitsFile loaded.Failed = Unit {0}
-FitsFile loaded.Memory = Unit {0}
+abbrev pub FitsLoaded : Loaded → Type 0
+FitsLoaded (loaded.Bytes text) = length text ≤ file_limit
+FitsLoaded loaded.Absent = Unit {0}
+FitsLoaded loaded.TooLong = Unit {0}
+FitsLoaded loaded.Failed = Unit {0}
+FitsLoaded loaded.Memory = Unit {0}
 
 -- the call was done, or failed: it never wants memory
 abbrev pub NeedsNoMemory : DiskAnswer → Type 0

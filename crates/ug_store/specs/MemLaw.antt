@@ -109,8 +109,8 @@ told_if : (b : Bool) (m n : Disk) → cond b None (Some m) ≡ Some n → m ≡ 
 told_if true m n e = let no : ⊥ = cc in absurd no
 told_if false m n e = cc
 
-pub told_in : (s : DiskWorld) → s.ran_out ≡ false → disk_told s ≡ Some s.disk
-told_in s e = ap (λ (b : Bool). cond b None (Some s.disk)) e
+pub tells_disk : (s : DiskWorld) → s.ran_out ≡ false → disk_told s ≡ Some s.disk
+tells_disk s e = ap (λ (b : Bool). cond b None (Some s.disk)) e
 
 told_not : (t : DiskWorld) (n : Disk) → t.ran_out ≡ true → disk_told t ≡ Some n → ⊥
 told_not t n out e = let no : None ≡ Some n =
@@ -144,7 +144,7 @@ mem_did s call a t n (inl h) e = pick s.ran_out refl h
         sym at ∙ told_if t.ran_out t.disk n e in
         record {
           disk = s.disk;
-          was_told = told_in s ran;
+          was_told = tells_disk s ran;
           called = subst (λ (b : DiskTold call). DiskCalled call b s.disk n) (sym k.0)
               (subst (λ (m : Disk). DiskCalled call
               (told_with call (reply_by call fate s.disk) runs) s.disk m) is
@@ -155,7 +155,7 @@ mem_did s call a t n (inr (inl h)) e =
     sym (ap (λ (w : DiskWorld). w.disk) h.after) ∙ told_if t.ran_out t.disk n e in
     record {
       disk = s.disk;
-      was_told = told_in s h.ran;
+      was_told = tells_disk s h.ran;
       called = subst (λ (m : Disk). DiskCalled call a s.disk m) is
           (does_nothing call a s.disk h.memory);
     }

@@ -48,14 +48,14 @@ plan_at n so_far [] = so_far
 plan_at n so_far (p ∷ ps) = plan_at n (cond (nat_eq p.call n) (Some p) so_far) ps
 
 -- A call in which the machine stops has its effect only where it swaps.
-abbrev pub mishap_of : Bool → Planned → Mishap
-mishap_of swaps p = cond (p.stops && not swaps) mishap.NoEffect p.mishap
+abbrev pub planned_mishap : Bool → Planned → Mishap
+planned_mishap swaps p = cond (p.stops && not swaps) mishap.NoEffect p.mishap
 
 -- how a call fails, if it does: behind a stop each does, and has no effect
 abbrev pub fate_by : Bool → Bool → Option Planned → Option Mishap
 fate_by true swaps plan = Some mishap.NoEffect
 fate_by false swaps None = None
-fate_by false swaps (Some p) = Some (mishap_of swaps p)
+fate_by false swaps (Some p) = Some (planned_mishap swaps p)
 
 abbrev pub stops_by : Option Planned → Bool
 stops_by None = false

@@ -1,6 +1,6 @@
 // The trait of the outside: the disk that holds the rule file.
 ghost use Rattle.std.specs.Prelude.{◌≡◌, ℕ, List, Option, Some, OnOk};
-ghost use Rattle.ug_store.specs.DiskCalls.{DiskCall, Load, Write_new, Sync_new, Swap, DiskTold, FitsFile, NeedsNoMemory, CountsOnDisk};
+ghost use Rattle.ug_store.specs.DiskCalls.{DiskCall, Load, Write_new, Sync_new, Swap, DiskTold, FitsLoaded, NeedsNoMemory, CountsOnDisk};
 ghost use Rattle.ug_store.specs.Disk.{Disk, FollowsOnDisk};
 
 use std::alloc::Global;
@@ -53,7 +53,7 @@ pub trait RuleDisk {
     fn load(&mut self, alloc: Global) -> Loaded
         ensures keeps { keeps self.old Load
             (record { answer = result; count = faults self.new }) self.new }
-        ensures fits { FitsFile result };
+        ensures fits { FitsLoaded result };
 
     /// Writes a text into the new file.
     fn write_new(&mut self, alloc: Global, text: &[u8]) -> DiskAnswer

@@ -6,17 +6,17 @@ use Rattle.std.specs.List.{slice_get}
 use Rattle.std.specs.Cmp.Lexicographic.{pointwise}
 use Rattle.std.specs.HashMap.{get, spare}
 use Rattle.ug_kernel.specs.declared.device.Device.{Device}
-use Rattle.ug_types.specs.declared.control.Write.{Write}
+use Rattle.ug_kernel.specs.declared.control.Write.{Write}
 use Rattle.ug_kernel.specs.Kernel.{live_count}
 use Rattle.ug_kernel.specs.Called.{written_to}
 use Rattle.ug_kernel.proofs.Sounds.{live_count_set}
 use Rattle.ug_sysfs.specs.declared.roster.Roster.TheInside.{Inside}
 use Rattle.ug_sysfs.specs.Devices.{IsDistinct, find, with_gone, gone_in}
 use Rattle.ug_sysfs.specs.World.{switched_to, switched}
-use Rattle.ug_sysfs.specs.Indexed.{IsIndexed}
+use Rattle.ug_sysfs.specs.Indexed.{HasIndex}
 use Rattle.ug_sysfs.proofs.Finds.{find_born, find_gone, find_switched, distinct_push, distinct_gone, distinct_switched}
 
-pub indexed_born : (r s : Inside) (d : Device) → IsIndexed r → 0 < r.room → d.gone ≡ false → find d.name 0 r.all.items ≡ None → ((q : List ℕ) → get (pointwise nat_eq) s.index q ≡ cond (pointwise nat_eq d.name q) (Some (length r.all.items)) (get (pointwise nat_eq) r.index q)) → s.all.items ≡ r.all.items ++ d ∷ [] → s.room ≡ r.room - 1 → vec_capacity s.all ≡ vec_capacity r.all → spare r.index ≤ spare s.index + 1 → IsIndexed s
+pub indexed_born : (r s : Inside) (d : Device) → HasIndex r → 0 < r.room → d.gone ≡ false → find d.name 0 r.all.items ≡ None → ((q : List ℕ) → get (pointwise nat_eq) s.index q ≡ cond (pointwise nat_eq d.name q) (Some (length r.all.items)) (get (pointwise nat_eq) r.index q)) → s.all.items ≡ r.all.items ++ d ∷ [] → s.room ≡ r.room - 1 → vec_capacity s.all ≡ vec_capacity r.all → spare r.index ≤ spare s.index + 1 → HasIndex s
 indexed_born r s d h lt g fresh updates items room capacity left = record {
   index = λ q. updates q ∙ ap (λ o. cond (pointwise nat_eq d.name q) (Some (length r.all.items)) o) (h.index q) ∙ sym (find_born q r.all.items d g fresh) ∙ ap (find q 0) (sym items);
   distinct = subst IsDistinct (sym items) (distinct_push r.all.items d h.distinct fresh);
@@ -24,7 +24,7 @@ indexed_born r s d h lt g fresh updates items room capacity left = record {
   entries = omega (arith, h.entries);
 }
 
-pub indexed_gone : (r s : Inside) (i : ℕ) (d : Device) → IsIndexed r → slice_get r.all.items i ≡ Some d → d.gone ≡ false → ((q : List ℕ) → get (pointwise nat_eq) s.index q ≡ cond (pointwise nat_eq d.name q) None (get (pointwise nat_eq) r.index q)) → s.all.items ≡ set r.all.items i (record d { gone = true }) → s.room ≡ r.room → vec_capacity s.all ≡ vec_capacity r.all → spare r.index ≤ spare s.index → IsIndexed s
+pub indexed_gone : (r s : Inside) (i : ℕ) (d : Device) → HasIndex r → slice_get r.all.items i ≡ Some d → d.gone ≡ false → ((q : List ℕ) → get (pointwise nat_eq) s.index q ≡ cond (pointwise nat_eq d.name q) None (get (pointwise nat_eq) r.index q)) → s.all.items ≡ set r.all.items i (record d { gone = true }) → s.room ≡ r.room → vec_capacity s.all ≡ vec_capacity r.all → spare r.index ≤ spare s.index → HasIndex s
 indexed_gone r s i d h at g updates items room capacity left = record {
   index = λ q. updates q ∙ ap (λ o. cond (pointwise nat_eq d.name q) None o) (h.index q) ∙ sym (find_gone q r.all.items i d h.distinct at g) ∙ ap (find q 0) (sym items);
   distinct = subst IsDistinct (sym items) (distinct_gone r.all.items i d h.distinct);
@@ -32,7 +32,7 @@ indexed_gone r s i d h at g updates items room capacity left = record {
   entries = omega (arith, h.entries);
 }
 
-pub indexed_switched : (r s : Inside) (i : ℕ) (d : Device) (write : Write) → IsIndexed r → slice_get r.all.items i ≡ Some d → s.index ≡ r.index → s.all.items ≡ set r.all.items i (written_to write d) → s.room ≡ r.room → vec_capacity s.all ≡ vec_capacity r.all → IsIndexed s
+pub indexed_switched : (r s : Inside) (i : ℕ) (d : Device) (write : Write) → HasIndex r → slice_get r.all.items i ≡ Some d → s.index ≡ r.index → s.all.items ≡ set r.all.items i (written_to write d) → s.room ≡ r.room → vec_capacity s.all ≡ vec_capacity r.all → HasIndex s
 indexed_switched r s i d write h at index items room capacity = record {
   index = λ q. ap (λ m. get (pointwise nat_eq) m q) index ∙ h.index q ∙ sym (find_switched q 0 r.all.items i d write at) ∙ ap (find q 0) (sym items);
   distinct = subst IsDistinct (sym items) (distinct_switched r.all.items i d write at h.distinct);

@@ -7,12 +7,12 @@ use Rattle.std.proofs.lemmas.Bool.{both_ways, ltb-true, ltb-false, le-leb, lt-le
 use Rattle.std.proofs.lemmas.List.{drop_more, take_all, drop-set-lt}
 use Rattle.std.proofs.lemmas.Option.{none-some, same_Some, slice_get_within, slice_get-get_or}
 use Rattle.ug_kernel.specs.declared.device.Device.{Device}
-use Rattle.ug_types.specs.declared.control.Write.{Write}
+use Rattle.ug_kernel.specs.declared.control.Write.{Write}
 use Rattle.ug_kernel.specs.Kernel.{live_count}
 use Rattle.ug_kernel.specs.Called.{written_to}
 use Rattle.ug_sysfs.specs.Devices.{fall, gone_in, with_gone, falls_at, stepped}
 use Rattle.ug_sysfs.specs.World.{live_names, switched_to, switched}
-use Rattle.ug_sysfs.specs.Living.{live_places, is_live, is_live_at, name_of, name_at, with_name, names_at, stepped_from, fall_each}
+use Rattle.ug_sysfs.specs.Living.{live_places, is_live, is_live_at, device_name, name_at, with_name, names_at_places, stepped_from, fall_each}
 use Rattle.ug_sysfs.proofs.Fall.{at_place, step, length_stepped}
 use Rattle.ug_sysfs.proofs.Kept.{was_gone}
 
@@ -52,18 +52,18 @@ places_switched write i ds = at (slice_get ds i) refl
     at (Some d) h = places_value 0 ds i d write h
 
 -- the names at the live places are the live names
-names_placed : (n : ℕ) (fs ds : List Device) → ((k : ℕ) → slice_get fs (n + k) ≡ slice_get ds k) → names_at (live_places n ds) fs ≡ live_names ds
+names_placed : (n : ℕ) (fs ds : List Device) → ((k : ℕ) → slice_get fs (n + k) ≡ slice_get ds k) → names_at_places (live_places n ds) fs ≡ live_names ds
 names_placed n fs [] h = refl
 names_placed n fs (d ∷ ds) h = pick d.gone (names_placed (n + 1) fs ds (λ k. let e : n + 1 + k ≡ n + suc k = omega arith in ap (slice_get fs) e ∙ h (suc k)))
   where
     here : slice_get fs n ≡ Some d
     here = let e : n ≡ n + 0 = omega arith in ap (slice_get fs) e ∙ h zero
 
-    pick : (b : Bool) → names_at (live_places (n + 1) ds) fs ≡ live_names ds → names_at (cond b (live_places (n + 1) ds) (n ∷ live_places (n + 1) ds)) fs ≡ cond b (live_names ds) (d.name ∷ live_names ds)
+    pick : (b : Bool) → names_at_places (live_places (n + 1) ds) fs ≡ live_names ds → names_at_places (cond b (live_places (n + 1) ds) (n ∷ live_places (n + 1) ds)) fs ≡ cond b (live_names ds) (d.name ∷ live_names ds)
     pick true rest = rest
-    pick false rest = ap (λ (o : Option Device). with_name (name_of o) (names_at (live_places (n + 1) ds) fs)) here ∙ ap (λ (ns : List (List ℕ)). d.name ∷ ns) rest
+    pick false rest = ap (λ (o : Option Device). with_name (device_name o) (names_at_places (live_places (n + 1) ds) fs)) here ∙ ap (λ (ns : List (List ℕ)). d.name ∷ ns) rest
 
-pub names_live : (ds : List Device) → names_at (live_places 0 ds) ds ≡ live_names ds
+pub names_live : (ds : List Device) → names_at_places (live_places 0 ds) ds ≡ live_names ds
 names_live ds = names_placed 0 ds ds (λ k. let e : 0 + k ≡ k = omega arith in ap (slice_get ds) e)
 
 -- the devices stay in their places, and none comes back
@@ -197,13 +197,13 @@ pub falls_each : (t : ℕ) (ds : List Device) → fall_each t (live_places 0 ds)
 falls_each t ds = skip_from t t 0 ds (omega arith) ∙ fall_from (length ds) t t ds (omega arith) (omega arith)
 
 -- one step of the listing
-names_more : (ns : List (List ℕ)) (is : List ℕ) (ds : List Device) (k : ℕ) → k < length is → (o : Option (List ℕ)) → o ≡ name_at ds (get_or is k 0) → ns ++ names_at (drop k is) ds ≡ ns ++ with_name o (names_at (drop (k + 1) is) ds)
-names_more ns is ds k lt o e = ap (λ (xs : List ℕ). ns ++ names_at xs ds) (drop_more is k 0 lt) ∙ ap (λ (x : Option (List ℕ)). ns ++ with_name x (names_at (drop (k + 1) is) ds)) (sym e)
+names_more : (ns : List (List ℕ)) (is : List ℕ) (ds : List Device) (k : ℕ) → k < length is → (o : Option (List ℕ)) → o ≡ name_at ds (get_or is k 0) → ns ++ names_at_places (drop k is) ds ≡ ns ++ with_name o (names_at_places (drop (k + 1) is) ds)
+names_more ns is ds k lt o e = ap (λ (xs : List ℕ). ns ++ names_at_places xs ds) (drop_more is k 0 lt) ∙ ap (λ (x : Option (List ℕ)). ns ++ with_name x (names_at_places (drop (k + 1) is) ds)) (sym e)
 
-pub one_name : (ns : List (List ℕ)) (is : List ℕ) (ds : List Device) (k : ℕ) (n : List ℕ) → k < length is → Some n ≡ name_at ds (get_or is k 0) → (ns ++ n ∷ []) ++ names_at (drop (k + 1) is) ds ≡ ns ++ names_at (drop k is) ds
+pub one_name : (ns : List (List ℕ)) (is : List ℕ) (ds : List Device) (k : ℕ) (n : List ℕ) → k < length is → Some n ≡ name_at ds (get_or is k 0) → (ns ++ n ∷ []) ++ names_at_places (drop (k + 1) is) ds ≡ ns ++ names_at_places (drop k is) ds
 one_name ns is ds k n lt e = rw append_assoc (sym (names_more ns is ds k lt (Some n) e))
 
-pub no_name : (ns : List (List ℕ)) (is : List ℕ) (ds : List Device) (k : ℕ) → k < length is → None ≡ name_at ds (get_or is k 0) → ns ++ names_at (drop (k + 1) is) ds ≡ ns ++ names_at (drop k is) ds
+pub no_name : (ns : List (List ℕ)) (is : List ℕ) (ds : List Device) (k : ℕ) → k < length is → None ≡ name_at ds (get_or is k 0) → ns ++ names_at_places (drop (k + 1) is) ds ≡ ns ++ names_at_places (drop k is) ds
 no_name ns is ds k lt e = sym (names_more ns is ds k lt None e)
 
 pub if_ok : {T E : Type 0} (r : Result T E) (P Q : T → Type 0) → ((x : T) → P x → Q x) → IfOk r P → IfOk r Q

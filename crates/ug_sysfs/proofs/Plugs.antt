@@ -4,7 +4,7 @@ use Rattle.std.proofs.lemmas.List.Edits.{length-insert}
 use Rattle.ug_sysfs.specs.declared.script.Move.{Move}
 use Rattle.ug_sysfs.specs.declared.script.Move.TheVariants.{Plug, Unplug}
 use Rattle.ug_sysfs.specs.declared.script.Scheduled.{Scheduled}
-use Rattle.ug_sysfs.specs.Queue.{place_for, with_move}
+use Rattle.ug_sysfs.specs.Queue.{queue_place, with_move}
 use Rattle.ug_sysfs.specs.World.{plugs, plugs_of}
 
 plugs_of_le : (m : Move) → plugs_of m ≤ 1
@@ -15,6 +15,6 @@ pub plugs_le : (ms : List Scheduled) → plugs ms ≤ length ms
 plugs_le [] = omega arith
 plugs_le (m ∷ ms) = omega (arith, plugs_of_le m.action, plugs_le ms)
 
-pub length_with : (m : Scheduled) (ms : List Scheduled) → place_for m ms ≤ length ms
+pub length_with : (m : Scheduled) (ms : List Scheduled) → queue_place m ms ≤ length ms
     → length (with_move m ms) ≡ length ms + 1
-length_with m ms le = length-insert ms (place_for m ms) m le
+length_with m ms le = length-insert ms (queue_place m ms) m le

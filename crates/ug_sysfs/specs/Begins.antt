@@ -5,7 +5,7 @@ use Rattle.std.specs.List.{slice_get}
 use Rattle.std.proofs.lemmas.List.{append-nil, take-append-drop}
 use Rattle.ug_types.specs.Names.{parent_of}
 use Rattle.ug_kernel.specs.declared.device.Device.{Device}
-use Rattle.ug_kernel.specs.Kernel.{Kernel, live_count, Moved, Begins, Moves, Starts, default_in, is_off}
+use Rattle.ug_kernel.specs.Kernel.{Kernel, live_count, Moved, BeginsWith, Moves, StartsUnset, default_in, is_off}
 use Rattle.ug_kernel.proofs.Places.{at_push}
 use Rattle.ug_kernel.proofs.Births.{moves_then}
 use Rattle.ug_kernel.proofs.Stayed.{begins, begins_then, begins_more, begins_at, unmoving}
@@ -37,56 +37,58 @@ moved_felled target bs d =
       default = refl;
     }
 
-begins_fall : (target : ℕ) (bs ds : List Device) → Begins (bs ++ ds) (fall target bs ds)
+begins_fall : (target : ℕ) (bs ds : List Device) → BeginsWith (bs ++ ds) (fall target bs ds)
 begins_fall target bs [] = rw append-nil (begins bs)
 begins_fall target bs (d ∷ ds) =
-    let more : Begins ((bs ++ felled target bs d ∷ []) ++ ds) (fall target bs (d ∷ ds)) =
+    let more : BeginsWith ((bs ++ felled target bs d ∷ []) ++ ds) (fall target bs (d ∷ ds)) =
     begins_fall target (bs ++ felled target bs d ∷ []) ds in
     begins_then _ _ _ (begins_at bs d (felled target bs d) ds (moved_felled target bs d))
     (rw append_assoc at more)
 
-pub begins_unplug : (o : Option ℕ) (ds : List Device) → Begins ds (unplug_at o ds)
+pub begins_unplug : (o : Option ℕ) (ds : List Device) → BeginsWith ds (unplug_at o ds)
 begins_unplug None ds = begins ds
 begins_unplug (Some i) ds =
-    subst (λ (x : List Device). Begins x (fall i (take i ds) (drop i ds))) (take-append-drop i ds)
+    subst (λ (x : List Device). BeginsWith x (fall i (take i ds) (drop i ds)))
+    (take-append-drop i ds)
     (begins_fall i (take i ds) (drop i ds))
 
-begins_under : (d : NewDevice) (o : Option ℕ) (ds : List Device) → Begins ds (born_under d o ds)
+begins_under : (d : NewDevice) (o : Option ℕ) (ds : List Device) → BeginsWith ds (born_under d o ds)
 begins_under d None ds = begins ds
 begins_under d (Some i) ds = begins_more ds _
 
-begins_placed : (d : NewDevice) (o : Option (List ℕ)) (ds : List Device) → Begins ds (placed d o ds)
+begins_placed : (d : NewDevice) (o : Option (List ℕ)) (ds : List Device)
+    → BeginsWith ds (placed d o ds)
 begins_placed d None ds = begins_more ds _
 begins_placed d (Some name) ds = begins_under d (find name 0 ds) ds
 
-begins_plug_at : (o : Option ℕ) (d : NewDevice) (ds : List Device) → Begins ds (plug_at o d ds)
+begins_plug_at : (o : Option ℕ) (d : NewDevice) (ds : List Device) → BeginsWith ds (plug_at o d ds)
 begins_plug_at None d ds = begins_placed d (parent_of d.name) ds
 begins_plug_at (Some i) d ds = begins ds
 
-begins_plug : (d : NewDevice) (ds : List Device) → Begins ds (plugged d ds)
+begins_plug : (d : NewDevice) (ds : List Device) → BeginsWith ds (plugged d ds)
 begins_plug d ds =
     elim (nat_lt (live_count ds) 65536) as
-    (λ b. Begins ds (cond b (plug_at (find d.name 0 ds) d ds) ds)) [
+    (λ b. BeginsWith ds (cond b (plug_at (find d.name 0 ds) d ds) ds)) [
       | true ↦ begins_plug_at (find d.name 0 ds) d ds
       | false ↦ begins ds
     ]
 
-begins_moved : (m : Move) (ds : List Device) → Begins ds (moved m ds)
+begins_moved : (m : Move) (ds : List Device) → BeginsWith ds (moved m ds)
 begins_moved (Plug d) ds = begins_plug d ds
 begins_moved (Unplug name) ds = begins_unplug (find name 0 ds) ds
 
 pub begins_happen : (n : ℕ) (after : Bool) (ms : List Scheduled) (ds : List Device)
-    → Begins ds (happen n after ms ds).1
+    → BeginsWith ds (happen n after ms ds).1
 begins_happen n after [] ds = begins ds
 begins_happen n after (m ∷ ms) ds =
     elim (due n after m) as
-    (λ b. Begins ds (cond b (happen n after ms (moved m.action ds)) (m ∷ ms, ds)).1) [
+    (λ b. BeginsWith ds (cond b (happen n after ms (moved m.action ds)) (m ∷ ms, ds)).1) [
       | true ↦ begins_then _ _ _ (begins_moved m.action ds)
           (begins_happen n after ms (moved m.action ds))
       | false ↦ begins ds
     ]
 
-pub begins_all : (ms : List Scheduled) (ds : List Device) → Begins ds (happen_all ms ds)
+pub begins_all : (ms : List Scheduled) (ds : List Device) → BeginsWith ds (happen_all ms ds)
 begins_all [] ds = begins ds
 begins_all (m ∷ ms) ds =
     begins_then _ _ _ (begins_moved m.action ds) (begins_all ms (moved m.action ds))
@@ -95,7 +97,7 @@ begins_all (m ∷ ms) ds =
 
 starts_with : (ds es : List Device) (d : NewDevice) (p c : Option ℕ)
     → ((r : ℕ) → c ≡ Some r → default_in (slice_get es r) ≡ default_in (slice_get ds r))
-    → Starts es (born_with d p c (controller_default c ds))
+    → StartsUnset es (born_with d p c (controller_default c ds))
 starts_with ds es d p None same = (refl, refl)
 starts_with ds es d p (Some r) same = (
   refl,
@@ -114,21 +116,21 @@ same_default (d ∷ ds) x zero e = refl
 same_default (d ∷ ds) x (suc r) e = same_default ds x r e
 
 born_starts : (d : NewDevice) (p : Option ℕ) (ds : List Device) (i : ℕ) (e : Device)
-    → slice_get (born d p ds) i ≡ Some e → length ds ≤ i → Starts (born d p ds) e
+    → slice_get (born d p ds) i ≡ Some e → length ds ≤ i → StartsUnset (born d p ds) e
 born_starts d p ds i e at le = elim (at_push ds (born_as d p ds) i e at) [
   | inl q ↦ absurd (omega (arith, le, q.0))
   | inr q ↦
       let c = controller_under p ds in
-      subst (λ (x : Device). Starts (born d p ds) x) q.1
+      subst (λ (x : Device). StartsUnset (born d p ds) x) q.1
       (starts_with ds (born d p ds) d p c (λ r h. same_default ds (born_as d p ds) r refl))
 ]
 
 none_born : (ds : List Device) (i : ℕ) (e : Device) → slice_get ds i ≡ Some e → length ds ≤ i
-    → Starts ds e
+    → StartsUnset ds e
 none_born ds i e at le = absurd (omega (arith, le, slice_get_within ds i e at))
 
 abbrev AreBorn : List Device → List Device → Type 0
-AreBorn ds es = (i : ℕ) (e : Device) → slice_get es i ≡ Some e → length ds ≤ i → Starts es e
+AreBorn ds es = (i : ℕ) (e : Device) → slice_get es i ≡ Some e → length ds ≤ i → StartsUnset es e
 
 under_starts : (d : NewDevice) (o : Option ℕ) (ds : List Device) → AreBorn ds (born_under d o ds)
 under_starts d None ds = none_born ds

@@ -5,11 +5,11 @@ use Rattle.std.proofs.lemmas.List.{length-take-le}
 use Rattle.std.proofs.lemmas.Option.{slice_get_past, slice_get_within, none-some, same_Some}
 use Rattle.std.specs.List.{slice_get}
 use Rattle.ug_kernel.specs.declared.device.Device.{Device}
-use Rattle.ug_kernel.specs.Kernel.{Live, IsSound, Begins, Stays}
+use Rattle.ug_kernel.specs.Kernel.{Live, IsSound, BeginsWith, Stays}
 use Rattle.ug_kernel.proofs.Places.{at_push, at_longer, at_end, in_front, from_drop}
 use Rattle.ug_kernel.proofs.Stayed.{stays_at, stayed_here}
 use Rattle.ug_kernel.proofs.Sounds.{Kept}
-use Rattle.ug_sysfs.specs.Devices.{find, gone_of, felled, falls, fall, unplug_at, unplugged}
+use Rattle.ug_sysfs.specs.Devices.{find, is_unplugged, felled, falls, fall, unplug_at, unplugged}
 use Rattle.ug_sysfs.specs.Begins.{begins_unplug}
 use Rattle.ug_sysfs.specs.Find.{find_some, find_none}
 use Rattle.ug_sysfs.specs.Sound.{kept_fall, kept_front, length_felled}
@@ -25,7 +25,7 @@ pub record IsFelled (t : ℕ) (ds fs : List Device) : Type 0 where
   pub all : (i : ℕ) (e : Device) → Below ds t i → slice_get fs i ≡ Some e → e.gone ≡ true
   pub only : (i : ℕ) (d e : Device) → Live ds i d → slice_get fs i ≡ Some e → e.gone ≡ true
       → Below ds t i
-  pub facts : Begins ds fs
+  pub facts : BeginsWith ds fs
   pub number : length fs ≡ length ds
 
 -- who is gone was gone, or is below the target
@@ -39,7 +39,7 @@ parent_marks : (t : ℕ) (ds bs : List Device) (n : ℕ) (d : Device) → IsSoun
 parent_marks t ds bs n d s m at g None e h = absurd (both_ways false refl h)
 parent_marks t ds bs n d s m at g (Some p) e h = seek (slice_get bs p) refl h
   where
-    seek : (o : Option Device) → slice_get bs p ≡ o → gone_of o ≡ true → Below ds t n
+    seek : (o : Option Device) → slice_get bs p ≡ o → is_unplugged o ≡ true → Below ds t n
     seek None a h = absurd (both_ways false refl h)
     seek (Some f) a h = elim (m.why p f a h) [
       | inl q ↦
@@ -108,7 +108,7 @@ target_goes t bs d rest n e h =
     or_right d.gone _ (or_left (eqb (length bs) t) _ (eq-eqb (length bs) t n)) in
     sym (ap (λ (x : Device). x.gone) same) ∙ gone
 
-all_below : (t : ℕ) (ds fs : List Device) → IsSound ds → Begins ds fs → Kept fs
+all_below : (t : ℕ) (ds fs : List Device) → IsSound ds → BeginsWith ds fs → Kept fs
     → ((e : Device) → slice_get fs t ≡ Some e → e.gone ≡ true) → (i : ℕ) → Below ds t i
     → (e : Device) → slice_get fs i ≡ Some e → e.gone ≡ true
 all_below t ds fs s b k top _ Itself e h = top e h

@@ -3,32 +3,32 @@ use Rattle.std.proofs.Common.{◌≡◌, ℕ, ◌+◌, ◌-◌, ◌^◌, ◌<◌
 use Rattle.std.proofs.lemmas.Bool.{both_ways, lt-ltb}
 use Rattle.std.specs.List.{slice_get}
 use Rattle.ug_kernel.specs.declared.device.Device.{Device}
-use Rattle.ug_types.specs.declared.control.Attr.{Attr}
-use Rattle.ug_types.specs.declared.control.Attr.TheVariants as attr
+use Rattle.ug_kernel.specs.declared.control.Attr.{Attr}
+use Rattle.ug_kernel.specs.declared.control.Attr.TheVariants as attr
 use Rattle.ug_kernel.specs.declared.calls.ReadOut.TheVariants as out
-use Rattle.ug_kernel.specs.Calls.{Call, Names, Open, Read, Ask_alive, Put, Close, Closing, Answer, raised, failed_listing, failed_open, failed_read, failed_probe, failed_put, Counted, Counts}
+use Rattle.ug_kernel.specs.Calls.{Call, Names, Open, Read, Ask_alive, Put, Close, Closing, Answer, raised, failed_listing, failed_open, failed_read, is_probe_failed, failed_put, Counted, Counts}
 use Rattle.ug_kernel.specs.Kernel.{Kernel}
-use Rattle.ug_kernel.specs.Called.{read_of, within, text_within}
+use Rattle.ug_kernel.specs.Called.{read_of, within_limit, text_within}
 use Rattle.ug_sysfs.specs.Devices.{find}
-use Rattle.ug_sysfs.specs.Reply.{Reply, failure, is_failure, IsMemory}
-use Rattle.ug_sysfs.specs.World.{World, one_more, with_file, opened_at, read_from, read_at, live_held, alive_of, probed_at, put_at, act, effect, entered, fate_of, faults_after, told_as, answer_from, refusing, answer_unless, answer_of, IsListed, Gives}
+use Rattle.ug_sysfs.specs.Reply.{Reply, failing_reply, is_failure, IsMemory}
+use Rattle.ug_sysfs.specs.World.{World, one_fault_more, with_file, opened_at, read_from, read_at, live_held, alive_of, probed_at, put_at, act, effect, entered, fate_of, faults_after, told_as, answer_from, refusing_memory, answer_unless, scripted_answer, IsListedCall, Gives}
 
-more_within : (n : ℕ) → (n ≤ one_more n) × (one_more n ≤ n + 1)
+more_within : (n : ℕ) → (n ≤ one_fault_more n) × (one_fault_more n ≤ n + 1)
 more_within n =
     elim (nat_lt n (2 ^ 64 - 1)) as (λ b. (n ≤ cond b (n + 1) n) × (cond b (n + 1) n ≤ n + 1)) [
       | true ↦ (omega arith, omega arith)
       | false ↦ (omega arith, omega arith)
     ]
 
-more_rises : (n : ℕ) → n < 2 ^ 64 - 1 → n < one_more n
+more_rises : (n : ℕ) → n < 2 ^ 64 - 1 → n < one_fault_more n
 more_rises n lt = rw (lt-ltb n (2 ^ 64 - 1) lt) (omega arith)
 
 counted_by : {X : Type 0} (failed : X → Bool) (x : X) (c f d g : ℕ) → d ≡ raised c
-    → g ≡ cond (failed x) (one_more f) f
+    → g ≡ cond (failed x) (one_fault_more f) f
     → Counted failed (record { answer = x; number = d; count = g }) c f d g
 counted_by failed x c f d g call fault = pick (failed x) refl fault
   where
-    pick : (b : Bool) → failed x ≡ b → g ≡ cond b (one_more f) f
+    pick : (b : Bool) → failed x ≡ b → g ≡ cond b (one_fault_more f) f
         → Counted failed (record { answer = x; number = d; count = g }) c f d g
     pick true e h =
         record {
@@ -55,9 +55,9 @@ record Fair (s : World) (c : Call) (a : Answer c) (t : World) : Type 0 where
   reply : Reply c
   answer : a ≡ told_as c reply t
   call : t.calls ≡ raised s.calls
-  fault : t.faults ≡ cond (is_failure c reply) (one_more s.faults) s.faults
+  fault : t.faults ≡ cond (is_failure c reply) (one_fault_more s.faults) s.faults
 
-within_true : (limit : ℕ) (bytes : List ℕ) → failed_read (within limit bytes) ≡ false
+within_true : (limit : ℕ) (bytes : List ℕ) → failed_read (within_limit limit bytes) ≡ false
 within_true limit bytes =
     elim (nat_le (length bytes) limit) as
     (λ b. failed_read (if b then out.Bytes bytes else out.TooLong) ≡ false)
@@ -92,11 +92,11 @@ act_true (Read name attr) k = at (find name 0 k.devices)
     at (Some i) = from (slice_get k.devices i)
 act_true (Ask_alive held) k = at (live_held held k.held k.devices)
   where
-    alive : (o : Option Device) → failed_probe (alive_of o) ≡ false
+    alive : (o : Option Device) → is_probe_failed (alive_of o) ≡ false
     alive None = refl
     alive (Some d) = refl
 
-    at : (o : Option ℕ) → failed_probe (probed_at o k.devices) ≡ false
+    at : (o : Option ℕ) → is_probe_failed (probed_at o k.devices) ≡ false
     at None = refl
     at (Some i) = alive (slice_get k.devices i)
 act_true (Put held write) k = at (live_held held k.held k.devices)
@@ -106,7 +106,7 @@ act_true (Put held write) k = at (live_held held k.held k.devices)
     at (Some i) = refl
 act_true (Close held) k = refl
 
-failure_true : (c : Call) → IsListed c → is_failure c (failure c) ≡ true
+failure_true : (c : Call) → IsListedCall c → is_failure c (failing_reply c) ≡ true
 failure_true Names l = refl
 failure_true (Open name control) l = refl
 failure_true (Read name attr) l = refl
@@ -122,12 +122,12 @@ memory_true (Ask_alive held) r m = absurd m
 memory_true (Put held write) r m = absurd m
 memory_true (Close held) r m = absurd m
 
-effect_faults : (f : Option Bool) (c : Call) (k : Kernel) (n : ℕ) → IsListed c
-    → faults_after f n ≡ cond (is_failure c (effect f c k).0) (one_more n) n
+effect_faults : (f : Option Bool) (c : Call) (k : Kernel) (n : ℕ) → IsListedCall c
+    → faults_after f n ≡ cond (is_failure c (effect f c k).0) (one_fault_more n) n
 effect_faults None c k n l = rw (act_true c k) refl
 effect_faults (Some b) c k n l = rw (failure_true c l) refl
 
-fair_from : (s : World) (c : Call) → IsListed c
+fair_from : (s : World) (c : Call) → IsListedCall c
     → Fair s c (answer_from (entered s) c).0 (answer_from (entered s) c).1
 fair_from s c l = record {
   reply = (effect (fate_of (entered s)) c (entered s).kernel).0;
@@ -136,11 +136,17 @@ fair_from s c l = record {
   fault = effect_faults (fate_of (entered s)) c (entered s).kernel s.faults l;
 }
 
-fair_refused : (s : World) (c : Call) → IsListed c → Fair s c (refusing s c).0 (refusing s c).1
+fair_refused : (s : World) (c : Call) → IsListedCall c
+    → Fair s c (refusing_memory s c).0 (refusing_memory s c).1
 fair_refused s c l =
-    record { reply = failure c; answer = refl; call = refl; fault = rw (failure_true c l) refl }
+    record {
+      reply = failing_reply c;
+      answer = refl;
+      call = refl;
+      fault = rw (failure_true c l) refl;
+    }
 
-fair_script : (out : Bool) (s : World) (c : Call) → IsListed c
+fair_script : (out : Bool) (s : World) (c : Call) → IsListedCall c
     → Fair s c (answer_unless out s c).0 (answer_unless out s c).1
 fair_script out s (Close held) l = absurd l
 fair_script true s Names l = fair_refused s Names l
@@ -154,10 +160,12 @@ fair_script false s (Read name attr) l = fair_from s (Read name attr) l
 fair_script false s (Ask_alive held) l = fair_from s (Ask_alive held) l
 fair_script false s (Put held write) l = fair_from s (Put held write) l
 
-fair : (s : World) (c : Call) (a : Answer c) (t : World) → IsListed c → Gives s c a t → Fair s c a t
+fair : (s : World) (c : Call) (a : Answer c) (t : World) → IsListedCall c → Gives s c a t
+    → Fair s c a t
 fair s c a t l g = elim g [
   | inl x ↦ subst (λ (b : Answer c). Fair s c b t) (sym x.0)
-      (subst (λ (u : World). Fair s c (answer_of s c).0 u) (sym x.1) (fair_script s.ran_out s c l))
+      (subst (λ (u : World). Fair s c (scripted_answer s c).0 u) (sym x.1)
+      (fair_script s.ran_out s c l))
   | inr y ↦ elim y [
     | inl z ↦ record {
       reply = z.reply;
@@ -166,7 +174,7 @@ fair s c a t l g = elim g [
       fault = rw (memory_true c z.reply z.memory) (ap (λ (w : World). w.faults) z.after);
     }
     | inr z ↦ record {
-      reply = failure c;
+      reply = failing_reply c;
       answer = z.answer;
       call = z.call_counted;
       fault = rw (failure_true c z.listed) z.fault_counted;
@@ -174,7 +182,7 @@ fair s c a t l g = elim g [
   ]
 ]
 
-counts_from : (s : World) (c : Call) (a : Answer c) (t : World) → IsListed c → Fair s c a t
+counts_from : (s : World) (c : Call) (a : Answer c) (t : World) → IsListedCall c → Fair s c a t
     → Counts c a s.calls s.faults t.calls t.faults
 counts_from s Names a t l f =
     rw f.answer (counted_by failed_listing f.reply s.calls s.faults t.calls t.faults f.call f.fault)
@@ -183,7 +191,8 @@ counts_from s (Open name control) a t l f =
 counts_from s (Read name attr) a t l f =
     rw f.answer (counted_by failed_read f.reply s.calls s.faults t.calls t.faults f.call f.fault)
 counts_from s (Ask_alive held) a t l f =
-    rw f.answer (counted_by failed_probe f.reply s.calls s.faults t.calls t.faults f.call f.fault)
+    rw f.answer
+    (counted_by is_probe_failed f.reply s.calls s.faults t.calls t.faults f.call f.fault)
 counts_from s (Put held write) a t l f =
     rw f.answer (counted_by failed_put f.reply s.calls s.faults t.calls t.faults f.call f.fault)
 counts_from s (Close held) a t l f = absurd l

@@ -26,14 +26,14 @@ abbrev pub sought : Option (List ℕ) → List Device → Parent
 sought None ds = parent.Nobody
 sought (Some name) ds = sought_at (find name 0 ds)
 
-abbrev pub gone_of : Option Device → Bool
-gone_of None = false
-gone_of (Some d) = d.gone
+abbrev pub is_unplugged : Option Device → Bool
+is_unplugged None = false
+is_unplugged (Some d) = d.gone
 
 -- whether a device falls with its parent
 abbrev pub falls : Option ℕ → List Device → Bool
 falls None ds = false
-falls (Some p) ds = gone_of (slice_get ds p)
+falls (Some p) ds = is_unplugged (slice_get ds p)
 
 -- the target goes, and each device after it whose parent is gone before it
 abbrev pub felled : ℕ → List Device → Device → Device

@@ -22,14 +22,14 @@ named name d g n h = elim (and_cases (not d.gone) (pointwise nat_eq d.name name)
   | inr b ↦ other_text d.name name (sym b) n
 ]
 
-pub record Found (name : List ℕ) (i : ℕ) (ds : List Device) : Type 0 where
+pub record FoundDevice (name : List ℕ) (i : ℕ) (ds : List Device) : Type 0 where
   pub device : Device
   pub live : Live ds i device
   pub named : device.name ≡ name
 
 -- one more in front
-found_more : (name : List ℕ) (i : ℕ) (d : Device) (ds : List Device) → Found name i ds
-    → Found name (suc i) (d ∷ ds)
+found_more : (name : List ℕ) (i : ℕ) (d : Device) (ds : List Device) → FoundDevice name i ds
+    → FoundDevice name (suc i) (d ∷ ds)
 found_more name i d ds f =
     record {
       device = f.device;
@@ -40,7 +40,7 @@ found_more name i d ds f =
 record FoundFrom (name : List ℕ) (n i : ℕ) (ds : List Device) : Type 0 where
   place : ℕ
   is : i ≡ place + n
-  found : Found name place ds
+  found : FoundDevice name place ds
 
 find_from : (name : List ℕ) (n i : ℕ) (ds : List Device) → find name n ds ≡ Some i
     → FoundFrom name n i ds
@@ -66,10 +66,10 @@ find_from name n i (d ∷ ds) h = pick (find_from name (n + 1) i ds) (is_named n
         }
 
 pub find_some : (name : List ℕ) (i : ℕ) (ds : List Device) → find name 0 ds ≡ Some i
-    → Found name i ds
+    → FoundDevice name i ds
 find_some name i ds h =
     let f = find_from name 0 i ds h in
-    let P : ℕ → Type 0 = λ j. Found name j ds in
+    let P : ℕ → Type 0 = λ j. FoundDevice name j ds in
     subst P (let e : f.place ≡ i = omega (arith, f.is) in e) f.found
 
 pub find_none : (name : List ℕ) (n : ℕ) (ds : List Device) → find name n ds ≡ None

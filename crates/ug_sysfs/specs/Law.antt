@@ -6,29 +6,29 @@ use Rattle.std.specs.List.{slice_get}
 use Rattle.ug_types.specs.Elements.{Has}
 use Rattle.ug_kernel.specs.declared.device.Device.{Device}
 use Rattle.ug_kernel.specs.declared.device.HeldFile.{HeldFile}
-use Rattle.ug_types.specs.declared.control.Control.{Control}
-use Rattle.ug_types.specs.declared.control.Attr.{Attr}
-use Rattle.ug_types.specs.declared.control.Attr.TheVariants as attr
-use Rattle.ug_types.specs.declared.control.Write.{Write}
+use Rattle.ug_kernel.specs.declared.control.Control.{Control}
+use Rattle.ug_kernel.specs.declared.control.Attr.{Attr}
+use Rattle.ug_kernel.specs.declared.control.Attr.TheVariants as attr
+use Rattle.ug_kernel.specs.declared.control.Write.{Write}
 use Rattle.ug_kernel.specs.declared.calls.ReadOut.{ReadOut}
 use Rattle.ug_kernel.specs.declared.calls.ReadOut.TheVariants as out
 use Rattle.ug_kernel.specs.Calls.{Call, Names, Open, Read, Ask_alive, Put, Close, Closing, Answer, raised}
 use Rattle.ug_kernel.specs.Kernel.{Kernel, Live, IsKernel, has_file, Stays, Moves}
-use Rattle.ug_kernel.specs.Called.{NoneHas, NoneLived, read_of, within, text_within, written_to, IsWritten, Does, IsGoneAt, IsAlive, IsFile, says_read, Says, Called, Follows}
+use Rattle.ug_kernel.specs.Called.{NoneHas, NoneLived, read_of, within_limit, text_within, written_to, IsWritten, DoesCall, IsGoneAt, IsAlive, IsFile, says_read, SaysAnswer, Called, Follows}
 use Rattle.ug_kernel.proofs.Places.{at_set_same, at_set_other}
 use Rattle.ug_kernel.proofs.Stayed.{live_back, lived_at, unmoving}
 use Rattle.ug_kernel.proofs.Sounds.{sound_set, held_push, has_stays, files_push, kernel_moves}
 use Rattle.ug_sysfs.specs.Devices.{find}
-use Rattle.ug_sysfs.specs.Reply.{Reply, failure, IsMemory}
-use Rattle.ug_sysfs.specs.World.{World, if_has, with_file, opened_at, read_from, read_at, live_held, live_names, probed_at, put_at, act, hidden, effect, shift, entered, ended, fate_of, counted, with_kernel, told_as, answer_from, answer_unless, Wants, Gives, begun, told}
+use Rattle.ug_sysfs.specs.Reply.{Reply, failing_reply, IsMemory}
+use Rattle.ug_sysfs.specs.World.{World, if_has, with_file, opened_at, read_from, read_at, live_held, live_names, probed_at, put_at, act, hidden, effect, shift, entered, call_ended, fate_of, failure_counted, with_kernel, told_as, answer_from, answer_unless, Wants, Gives, event_begun, told}
 use Rattle.ug_sysfs.specs.Begins.{happen_moves}
-use Rattle.ug_sysfs.specs.Find.{Found, find_some, find_none, listed_live, distinct_names, HeldLive, live_held_some, live_held_none}
+use Rattle.ug_sysfs.specs.Find.{FoundDevice, find_some, find_none, listed_live, distinct_names, HeldLive, live_held_some, live_held_none}
 use Rattle.ug_sysfs.specs.Sound.{sound_happen}
 
 -- what holds of the effect of a call
 record Ready (c : Call) (a : Answer c) (k l : Kernel) : Type 0 where
-  does : Does c a k l
-  says : (x y : Kernel) → IsKernel x → IsKernel k → Moves x k → Moves l y → Says c a x y
+  does : DoesCall c a k l
+  says : (x y : Kernel) → IsKernel x → IsKernel k → Moves x k → Moves l y → SaysAnswer c a x y
   sound : IsKernel k → IsKernel l
 
 none_lived : (name : List ℕ) (x k y : Kernel) → find name 0 k.devices ≡ None → Moves x k → Moves k y
@@ -39,21 +39,22 @@ none_lived name x k y h a b i d lived n =
 
 -- the device of a name with that file
 
-found_with : (control : Control) (name : List ℕ) (i j : ℕ) (ds : List Device) (f : Found name j ds)
+found_with : (control : Control) (name : List ℕ) (i j : ℕ) (ds : List Device)
+    (f : FoundDevice name j ds)
     (b : Bool) → has_file control f.device ≡ b → cond b (Some j) None ≡ Some i
-    → (g : Found name i ds) × (has_file control g.device ≡ true)
+    → (g : FoundDevice name i ds) × (has_file control g.device ≡ true)
 found_with control name i j ds f true e h =
-    let P : ℕ → Type 0 = λ n. (g : Found name n ds) × (has_file control g.device ≡ true) in
+    let P : ℕ → Type 0 = λ n. (g : FoundDevice name n ds) × (has_file control g.device ≡ true) in
     subst P (let same : j ≡ i = cc in same) (f, e)
 found_with control name i j ds f false e h = absurd (none-some i h)
 
 with_file_some : (control : Control) (name : List ℕ) (i : ℕ) (ds : List Device)
     → with_file control (find name 0 ds) ds ≡ Some i
-    → (g : Found name i ds) × (has_file control g.device ≡ true)
+    → (g : FoundDevice name i ds) × (has_file control g.device ≡ true)
 with_file_some control name i ds h = by (find name 0 ds) refl h
   where
     by : (o : Option ℕ) → find name 0 ds ≡ o → with_file control o ds ≡ Some i
-        → (g : Found name i ds) × (has_file control g.device ≡ true)
+        → (g : FoundDevice name i ds) × (has_file control g.device ≡ true)
     by None e g = absurd (none-some i g)
     by (Some j) e g =
         let f = find_some name j ds e in
@@ -126,7 +127,7 @@ says_file name at out.Absent x y h = h
 says_file name at out.TooLong x y h = h
 
 read_stays : (at : Attr) (d e : Device) → Stays d e → read_of at e ≡ read_of at d
-read_stays attr.Descriptors d e s = ap (λ (t : List ℕ). within 131072 t) s.descriptors
+read_stays attr.Descriptors d e s = ap (λ (t : List ℕ). within_limit 131072 t) s.descriptors
 read_stays attr.Product d e s = ap text_within s.product
 read_stays attr.Serial d e s = ap text_within s.serial
 read_stays attr.Connect d e s = ap text_within s.connect
@@ -265,7 +266,7 @@ ready_act (Ask_alive h) w k = ready_probe h w k (live_held h k.held k.devices) r
 ready_act (Put h write) w k = ready_put h write w k (live_held h k.held k.devices) refl
 ready_act (Close h) w k = record { does = refl; says = λ x y sx sk a b. tt; sound = λ s. s }
 
-ready_still : (c : Call) (w : World) (k : Kernel) → Ready c (told_as c (failure c) w) k k
+ready_still : (c : Call) (w : World) (k : Kernel) → Ready c (told_as c (failing_reply c) w) k k
 ready_still Names w k = record { does = refl; says = λ x y sx sk a b. tt; sound = λ s. s }
 ready_still (Open name control) w k =
     record { does = refl; says = λ x y sx sk a b. tt; sound = λ s. s }
@@ -277,7 +278,8 @@ ready_still (Close h) w k = record { does = refl; says = λ x y sx sk a b. tt; s
 
 ready_put_hidden : (h : ℕ) (write : Write) (w : World) (k : Kernel) (o : Option ℕ)
     → live_held h k.held k.devices ≡ o
-    → Ready (Put h write) (told_as (Put h write) (failure (Put h write)) w) k (put_at write o k).1
+    → Ready (Put h write) (told_as (Put h write) (failing_reply (Put h write)) w) k
+    (put_at write o k).1
 ready_put_hidden h write w k None e = ready_still (Put h write) w k
 ready_put_hidden h write w k (Some i) e =
     let f = live_held_some h i k.held k.devices e in
@@ -288,7 +290,7 @@ ready_put_hidden h write w k (Some i) e =
     }
 
 ready_hidden : (c : Call) (w : World) (k : Kernel)
-    → Ready c (told_as c (failure c) w) k (hidden c k)
+    → Ready c (told_as c (failing_reply c) w) k (hidden c k)
 ready_hidden Names w k = ready_still Names w k
 ready_hidden (Open name control) w k = ready_still (Open name control) w k
 ready_hidden (Read name at) w k = ready_still (Read name at) w k
@@ -326,7 +328,7 @@ shifts_sound n after w s =
 
 called_by : (c : Call) (a : Answer c) (r : Reply c) (s w : World)
     → Ready c a (entered s).kernel w.kernel → IsKernel s.kernel
-    → Called c a s.kernel (ended c r w).kernel
+    → Called c a s.kernel (call_ended c r w).kernel
 called_by c a r s w ok k =
     let at = shifts_sound (raised s.calls) false s k in
     record {
@@ -335,15 +337,15 @@ called_by c a r s w ok k =
       moves_before = shifts (raised s.calls) false s;
       effect = ok.does;
       moves_after = shifts w.calls true w;
-      says = ok.says s.kernel (ended c r w).kernel k at (shifts (raised s.calls) false s)
+      says = ok.says s.kernel (call_ended c r w).kernel k at (shifts (raised s.calls) false s)
           (shifts w.calls true w);
       sound_before = at;
       sound_after = ok.sound at;
       sound = shifts_sound w.calls true w (ok.sound at);
     }
 
-pub tells : (t : World) (l : Kernel) → told t ≡ Some l → (t.ran_out ≡ false) × (t.kernel ≡ l)
-tells t l h = pick t.ran_out refl h
+pub tells_kernel : (t : World) (l : Kernel) → told t ≡ Some l → (t.ran_out ≡ false) × (t.kernel ≡ l)
+tells_kernel t l h = pick t.ran_out refl h
   where
     pick : (b : Bool) → t.ran_out ≡ b → cond b None (Some t.kernel) ≡ Some l
         → (t.ran_out ≡ false) × (t.kernel ≡ l)
@@ -351,7 +353,7 @@ tells t l h = pick t.ran_out refl h
     pick false e h = (e, same_Some t.kernel l h)
 
 follows_by : (c : Call) (a : Answer c) (r : Reply c) (s w : World) (l : Kernel) → s.ran_out ≡ false
-    → Ready c a (entered s).kernel w.kernel → (ended c r w).kernel ≡ l → Follows c a (told s) l
+    → Ready c a (entered s).kernel w.kernel → (call_ended c r w).kernel ≡ l → Follows c a (told s) l
 follows_by c a r s w l run ok e = record {
   kernel = s.kernel;
   was = rw run refl;
@@ -364,10 +366,10 @@ from_script : (s : World) (c : Call) (a : Answer c) (t : World) (l : Kernel) →
     → Follows c a (told s) l
 from_script s c a t l run ea et el =
     let w = entered s in
-    let u = with_kernel (counted w) (effect (fate_of w) c w.kernel).1 in
+    let u = with_kernel (failure_counted w) (effect (fate_of w) c w.kernel).1 in
     let r = (effect (fate_of w) c w.kernel).0 in
-    let ok : Ready c (told_as c r (ended c r u)) w.kernel u.kernel =
-    ready (fate_of w) c (ended c r u) w.kernel in
+    let ok : Ready c (told_as c r (call_ended c r u)) w.kernel u.kernel =
+    ready (fate_of w) c (call_ended c r u) w.kernel in
     follows_by c a r s u l run (subst (λ (b : Answer c). Ready c b w.kernel u.kernel) (sym ea) ok)
     (ap (λ (x : World). x.kernel) (sym et) ∙ el)
 
@@ -426,13 +428,13 @@ by_want s c a t l w el =
 pub does_what_it_may : (s : World) (c : Call) (a : Answer c) (t : World) (l : Kernel)
     → Gives s c a t → told t ≡ Some l → Follows c a (told s) l
 does_what_it_may s c a t l g h = elim g [
-  | inl x ↦ by_script s.ran_out s c a t l refl x.0 x.1 (tells t l h).0 (tells t l h).1
+  | inl x ↦ by_script s.ran_out s c a t l refl x.0 x.1 (tells_kernel t l h).0 (tells_kernel t l h).1
   | inr y ↦ elim y [
-    | inl z ↦ by_want s c a t l z (tells t l h).1
-    | inr z ↦ absurd (both_ways t.ran_out (tells t l h).0 z.out)
+    | inl z ↦ by_want s c a t l z (tells_kernel t l h).1
+    | inr z ↦ absurd (both_ways t.ran_out (tells_kernel t l h).0 z.out)
   ]
 ]
 
-pub begins_afresh : (s t : World) → t ≡ begun s
+pub begins_afresh : (s t : World) → t ≡ event_begun s
     → (told t ≡ told s) × (t.calls ≡ 0) × (t.faults ≡ s.faults)
 begins_afresh s t e = (ap told e, ap (λ (w : World). w.calls) e, ap (λ (w : World). w.faults) e)

@@ -16,21 +16,21 @@ is_live (Some d) = not d.gone
 abbrev pub is_live_at : List Device → ℕ → Bool
 is_live_at ds i = is_live (slice_get ds i)
 
-abbrev pub name_of : Option Device → Option (List ℕ)
-name_of None = None
-name_of (Some d) = Some d.name
+abbrev pub device_name : Option Device → Option (List ℕ)
+device_name None = None
+device_name (Some d) = Some d.name
 
 abbrev pub name_at : List Device → ℕ → Option (List ℕ)
-name_at ds i = name_of (slice_get ds i)
+name_at ds i = device_name (slice_get ds i)
 
 abbrev pub with_name : Option (List ℕ) → List (List ℕ) → List (List ℕ)
 with_name None names = names
 with_name (Some name) names = name ∷ names
 
 -- the names of the devices at these places
-abbrev pub names_at : List ℕ → List Device → List (List ℕ)
-names_at [] ds = []
-names_at (i ∷ is) ds = with_name (name_at ds i) (names_at is ds)
+abbrev pub names_at_places : List ℕ → List Device → List (List ℕ)
+names_at_places [] ds = []
+names_at_places (i ∷ is) ds = with_name (name_at ds i) (names_at_places is ds)
 
 -- the device at place i goes where it is the target or falls with its parent, unless it was born
 -- before the target

@@ -6,11 +6,11 @@ use Rattle.ug_kernel.specs.Calls.{Call, Names, Open, Read, Ask_alive, Put, Close
 use Rattle.ug_kernel.specs.Kernel.{Kernel}
 use Rattle.ug_kernel.specs.declared.record.CallRecord.{CallRecord}
 use Rattle.ug_kernel.specs.Entries.{entry_of}
-use Rattle.ug_sysfs.specs.Reply.{Reply, listed}
-use Rattle.ug_sysfs.specs.World.{World, effect, entered, fate_of, told_as, answer_from, answer_unless, Gives, begun, told}
-use Rattle.ug_sysfs.specs.Law.{tells}
+use Rattle.ug_sysfs.specs.Reply.{Reply, calls_listed}
+use Rattle.ug_sysfs.specs.World.{World, effect, entered, fate_of, told_as, answer_from, answer_unless, Gives, event_begun, told}
+use Rattle.ug_sysfs.specs.Law.{tells_kernel}
 
-entry_told : (c : Call) (r : Reply c) (w : World) → entry_of c (told_as c r w) ≡ listed c r
+entry_told : (c : Call) (r : Reply c) (w : World) → entry_of c (told_as c r w) ≡ calls_listed c r
 entry_told Names r w = refl
 entry_told (Open name control) r w = refl
 entry_told (Read name attr) r w = refl
@@ -20,7 +20,7 @@ entry_told (Close held) r w = refl
 
 -- a call that has entered and ends
 noted_by : (s : World) (c : Call) (r : Reply c) (a : Answer c) (t : World) → a ≡ told_as c r t
-    → t.made ≡ s.made ++ listed c r → t.made ≡ s.made ++ entry_of c a
+    → t.made ≡ s.made ++ calls_listed c r → t.made ≡ s.made ++ entry_of c a
 noted_by s c r a t ea m =
     m ∙ ap (λ (ms : List CallRecord). s.made ++ ms)
     (sym (entry_told c r t) ∙ ap (entry_of c) (sym ea))
@@ -54,12 +54,12 @@ by_script false s (Put h write) a t e ea et run = from_script s (Put h write) a 
 pub notes_itself : (s : World) (c : Call) (a : Answer c) (t : World) (l : Kernel) → Gives s c a t
     → told t ≡ Some l → t.made ≡ s.made ++ entry_of c a
 notes_itself s c a t l g h = elim g [
-  | inl x ↦ by_script s.ran_out s c a t refl x.0 x.1 (tells t l h).0
+  | inl x ↦ by_script s.ran_out s c a t refl x.0 x.1 (tells_kernel t l h).0
   | inr y ↦ elim y [
     | inl z ↦ noted_by s c z.reply a t z.answer (ap (λ (x : World). x.made) z.after)
-    | inr z ↦ absurd (both_ways t.ran_out (tells t l h).0 z.out)
+    | inr z ↦ absurd (both_ways t.ran_out (tells_kernel t l h).0 z.out)
   ]
 ]
 
-pub begins_empty : (s t : World) → t ≡ begun s → t.made ≡ []
+pub begins_empty : (s t : World) → t ≡ event_begun s → t.made ≡ []
 begins_empty s t e = ap (λ (w : World). w.made) e

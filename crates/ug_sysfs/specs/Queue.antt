@@ -21,10 +21,10 @@ or_end None ms = length ms
 or_end (Some place) ms = place
 
 -- the end, unless the last comes later; then the place of the first that does
-abbrev pub place_for : Scheduled → List Scheduled → ℕ
-place_for m ms =
+abbrev pub queue_place : Scheduled → List Scheduled → ℕ
+queue_place m ms =
     if goes_last m ms then length ms else or_end (position (λ x. comes_later x m) ms) ms
 
 -- behind each that comes no later, in a list that is in order
 abbrev pub with_move : Scheduled → List Scheduled → List Scheduled
-with_move m ms = insert ms (place_for m ms) m
+with_move m ms = insert ms (queue_place m ms) m

@@ -10,7 +10,7 @@ use Rattle.ug_kernel.specs.declared.calls.Probe.{Probe}
 use Rattle.ug_kernel.specs.declared.calls.Probe.TheVariants as probe
 use Rattle.ug_kernel.specs.declared.calls.Wrote.{Wrote}
 use Rattle.ug_kernel.specs.declared.calls.Wrote.TheVariants as wrote
-use Rattle.ug_kernel.specs.Calls.{Call, Names, Open, Read, Ask_alive, Put, Close, Closing, Closed, failed_listing, failed_open, failed_read, failed_probe, failed_put}
+use Rattle.ug_kernel.specs.Calls.{Call, Names, Open, Read, Ask_alive, Put, Close, Closing, Closed, failed_listing, failed_open, failed_read, is_probe_failed, failed_put}
 use Rattle.ug_kernel.specs.declared.record.Asked.TheVariants as asked
 use Rattle.ug_kernel.specs.declared.record.Kind.{Kind}
 use Rattle.ug_kernel.specs.declared.record.Kind.TheVariants as kind
@@ -27,19 +27,19 @@ Reply (Put held write) = Wrote
 Reply (Close held) = Closing
 
 -- a failure. Closing has none
-abbrev pub failure : (call : Call) → Reply call
-failure Names = listing.Failed
-failure (Open name control) = opened.Failed
-failure (Read name attr) = out.Failed
-failure (Ask_alive held) = probe.Failed
-failure (Put held write) = wrote.Failed
-failure (Close held) = Closed
+abbrev pub failing_reply : (call : Call) → Reply call
+failing_reply Names = listing.Failed
+failing_reply (Open name control) = opened.Failed
+failing_reply (Read name attr) = out.Failed
+failing_reply (Ask_alive held) = probe.Failed
+failing_reply (Put held write) = wrote.Failed
+failing_reply (Close held) = Closed
 
 abbrev pub is_failure : (call : Call) → Reply call → Bool
 is_failure Names reply = failed_listing reply
 is_failure (Open name control) reply = failed_open reply
 is_failure (Read name attr) reply = failed_read reply
-is_failure (Ask_alive held) reply = failed_probe reply
+is_failure (Ask_alive held) reply = is_probe_failed reply
 is_failure (Put held write) reply = failed_put reply
 is_failure (Close held) reply = false
 
@@ -57,13 +57,14 @@ is_failed kind.Failed = true
 is_failed other = false
 
 -- a call as it is listed. Closing isn't
-abbrev pub listed : (call : Call) → Reply call → List CallRecord
-listed Names reply = record { asked = asked.List; kind = listing_kind reply } ∷ []
-listed (Open name control) reply =
+abbrev pub calls_listed : (call : Call) → Reply call → List CallRecord
+calls_listed Names reply = record { asked = asked.List; kind = listing_kind reply } ∷ []
+calls_listed (Open name control) reply =
     record { asked = asked.Open name control; kind = opened_kind reply } ∷ []
-listed (Read name attr) reply = record { asked = asked.Read name attr; kind = read_kind reply } ∷ []
-listed (Ask_alive held) reply =
+calls_listed (Read name attr) reply =
+    record { asked = asked.Read name attr; kind = read_kind reply } ∷ []
+calls_listed (Ask_alive held) reply =
     record { asked = asked.Probe (record { 0 = held }); kind = probe_kind reply } ∷ []
-listed (Put held write) reply =
+calls_listed (Put held write) reply =
     record { asked = asked.Write (record { 0 = held }) write; kind = wrote_kind reply } ∷ []
-listed (Close held) reply = []
+calls_listed (Close held) reply = []

@@ -14,7 +14,7 @@ use Rattle.ug_sysfs.specs.declared.script.NewDevice.{NewDevice}
 use Rattle.ug_sysfs.specs.declared.script.Move.{Move}
 use Rattle.ug_sysfs.specs.declared.script.Move.TheVariants.{Plug, Unplug}
 use Rattle.ug_sysfs.specs.declared.script.Scheduled.{Scheduled}
-use Rattle.ug_sysfs.specs.Devices.{hub_under, find, born_as, gone_of, felled, falls, fall, unplug_at, unplugged, born_under, placed, plug_at, plugged}
+use Rattle.ug_sysfs.specs.Devices.{hub_under, find, born_as, is_unplugged, felled, falls, fall, unplug_at, unplugged, born_under, placed, plug_at, plugged}
 use Rattle.ug_sysfs.specs.World.{moved, due, happen, happen_all}
 use Rattle.ug_sysfs.specs.Begins.{length_fall, begins_unplug, plugged_moves, unplugged_moves, moved_moves, happened_moves}
 use Rattle.ug_sysfs.specs.Find.{find_some, find_none}
@@ -34,7 +34,7 @@ kept_push target bs d k = record { none = none }
             let a = or_parts d.gone (eqb (length bs) target || falls d.parent bs) here in
             let b = or_parts (eqb (length bs) target) (falls d.parent bs) a.1 in
             let up : d.parent ≡ Some p = ap (λ (y : Device). y.parent) r.1 ∙ h in
-            let c : gone_of (slice_get bs p) ≡ false = rw up at b.1 in
+            let c : is_unplugged (slice_get bs p) ≡ false = rw up at b.1 in
             rw q.1 at c
       ]
       | inr q ↦ elim (at_push bs (felled target bs d) i e l.at) [

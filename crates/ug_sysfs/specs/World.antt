@@ -3,9 +3,9 @@ use Rattle.std.specs.Prelude.{◌≡◌, ℕ, ◌+◌, ◌-◌, ◌^◌, Bool, t
 use Rattle.std.specs.List.{slice_get}
 use Rattle.ug_kernel.specs.declared.device.Device.{Device}
 use Rattle.ug_kernel.specs.declared.device.HeldFile.{HeldFile}
-use Rattle.ug_types.specs.declared.control.Control.{Control}
-use Rattle.ug_types.specs.declared.control.Attr.{Attr}
-use Rattle.ug_types.specs.declared.control.Write.{Write}
+use Rattle.ug_kernel.specs.declared.control.Control.{Control}
+use Rattle.ug_kernel.specs.declared.control.Attr.{Attr}
+use Rattle.ug_kernel.specs.declared.control.Write.{Write}
 use Rattle.ug_kernel.specs.declared.calls.Listing.TheVariants as listing
 use Rattle.ug_kernel.specs.declared.calls.Opened.{Opened}
 use Rattle.ug_kernel.specs.declared.calls.Opened.TheVariants as opened
@@ -24,7 +24,7 @@ use Rattle.ug_sysfs.specs.declared.script.Move.TheVariants.{Plug, Unplug}
 use Rattle.ug_sysfs.specs.declared.script.Scheduled.{Scheduled}
 use Rattle.ug_kernel.specs.declared.record.CallRecord.{CallRecord}
 use Rattle.ug_sysfs.specs.Devices.{find, plugged, unplugged}
-use Rattle.ug_sysfs.specs.Reply.{Reply, failure, is_failure, is_failed, IsMemory, listed}
+use Rattle.ug_sysfs.specs.Reply.{Reply, failing_reply, is_failure, is_failed, IsMemory, calls_listed}
 
 -- what is still to come, which calls fail, the event's calls, and whether an entry of the log or of
 -- these calls found no memory
@@ -39,8 +39,8 @@ pub record World : Type 0 where
   pub ran_out : Bool
 
 -- one fault more, up to the greatest number of 64 bits
-abbrev pub one_more : ℕ → ℕ
-one_more n = cond (nat_lt n (2 ^ 64 - 1)) (n + 1) n
+abbrev pub one_fault_more : ℕ → ℕ
+one_fault_more n = cond (nat_lt n (2 ^ 64 - 1)) (n + 1) n
 
 abbrev pub moved : Move → List Device → List Device
 moved (Plug d) ds = plugged d ds
@@ -167,7 +167,7 @@ hidden (Close held) k = k
 
 abbrev pub effect : Option Bool → (call : Call) → Kernel → Reply call × Kernel
 effect None call k = act call k
-effect (Some b) call k = (failure call, cond b (hidden call k) k)
+effect (Some b) call k = (failing_reply call, cond b (hidden call k) k)
 
 abbrev pub shift : ℕ → Bool → World → World
 shift n after w = record w {
@@ -181,11 +181,11 @@ abbrev pub entered : World → World
 entered w = shift (raised w.calls) false w
 
 -- the moves after its effect happen, and the call is listed
-abbrev pub noted : List CallRecord → World → World
-noted made w = record (shift w.calls true w) { made = w.made ++ made }
+abbrev pub call_noted : List CallRecord → World → World
+call_noted made w = record (shift w.calls true w) { made = w.made ++ made }
 
-abbrev pub ended : (call : Call) → Reply call → World → World
-ended call reply w = noted (listed call reply) w
+abbrev pub call_ended : (call : Call) → Reply call → World → World
+call_ended call reply w = call_noted (calls_listed call reply) w
 
 -- a call of a kernel that is halted fails without effect
 abbrev pub fate_of : World → Option Bool
@@ -197,11 +197,11 @@ IsUnfailing w = (w.fails ≡ []) × (w.halted ≡ false)
 
 abbrev pub faults_after : Option Bool → ℕ → ℕ
 faults_after None n = n
-faults_after (Some b) n = one_more n
+faults_after (Some b) n = one_fault_more n
 
 -- a call that fails is counted
-abbrev pub counted : World → World
-counted w = record w { faults = faults_after (fate_of w) w.faults }
+abbrev pub failure_counted : World → World
+failure_counted w = record w { faults = faults_after (fate_of w) w.faults }
 
 abbrev pub with_kernel : World → Kernel → World
 with_kernel w k = record w { kernel = k }
@@ -222,31 +222,31 @@ answering call reply w = (told_as call reply w, w)
 abbrev pub answer_from : World → (call : Call) → Answer call × World
 answer_from w call =
     answering call (effect (fate_of w) call w.kernel).0
-    (ended call (effect (fate_of w) call w.kernel).0
-    (with_kernel (counted w) (effect (fate_of w) call w.kernel).1))
+    (call_ended call (effect (fate_of w) call w.kernel).0
+    (with_kernel (failure_counted w) (effect (fate_of w) call w.kernel).1))
 
 -- a kernel that has run out fails
 abbrev pub refused : World → World
-refused w = record w { calls = raised w.calls; faults = one_more w.faults }
+refused w = record w { calls = raised w.calls; faults = one_fault_more w.faults }
 
-abbrev pub refusing : World → (call : Call) → Answer call × World
-refusing w call = answering call (failure call) (refused w)
+abbrev pub refusing_memory : World → (call : Call) → Answer call × World
+refusing_memory w call = answering call (failing_reply call) (refused w)
 
 abbrev pub answer_unless : Bool → World → (call : Call) → Answer call × World
 answer_unless out w (Close held) = (Closed, w)
-answer_unless out w Names = cond out (refusing w Names) (answer_from (entered w) Names)
+answer_unless out w Names = cond out (refusing_memory w Names) (answer_from (entered w) Names)
 answer_unless out w (Open name control) =
-    cond out (refusing w (Open name control)) (answer_from (entered w) (Open name control))
+    cond out (refusing_memory w (Open name control)) (answer_from (entered w) (Open name control))
 answer_unless out w (Read name attr) =
-    cond out (refusing w (Read name attr)) (answer_from (entered w) (Read name attr))
+    cond out (refusing_memory w (Read name attr)) (answer_from (entered w) (Read name attr))
 answer_unless out w (Ask_alive held) =
-    cond out (refusing w (Ask_alive held)) (answer_from (entered w) (Ask_alive held))
+    cond out (refusing_memory w (Ask_alive held)) (answer_from (entered w) (Ask_alive held))
 answer_unless out w (Put held write) =
-    cond out (refusing w (Put held write)) (answer_from (entered w) (Put held write))
+    cond out (refusing_memory w (Put held write)) (answer_from (entered w) (Put held write))
 
 -- what the script fixes. Closing changes nothing
-abbrev pub answer_of : World → (call : Call) → Answer call × World
-answer_of w call = answer_unless w.ran_out w call
+abbrev pub scripted_answer : World → (call : Call) → Answer call × World
+scripted_answer w call = answer_unless w.ran_out w call
 
 -- a call begins, unless the kernel has run out
 abbrev pub Enters : World → Bool → World → Type 0
@@ -257,34 +257,34 @@ Enters w false u = (w.ran_out ≡ true) × (u ≡ refused w)
 abbrev pub Effects : World → (call : Call) → Reply call → World → Type 0
 Effects w call reply u =
     (((reply ≡ (effect (fate_of w) call w.kernel).0)
-    × (u ≡ with_kernel (counted w) (effect (fate_of w) call w.kernel).1))
+    × (u ≡ with_kernel (failure_counted w) (effect (fate_of w) call w.kernel).1))
     ⊎ ((IsMemory call reply × (u ≡ w) × (fate_of w ≡ None))
-    ⊎ ((reply ≡ failure call) × (u.ran_out ≡ true) × (u.calls ≡ w.calls))))
-    × (u.faults ≡ cond (is_failure call reply) (one_more w.faults) w.faults)
+    ⊎ ((reply ≡ failing_reply call) × (u.ran_out ≡ true) × (u.calls ≡ w.calls))))
+    × (u.faults ≡ cond (is_failure call reply) (one_fault_more w.faults) w.faults)
 
 -- the call is listed, or there is no memory for that. A call that then fails is counted
 abbrev pub Ends : World → CallRecord → Bool → World → Type 0
-Ends w made true u = u ≡ noted (made ∷ []) w
+Ends w made true u = u ≡ call_noted (made ∷ []) w
 Ends w made false u =
     (u.ran_out ≡ true) × (u.calls ≡ w.calls)
-    × (u.faults ≡ cond (is_failed made.kind) w.faults (one_more w.faults))
+    × (u.faults ≡ cond (is_failed made.kind) w.faults (one_fault_more w.faults))
 
 -- a write that has its effect
-abbrev pub Puts : World → ℕ → Write → Wrote → World → Type 0
-Puts w held write reply u =
+abbrev pub PutsWrite : World → ℕ → Write → Wrote → World → Type 0
+PutsWrite w held write reply u =
     (reply ≡ (act (Put held write) w.kernel).0)
     × (u ≡ with_kernel w (act (Put held write) w.kernel).1)
 
 abbrev pub RunsOut : World → World → Type 0
 RunsOut w u = (u.ran_out ≡ true) × (u.calls ≡ w.calls) × (u.faults ≡ w.faults)
 
-abbrev pub IsListed : Call → Type 0
-IsListed (Close held) = ⊥
-IsListed Names = Unit {0}
-IsListed (Open name control) = Unit {0}
-IsListed (Read name attr) = Unit {0}
-IsListed (Ask_alive held) = Unit {0}
-IsListed (Put held write) = Unit {0}
+abbrev pub IsListedCall : Call → Type 0
+IsListedCall (Close held) = ⊥
+IsListedCall Names = Unit {0}
+IsListedCall (Open name control) = Unit {0}
+IsListedCall (Read name attr) = Unit {0}
+IsListedCall (Ask_alive held) = Unit {0}
+IsListedCall (Put held write) = Unit {0}
 
 -- memory for the answer was refused: the call does nothing, but it is counted, and its moves happen
 pub record Wants (s : World) (call : Call) (a : Answer call) (t : World) : Type 0 where
@@ -292,26 +292,26 @@ pub record Wants (s : World) (call : Call) (a : Answer call) (t : World) : Type 
   pub memory : IsMemory call reply
   pub ran : s.ran_out ≡ false
   pub unscheduled : fate_of (entered s) ≡ None
-  pub after : t ≡ ended call reply (entered s)
+  pub after : t ≡ call_ended call reply (entered s)
   pub answer : a ≡ told_as call reply t
 
 -- memory for an entry was refused: the call fails, and nothing is told from then on
 pub record Loses (s : World) (call : Call) (a : Answer call) (t : World) : Type 0 where
-  pub listed : IsListed call
+  pub listed : IsListedCall call
   pub out : t.ran_out ≡ true
   pub call_counted : t.calls ≡ raised s.calls
-  pub fault_counted : t.faults ≡ one_more s.faults
-  pub answer : a ≡ told_as call (failure call) t
+  pub fault_counted : t.faults ≡ one_fault_more s.faults
+  pub answer : a ≡ told_as call (failing_reply call) t
 
 -- the script's answer; or want of memory
 abbrev pub Gives : World → (call : Call) → Answer call → World → Type 0
 Gives s call a t =
-    ((a ≡ (answer_of s call).0) × (t ≡ (answer_of s call).1))
+    ((a ≡ (scripted_answer s call).0) × (t ≡ (scripted_answer s call).1))
     ⊎ (Wants s call a t ⊎ Loses s call a t)
 
 -- an event begins
-abbrev pub begun : World → World
-begun w = record w { calls = 0; made = [] }
+abbrev pub event_begun : World → World
+event_begun w = record w { calls = 0; made = [] }
 
 -- each call fails from now on, up to the event's end
 abbrev pub halting : World → World

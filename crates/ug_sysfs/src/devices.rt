@@ -1,7 +1,7 @@
 // What devices answer.
 ghost use Rattle.std.specs.Prelude.{◌≡◌, ◌⊎◌, IfOk};
-ghost use Rattle.ug_kernel.specs.Called.{read_of, within, text_within};
-ghost use Rattle.ug_sysfs.specs.Living.{name_at, names_at};
+ghost use Rattle.ug_kernel.specs.Called.{read_of, within_limit, text_within};
+ghost use Rattle.ug_sysfs.specs.Living.{name_at, names_at_places};
 ghost use Rattle.ug_sysfs.specs.World.{live_held, with_file};
 ghost use Rattle.ug_kernel.specs.Kernel.{has_file};
 
@@ -24,7 +24,7 @@ pub fn names_at(
     devices: &[Device],
     places: &[usize],
 ) -> Result<List<NodeName>, NoMemory>
-    ensures { IfOk result (λ names. names ≡ names_at places.now devices.now) }
+    ensures { IfOk result (λ names. names ≡ names_at_places places.now devices.now) }
 {
     let mut names = List::new(alloc);
     for place in places {
@@ -37,7 +37,7 @@ pub fn names_at(
 
 // Its bytes, unless there are too many.
 fn read_within(alloc: Global, bytes: &[u8], limit: usize) -> ReadOut
-    ensures { (result ≡ within limit bytes.now) ⊎ (result ≡ ReadOut.Memory) }
+    ensures { (result ≡ within_limit limit bytes.now) ⊎ (result ≡ ReadOut.Memory) }
 {
     if bytes.len() > limit {
         return ReadOut::TooLong;

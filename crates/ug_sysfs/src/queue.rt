@@ -32,7 +32,7 @@ fn first_later(moves: &VecDeque<Scheduled>, action: &Scheduled) -> Option<usize>
 
 fn place_for(moves: &VecDeque<Scheduled>, action: &Scheduled) -> usize
     ensures bound { result ≤ length moves.now.items }
-    ensures place { result ≡ queue.place_for action.now moves.now.items }
+    ensures place { result ≡ queue.queue_place action.now moves.now.items }
 {
     if goes_last(moves, action) {
         return moves.len();

@@ -23,11 +23,11 @@ impl Model for Roster {
 
     ghost Value = { Listed };
 
-    ghost use Rattle.ug_sysfs.specs.Indexed.{IsIndexed};
+    ghost use Rattle.ug_sysfs.specs.Indexed.{HasIndex};
 
     ghost view = { λ r. record { devices = r.all.items; room = r.room } };
 
-    ghost invariant = { IsIndexed };
+    ghost invariant = { HasIndex };
 }
 
 impl Roster {

@@ -1,7 +1,7 @@
 // What a script has in store.
 ghost use Rattle.std.specs.Prelude.{◌≡◌, ◌+◌, ◌≤◌, []};
 ghost use Rattle.ug_kernel.specs.Kernel.{live_count};
-ghost use Rattle.ug_sysfs.specs.World.{moved, plugs_of, first_is_due, happen, happen_all, plugs, one_more};
+ghost use Rattle.ug_sysfs.specs.World.{moved, plugs_of, first_is_due, happen, happen_all, plugs, one_fault_more};
 
 use crate::census::Census;
 use crate::parent::plug;
@@ -66,7 +66,7 @@ pub fn happen_all(census: &mut Census, moves: &mut VecDeque<Scheduled>)
 
 /// One fault more, up to the greatest number.
 pub fn one_more(faults: u64) -> u64
-    ensures { result ≡ one_more faults }
+    ensures { result ≡ one_fault_more faults }
 {
     if faults < u64::MAX {
         faults + 1

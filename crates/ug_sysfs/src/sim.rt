@@ -7,7 +7,7 @@ ghost use Rattle.ug_kernel.specs.Few.{HasFew, AreDistinct};
 ghost use Rattle.ug_sysfs.specs.Law.{does_what_it_may, begins_afresh};
 ghost use Rattle.ug_sysfs.specs.Queue.{with_move};
 ghost use Rattle.ug_sysfs.specs.Noted.{notes_itself, begins_empty};
-ghost use Rattle.ug_sysfs.specs.World.{halting, moved, Gives, Effects, RunsOut, Puts, Ends, Enters, begun, over, fate_of, counted, told};
+ghost use Rattle.ug_sysfs.specs.World.{halting, moved, Gives, Effects, RunsOut, PutsWrite, Ends, Enters, event_begun, over, fate_of, failure_counted, told};
 
 use crate::census::Census;
 use crate::devices::{live_held, read_file, with_file};
@@ -21,10 +21,10 @@ use std::alloc::Global;
 use std::collections::VecDeque;
 use std::marker::Model;
 use ug_kernel::{
-    Asked, Attr, CallRecord, Control, Device, Effect, HeldFile, Kind, Listing, Opened, Probe,
+    Asked, Attr, CallRecord, Control, Device, Effect, Held, HeldFile, Kind, Listing, Opened, Probe,
     ReadOut, Sysfs, Write, Wrote,
 };
-use ug_types::{Held, NoMemory, NodeName};
+use ug_types::{NoMemory, NodeName};
 
 /// A kernel in memory. Its script fixes each answer, except where memory is refused. Where an entry of the log
 /// or of the calls finds no memory, it runs out: its calls fail from then on, and it tells no kernel.
@@ -256,7 +256,7 @@ impl SimKernel {
     // Whether the call fails, and then it is counted.
     fn fate(&mut self) -> Option<bool>
         ensures fate { result ≡ fate_of self.old }
-        ensures counted { self.new ≡ counted self.old }
+        ensures counted { self.new ≡ failure_counted self.old }
     {
         let fate = if self.halted {
             Some(false)
@@ -335,7 +335,7 @@ impl SimKernel {
     // What a write does where it has its effect. There may be no memory for its entry.
     fn put(&mut self, held: Held, write: Write) -> Option<Wrote>
         ensures { MatchOption result (RunsOut self.old self.new)
-            (λ reply. Puts self.old held.0 write reply self.new) }
+            (λ reply. PutsWrite self.old held.0 write reply self.new) }
     {
         match live_held(self.census.devices(), &self.held, held.0 as usize) {
             Some(device) => match self.log.push(Effect { device, write }) {
@@ -375,7 +375,7 @@ impl SimKernel {
 impl Sysfs for SimKernel {
     ghost gives = { Gives };
 
-    ghost begins = { λ s t. t ≡ begun s };
+    ghost begins = { λ s t. t ≡ event_begun s };
 
     ghost told = { told };
 

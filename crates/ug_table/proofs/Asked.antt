@@ -3,7 +3,7 @@ use Rattle.std.proofs.Common.{◌≡◌, ℕ, ◌+◌, ◌≤◌, Bool, true, fa
 use Rattle.std.specs.Prelude.{nat_eq}
 use Rattle.ug_kernel.specs.declared.calls.ReadOut.{ReadOut}
 use Rattle.ug_kernel.specs.declared.calls.Opened.{Opened}
-use Rattle.ug_types.specs.declared.control.Attr.{Attr}
+use Rattle.ug_kernel.specs.declared.control.Attr.{Attr}
 use Rattle.ug_types.specs.declared.record.Attrs.{Attrs}
 use Rattle.ug_node.specs.declared.files.OwnFiles.{OwnFiles}
 use Rattle.ug_node.proofs.BindShapes.{told, Reads, No_more, Then_read, Holds_by, Held_on, Died, Unasked, ReadsFirst, None_read, One_read, own_first, reads_own, count_more, way_binds, way_holds}
@@ -11,7 +11,7 @@ use Rattle.ug_node.proofs.Laws.{binds_unwritten}
 use Rattle.ug_node.proofs.UnderShapes.{Under_by, Under_cut, Under_alive, Under_other, Probed_by, Found_alive, Found_gone, Found_none, Behind_by, Cut_behind, Read_behind, binds_behind}
 use Rattle.ug_table.specs.Parts.{IsDue}
 use Rattle.ug_table.proofs.Above.{OfParent, way_under}
-use Rattle.ug_table.proofs.Common.{WritesNothing, parent_of, Held, Control, Authorized, Open, Read, Ask_alive, Put, Close, Probe, Told, Call, Closing, Made, answered, failures, count_calls, failures_more, Bound, Binding, RemoveHold, Fault, FailedCall, Entry, Write, Known, Standing, Settled, OpenFile, open_file, files_after, AreAbout, EndsAtFailure, Behind, behind_more, AreDue, PutMade, puts_of, binding_by, held_of, Way, Unwritten, reads_last, probes, without_asking, ending_calls, control_of}
+use Rattle.ug_table.proofs.Common.{WritesNothing, parent_of, Held, Control, Authorized, Open, Read, Ask_alive, Put, Close, Probe, ToldAnswer, Call, Closing, Made, made_with, failures, count_calls, failures_more, Bound, Binding, RemoveHold, Fault, FailedCall, Entry, Write, Known, Standing, Settled, OpenFile, open_file, files_after, AreAbout, EndsAtFailure, Behind, behind_more, AreDue, PutMade, puts_of, binding_by, held_of, Way, Unwritten, reads_last, probes, without_asking, ending_calls, control_of}
 use Rattle.ug_table.proofs.PartCalls.{has_want, want_more, failed_by, are_short, puts_more, files_join, behind_after, about_more, ends_more, due_more, CallsOf, calls_are, calls_as, closed_first, binding_faults, binding_files, open_calls, stop_calls, stop_files, stop_unbound, binds_calls, binding_most, IsFound, bound_few, bound_found}
 use Rattle.ug_table.proofs.Shapes.{Valued, Same, Set, OnceMade, Not_held, Put_on, Carried, By_value, And_removal, Brought, Left_open, Let_go, Treated, No_default, And_default, Cut_default, Gone_default}
 use Rattle.ug_table.proofs.Standings.{is_same}
@@ -60,7 +60,7 @@ holds_none of kept x = (refl, refl)
 once_none : {what : Write} {name : List ℕ} {known : Known} {ms : List Made} {es : List Entry} {how : Settled} (of : List ℕ) (kept : ℕ) → OnceMade name known what ms es how → NoneAsked of kept false ms
 once_none {what} {name} {known} of kept (Not_held ms r es how way u) = holds_none of kept (way_holds (control_of what) name known.held.0 ms r way)
 once_none {what} {name} {known} of kept (Put_on ms file t shut es how way w) =
-    none_more of kept false ms (answered (Put file.0 what) t ∷ answered (Close file.0) shut ∷ []) (holds_none of kept (way_holds (control_of what) name known.held.0 ms (RemoveHold.Ready file) way)) (refl, (refl, refl))
+    none_more of kept false ms (made_with (Put file.0 what) t ∷ made_with (Close file.0) shut ∷ []) (holds_none of kept (way_holds (control_of what) name known.held.0 ms (RemoveHold.Ready file) way)) (refl, (refl, refl))
 
 brought_none : {name : List ℕ} {known : Known} {on : Bool} {ms : List Made} {es : List Entry} {how : Settled} (of : List ℕ) (kept : ℕ) → Brought name known on ms es how → NoneAsked of kept false ms
 brought_none {name} {known} {on} of kept b = by b
@@ -71,13 +71,13 @@ brought_none {name} {known} {on} of kept b = by b
 
     by : {ms : List Made} {es : List Entry} {how : Settled} → Brought name known on ms es how → NoneAsked of kept false ms
     by (Left_open ms es how c n) = carried c
-    by (Let_go ms es shut c) = none_more of kept false ms (answered (Close known.held.0) shut ∷ []) (carried c) (refl, refl)
+    by (Let_go ms es shut c) = none_more of kept false ms (made_with (Close known.held.0) shut ∷ []) (carried c) (refl, refl)
 
 pub treated_none : {hub : Option Write} {name : List ℕ} {known : Known} {on d : Bool} {ms : List Made} {es : List Entry} {how : Settled} (of : List ℕ) (kept : ℕ) → Treated hub name known on d ms es how → NoneAsked of kept false ms
 treated_none of kept (No_default ms es how e b) = brought_none of kept b
 treated_none of kept (And_default what ds ms fs es how e w b) = none_more of kept false ds ms (once_none of kept w) (brought_none of kept b)
 treated_none of kept (Cut_default what ds fs how e w cut) = once_none of kept w
-treated_none {name = name} {known = known} of kept (Gone_default what ds fs shut e w) = none_more of kept false ds (answered (Close known.held.0) shut ∷ []) (once_none of kept w) (refl, refl)
+treated_none {name = name} {known = known} of kept (Gone_default what ds fs shut e w) = none_more of kept false ds (made_with (Close known.held.0) shut ∷ []) (once_none of kept w) (refl, refl)
 
 -- Calls of a part, as `CallsOf` has them: those that end it are about the name, and the faults are theirs.
 pub record CallsBy (name : List ℕ) (kept : Option ℕ) (files : List OpenFile) (b : Behind) (ms : List Made)
@@ -173,7 +173,7 @@ reads_none of kept read ns No_more k = k read
 reads_none of kept read ns (Then_read on at t ms may came r) k = (and_none read, reads_none of kept (reads_last of (Read on at)) ns r k)
 
 -- a reading that stops, and the closing
-stops_none : (name of : List ℕ) (at : Attr) (t : Told ReadOut) (file kept : ℕ) (shut : Closing) (last : Bool) → NoneAsked name kept last (answered (Read of at) t ∷ answered (Close file) shut ∷ [])
+stops_none : (name of : List ℕ) (at : Attr) (t : ToldAnswer ReadOut) (file kept : ℕ) (shut : Closing) (last : Bool) → NoneAsked name kept last (made_with (Read of at) t ∷ made_with (Close file) shut ∷ [])
 stops_none name of at t file kept shut last = (and_none last, (and_none (reads_last name (Read of at)), refl))
 
 probed_none : {file : Held} {own : OwnFiles} {parent : Option Attrs} {ns : List Made} {r : Binding} (name : List ℕ) (kept : ℕ) → Probed_by file own parent ns r → NoneAsked name kept false ns
@@ -186,13 +186,13 @@ behind_none {name} {parent} {file} of kept (Cut_behind ms at t shut why r left a
 behind_none of kept (Read_behind x y z ns r a first h) = (refl, (refl, (refl, probed_none of kept h)))
 
 -- where the probe stands, it alone is left out
-asked_out : (name : List ℕ) (kept : ℕ) (file : Held) (call count : ℕ) (d p s c : Told ReadOut) (t : Told Probe) (ns : List Made) → NoneAsked name kept false ns → (os : List Made)
-    → let front = answered (Open name Authorized) (told (Opened.Token file) call count) in
-    ending_calls name (Some kept) ((front ∷ reads_own name d p s c (answered (Ask_alive kept) t ∷ ns)) ++ os)
+asked_out : (name : List ℕ) (kept : ℕ) (file : Held) (call count : ℕ) (d p s c : ToldAnswer ReadOut) (t : ToldAnswer Probe) (ns : List Made) → NoneAsked name kept false ns → (os : List Made)
+    → let front = made_with (Open name Authorized) (told (Opened.Token file) call count) in
+    ending_calls name (Some kept) ((front ∷ reads_own name d p s c (made_with (Ask_alive kept) t ∷ ns)) ++ os)
     ≡ (front ∷ reads_own name d p s c ns) ++ ending_calls name (Some kept) os
 asked_out name kept file call count d p s c t ns none os =
-    let front : Made = answered (Open name Authorized) (told (Opened.Token file) call count) in
-    let m : Made = answered (Ask_alive kept) t in
+    let front : Made = made_with (Open name Authorized) (told (Opened.Token file) call count) in
+    let m : Made = made_with (Ask_alive kept) t in
     let number : nat_eq kept kept ≡ true = grind arith in
     let is : (reads_last name (Read name Attr.Connect) && probes kept (Ask_alive kept)) ≡ true = ap (λ (b : Bool). b && nat_eq kept kept) (is_same name name refl) ∙ number in
     let rest = without_asking name kept false (ns ++ os) in
@@ -216,12 +216,12 @@ unwritten_due b [] w = tt
 unwritten_due b (m ∷ ms) w = (quiet_due m.call b w.0, unwritten_due (behind_more b m) ms w.1)
 
 -- the calls without the probe are those of a binding
-with_probe : {name : List ℕ} {kept : ℕ} {files after : List OpenFile} {faults : List Fault} {n : ℕ} (b : Behind) (file : Held) (call count : ℕ) (d p s c : Told ReadOut) (t : Told Probe) (ns : List Made)
-    → let front = answered (Open name Authorized) (told (Opened.Token file) call count) in
+with_probe : {name : List ℕ} {kept : ℕ} {files after : List OpenFile} {faults : List Fault} {n : ℕ} (b : Behind) (file : Held) (call count : ℕ) (d p s c : ToldAnswer ReadOut) (t : ToldAnswer Probe) (ns : List Made)
+    → let front = made_with (Open name Authorized) (told (Opened.Token file) call count) in
     NoneAsked name kept false ns → ((x : Behind) → AreDue x ns) → CallsOf name files b (front ∷ reads_own name d p s c ns) after faults [] n
-    → CallsBy name (Some kept) files b (front ∷ reads_own name d p s c (answered (Ask_alive kept) t ∷ ns)) after faults [] (n + 1)
+    → CallsBy name (Some kept) files b (front ∷ reads_own name d p s c (made_with (Ask_alive kept) t ∷ ns)) after faults [] (n + 1)
 with_probe {name} {kept} b file call count d p s c t ns none due h = record {
-  ending = answered (Open name Authorized) (told (Opened.Token file) call count) ∷ reads_own name d p s c ns;
+  ending = made_with (Open name Authorized) (told (Opened.Token file) call count) ∷ reads_own name d p s c ns;
   is = asked_out name kept file call count d p s c t ns none;
   about = h.about;
   ends = h.ends;
@@ -244,7 +244,7 @@ own_few first = omega (arith, first_count first)
 under_calls : {name parent : List ℕ} {kept : ℕ} {ms : List Made} {r : Binding} (files : List OpenFile) (b : Behind) → parent_of name ≡ Some parent → Under_by name parent kept ms r
     → CallsBy name (Some kept) files b ms (binding_files r files) (binding_faults r) [] 10
 under_calls {name} {parent} {kept} {ms} files b above (Under_cut file call count ns at t shut why r left a first stops e) =
-    let last : List Made = answered (Read name at) t ∷ answered (Close file.0) shut ∷ [] in
+    let last : List Made = made_with (Read name at) t ∷ made_with (Close file.0) shut ∷ [] in
     let all = open_calls files b file call count a (own_few first) (λ c. stop_calls files c name file.0 shut (inl refl) stops) in
     let none : NoneAsked name kept false ms = (refl, reads_none name kept false last a (λ x. stops_none name name at t file.0 kept shut x)) in
     by_as refl (omega arith) (all_end (λ os. none_stays name kept false ms os none)

@@ -1,6 +1,6 @@
 -- A sweep, flat: the listing, the closings of what isn't listed, and a chain of parts, one for each name, each with its shape.
 use Rattle.std.proofs.Common.{◌≡◌, ℕ, Bool, true, false, not, cond, map, List, [], ◌∷◌, refl, sym, ◌∙◌, ap, subst, ◌&&◌, ◌++◌, Option, Some, append_assoc, append-nil}
-use Rattle.ug_table.proofs.Common.{Terms, terms_of, terms_for, Write, Held, Close, Call, Answer, Names, Kernel, IsKernel, Quiet, Ask, calls, Runs, Made, answered, Along, failures, failure_of, lists, numbered, farewells, AreClosings, unlisted_files, Standing, in_sweep_order, FailedCall, Listing, Entry, Fault, State, Kept, kept_of, with_kept, noted, Answers, Laters, Settled, Target, Cause, closing_unlisted, settling_all, resettling_all, parted, names_of, resumed, unlisted, marked_listed, if_room, after_list, sweeping, settling, resettling, Ways, Sure, ways_more, along_sound, Unwritten, along_quiet, Ran, ways_next, ways_last, behind_sure, ways_run, filter, again_numbered, resettling_numbered}
+use Rattle.ug_table.proofs.Common.{Terms, terms_of, terms_for, Write, Held, Close, Call, Answer, Names, Kernel, IsKernel, Quiet, Ask, calls, Runs, Made, made_with, Along, failures, failure_of, lists, numbered, farewells, AreClosings, unlisted_files, Standing, in_sweep_order, FailedCall, Listing, Entry, Fault, State, Kept, kept_of, with_kept, noted, Answers, Laters, Settled, Target, Cause, closing_unlisted, settling_all, resettling_all, parted, names_of, resumed, unlisted, marked_listed, if_room, after_list, sweeping, settling, resettling, Ways, Sure, ways_more, along_sound, Unwritten, along_quiet, Ran, ways_next, ways_last, behind_sure, ways_run, filter, again_numbered, resettling_numbered}
 use Rattle.ug_table.proofs.Shapes.{Piece, Settles, settles, Resettles, resettles, told_at}
 
 -- The closing of the files of what isn't listed.
@@ -15,7 +15,7 @@ closes names (x ∷ ss) = by (lists names x.name) (closes names ss)
 
     by : (b : Bool) → Ways (closing_unlisted names ss) (Sure (λ ms (r : Unit {0}). AreClosings (unlisted_files names ss) ms)) → Ways (cond b (closing_unlisted names ss) (Ask (Close x.held.0) (λ closed. closing_unlisted names ss))) (Sure (λ ms (r : Unit {0}). AreClosings (files b) ms))
     by true more = more
-    by false more = λ shut. ways_more (Sure (λ ms (r : Unit {0}). AreClosings (unlisted_files names ss) ms)) (Sure (λ ms (r : Unit {0}). AreClosings (files false) (answered (Close x.held.0) shut ∷ ms))) (closing_unlisted names ss) (λ ok ms r h. (h.0, (shut, ms, refl, h.1))) more
+    by false more = λ shut. ways_more (Sure (λ ms (r : Unit {0}). AreClosings (unlisted_files names ss) ms)) (Sure (λ ms (r : Unit {0}). AreClosings (files false) (made_with (Close x.held.0) shut ∷ ms))) (closing_unlisted names ss) (λ ok ms r h. (h.0, (shut, ms, refl, h.1))) more
 
 pub closings_calm : (files : List Held) (ms : List Made) → AreClosings files ms → failures ms ≡ []
 closings_calm [] ms h = ap failures h
@@ -58,14 +58,14 @@ pub data Goes {J : Type 0} (answer : Answers J) (later : Laters J) (w : State J)
       → Chain answer later true (terms_for w) (in_sweep_order found)
       (marked_listed (parted (in_sweep_order found) w)) ok made es v
       → Goes answer later w ok
-      (answered Names (told_at (Listing.Names found) failed) ∷ (shut ++ made))
+      (made_with Names (told_at (Listing.Names found) failed) ∷ (shut ++ made))
       (farewells (in_sweep_order found) w.standings ++ es) v
   Unlisted : (list : Listing) (failed : FailedCall) (room : Bool) (why : Fault) (ok : Bool)
       (made : List Made) (es : List Entry) (v : State J)
       → Without list failed room why
       → Chain answer later false (terms_for w) (names_of w.standings)
       (noted w (Entry.UnsettledAll why)) ok made es v
-      → Goes answer later w (room && ok) (answered Names (told_at list failed) ∷ made)
+      → Goes answer later w (room && ok) (made_with Names (told_at list failed) ∷ made)
       (Entry.UnsettledAll why ∷ es) v
 
 -- the walk
@@ -124,7 +124,7 @@ module _ {J : Type 0} (answer : Answers J) (later : Laters J) where
     where
       -- behind that answer to the listing
       Behind : Listing → FailedCall → Bool → List Made → State J → Type 0
-      Behind list failed ok ms v = Comes w ok (answered Names (told_at list failed) ∷ ms) v
+      Behind list failed ok ms v = Comes w ok (made_with Names (told_at list failed) ∷ ms) v
 
       without : (list : Listing) (failed : FailedCall) (room : Bool) (why : Fault)
           → Without list failed room why

@@ -1,7 +1,7 @@
 -- A part is fair, and so is a sweep.
 use Rattle.std.proofs.Common.{◌≡◌, ℕ, Bool, true, false, not, ◌&&◌, List, [], ◌∷◌, ◌++◌, ◌⊎◌, Some, slice_get, inl, inr, refl, sym, ◌∙◌, ap, subst, append_assoc, append-nil, ◌+◌, ◌<◌, is_none, Option, None, arith, cond, map, true≢false}
 use Rattle.std.proofs.lemmas.Bool.{and_parts, and_cases, both_ways, not-true, not-false, cond_both, cases_Bool}
-use Rattle.ug_table.proofs.Common.{Has, IsOpenable, AllDistinct, Terms, terms_for, did_default, with_default, defaulted_known, default_due, default_write, Default, Target, Control, Authorized, Remove, Write, Wrote, Put, Close, Told, Closing, Ask_alive, Names, Device, Kernel, Moves, IsKernel, Live, IsWritten, IsGoneAt, says_put, Called, says_listing, Grows, Quiet, calls, Runs, RemoveHold, Entry, State, Answers, Laters, known_of, standing_of, without, with_standing, place_for, lists, farewells, Tries, IsDevice, MayHave, MayHaveNot, wrote_entries, HasDone, WasDone, IsOnce, control_of, is_done, IsFirst, Account, Start, Had, Had_not, AreInOrder, none_before, IsProbed, Stand, numbers_of, Judge, IsOne, IsTold, HasStanding, IsFair, IsDoneMarked, swept_before, IsGone, Went as WentAway, gone_of, Standing, Settled, Made, answered, Along, failure_of, FailedCall, parent_of, Judged, Held, Cause, Bound, Binding, Known, in_sweep_order, unlisted_files, Fault, Probe, Listing, names_of, parted, marked_listed, sweeping, unsettled_by, standing_for, judged_entry, tried_standings, dropped, has_right, distinct_one, has_map, has_new, has_old, filter_has, has_filter, write_of, is_reject, CallsFor, is_to_go, Way, way_runs, along_split, filter, some_same, called_grows, called_quiet, quiet_grows, grows_refl, HasHash, parent_standing, binding_for, judged_bound, bound_hash, map_has, distinct_filter}
+use Rattle.ug_table.proofs.Common.{Has, IsOpenable, AllDistinct, Terms, terms_for, did_default, with_default, defaulted_known, default_due, default_write, Default, Target, Control, Authorized, Remove, Write, Wrote, Put, Close, ToldAnswer, Closing, Ask_alive, Names, Device, Kernel, Moves, IsKernel, Live, IsWritten, IsGoneAt, says_put, Called, says_listing, Grows, Quiet, calls, Runs, RemoveHold, Entry, State, Answers, Laters, known_of, standing_of, without, with_standing, place_for, lists, farewells, Tries, IsDevice, MayHave, MayHaveNot, wrote_entries, HasDone, WasDone, IsOnce, control_of, is_done, IsFirst, Account, Start, Had, Had_not, AreInOrder, none_before, IsProbed, Stand, numbers_of, Judge, IsOne, IsTold, HasStanding, IsFair, IsDoneMarked, swept_before, IsGone, Went as WentAway, gone_of, Standing, Settled, Made, made_with, Along, failure_of, FailedCall, parent_of, Judged, Held, Cause, Bound, Binding, Known, in_sweep_order, unlisted_files, Fault, Probe, Listing, names_of, parted, marked_listed, sweeping, unsettled_by, standing_for, judged_entry, tried_standings, dropped, has_right, distinct_one, has_map, has_new, has_old, filter_has, has_filter, write_of, is_reject, CallsFor, is_to_go, Way, way_runs, along_split, filter, some_same, called_grows, called_quiet, quiet_grows, grows_refl, HasHash, parent_standing, binding_for, judged_bound, bound_hash, map_has, distinct_filter}
 use Rattle.ug_kernel.specs.declared.device.HeldFile.{HeldFile}
 use Rattle.ug_kernel.specs.declared.device.Effect.{Effect}
 use Rattle.ug_node.specs.Removal.{holding, HoldSays}
@@ -18,7 +18,7 @@ use Rattle.ug_record.specs.Records.{child_hash_of}
 use Rattle.ug_table.proofs.Above.{ParentsBy, kept_at, for_law, bound_record}
 use Rattle.ug_table.proofs.Marks.{order_new, keeps_filter, sweep_in_order, AreIn, dropped_in, AreSplit, AreFresh, split_in, parted_split, parted_fresh, part_split, part_fresh, flat_part, order_distinct}
 use Rattle.ug_types.proofs.Sorting.{to_sweep_order}
-use Rattle.ug_kernel.proofs.Held.{live_before}
+use Rattle.ug_kernel.proofs.HeldFiles.{live_before}
 use Rattle.ug_table.proofs.Chains.{closings_quiet, Chain, Over, First, Goes, Listed, Unlisted, sweeping_run}
 
 -- The writes to the device of a standing, with their entries, and what becomes of the standing.
@@ -95,7 +95,7 @@ put_none_done s what outcome none number name w once (inr (inr x)) = x
 joined : {J : Type 0} {answer : Answers J} {later : Laters J} {terms : Terms} {tried : Tries} {k l : Kernel} {w : State J} (u : State J) (ss : List Standing) (es fs : List Entry) → FairFrom answer later terms tried k w l (record u { standings = ss; entries = (u.entries ++ es) ++ fs }) → FairFrom answer later terms tried k w l (more u ss (es ++ fs))
 joined {answer = answer} {later = later} {terms = terms} {tried = tried} {k = k} {l = l} {w = w} u ss es fs h = subst (λ (v : List Entry). FairFrom answer later terms tried k w l (record u { standings = ss; entries = v })) (append_assoc u.entries es fs) h
 
-value_fair : {J : Type 0} {answer : Answers J} {later : Laters J} {terms : Terms} {tried : Tries} {k m : Kernel} {w : State J} {t : Told Wrote} {es : List Entry} {how : Settled} (u : State J) (n : Kernel) (s : Standing) (after : Settled → List Standing) (what : Write) → Written s.name s.number what t es how → Has u.standings s → Afters u.standings s after → says_put s.held.0 t.answer n m → FairFrom answer later terms tried k w m (more u u.standings (wrote_entries s.number s.name what t.answer)) → FairFrom answer later terms tried k w m (more u (mid u after how) es)
+value_fair : {J : Type 0} {answer : Answers J} {later : Laters J} {terms : Terms} {tried : Tries} {k m : Kernel} {w : State J} {t : ToldAnswer Wrote} {es : List Entry} {how : Settled} (u : State J) (n : Kernel) (s : Standing) (after : Settled → List Standing) (what : Write) → Written s.name s.number what t es how → Has u.standings s → Afters u.standings s after → says_put s.held.0 t.answer n m → FairFrom answer later terms tried k w m (more u u.standings (wrote_entries s.number s.name what t.answer)) → FairFrom answer later terms tried k w m (more u (mid u after how) es)
 value_fair u n s after what (Done failed) has a says h = h
 value_fair u n s after what (Went failed) has a says h = joined u (after Settled.Nobody) (wrote_entries s.number s.name what Wrote.Gone) _ (then_went s (after Settled.Nobody) has (a Settled.Nobody) says h)
 value_fair u n s after what (Broke failed) has a says h = let after_fault = a (Settled.Fault failed) in then_same (after (Settled.Fault failed)) after_fault.0 after_fault.1 h
@@ -152,7 +152,7 @@ record Ends (file : Control) (P : Type 0) (s : Standing) (ss : List Standing) (a
   fault : (failed : FailedCall) → Alike ss (after (Settled.Fault failed)) × KeepMarks ss (after (Settled.Fault failed))
   short : Alike ss (after Settled.Memory) × KeepMarks ss (after Settled.Memory)
 
-put_on_fair : {J : Type 0} {answer : Answers J} {later : Laters J} {terms : Terms} {tried : Tries} {k m : Kernel} {w u : State J} {t : Told Wrote} {es : List Entry} {how : Settled} (x y : Kernel) (s : Standing) (i file : ℕ) (what : Write) (P : Type 0) (after : Settled → List Standing) (shut : Closing) → Written s.name s.number what t es how → StandsAs m u s i → IsHeldAs m file i (control_of what) → CallsFor terms.hub s.name s.verdict what → P → is_done (control_of what) s ≡ false → Ends (control_of what) P s u.standings after → Called (Put file what) t m x → Called (Close file) shut x y → FairFrom answer later terms tried k w m u → FairFrom answer later terms tried k w y (more u (after how) es)
+put_on_fair : {J : Type 0} {answer : Answers J} {later : Laters J} {terms : Terms} {tried : Tries} {k m : Kernel} {w u : State J} {t : ToldAnswer Wrote} {es : List Entry} {how : Settled} (x y : Kernel) (s : Standing) (i file : ℕ) (what : Write) (P : Type 0) (after : Settled → List Standing) (shut : Closing) → Written s.name s.number what t es how → StandsAs m u s i → IsHeldAs m file i (control_of what) → CallsFor terms.hub s.name s.verdict what → P → is_done (control_of what) s ≡ false → Ends (control_of what) P s u.standings after → Called (Put file what) t m x → Called (Close file) shut x y → FairFrom answer later terms tried k w m u → FairFrom answer later terms tried k w y (more u (after how) es)
 put_on_fair {u = u} x y s i file what P after shut (Done failed) at of due p fresh a c d h =
     then_called (Close file) shut y tt d (done_fair x s i file what P failed (after Settled.Stands) at of due p fresh a.done c h)
 put_on_fair {m = m} {u = u} x y s i file what P after shut (Went failed) at of due p fresh a c d h =
@@ -186,7 +186,7 @@ once_fair {what = what} l s P after can (Not_held ms r es how way v) due p fresh
     let x = held_fair l s (control_of what) ms r can has way along h in
     unheld_fair s x.0 (control_of what) P after v has x.2 a x.3
 once_fair {m = m} {u = u} {what = what} l s P after can (Put_on ms file t shut es how way v) due p fresh has a h along =
-    let cut = along_split calls ms (answered (Put file.0 what) t ∷ answered (Close file.0) shut ∷ []) m l along in
+    let cut = along_split calls ms (made_with (Put file.0 what) t ∷ made_with (Close file.0) shut ∷ []) m l along in
     let x = held_fair cut.0 s (control_of what) ms (RemoveHold.Ready file) can has way cut.1 h in
     fair_end l (more u (after how) es) refl cut.2.2.2
     (put_on_fair cut.2.0 cut.2.2.0 s x.0 file.0 what P after shut v (has, x.1) x.2 due p fresh a cut.2.1
@@ -212,7 +212,7 @@ carried_fair {m = m} {u = u} l s after (And_removal ms ns es fs how go v r) has 
 pub brought_fair : {J : Type 0} {answer : Answers J} {later : Laters J} {terms : Terms} {tried : Tries} {k m : Kernel} {w u : State J} {on : Bool} {ms : List Made} {es : List Entry} {how : Settled} (l : Kernel) (s : Standing) (after : Settled → List Standing) → Brought s.name (known_of s) on ms es how → Has u.standings s → ((how : Settled) → After s u.standings how (after how)) → FairFrom answer later terms tried k w m u → Along calls m ms l → FairFrom answer later terms tried k w l (record u { standings = after how; entries = u.entries ++ es })
 brought_fair l s after (Left_open ms es how c n) has a h along = carried_fair l s after c has a h along
 brought_fair {m = m} l s after (Let_go ms es shut c) has a h along =
-    let cut = along_split calls ms (answered (Close s.held.0) shut ∷ []) m l along in
+    let cut = along_split calls ms (made_with (Close s.held.0) shut ∷ []) m l along in
     fair_end l _ refl cut.2.2 (then_called (Close s.held.0) shut cut.2.0 tt cut.2.1 (carried_fair cut.0 s after c has a h cut.1))
 
 -- The settling of one name is fair.
@@ -396,7 +396,7 @@ known_treated {m = m} {u = u} l name known on at h (And_default what ds ms fs es
 known_treated {answer = answer} {later = later} {terms = terms} {tried = tried} {k = k} {w = w} {u = u} l name known on at h (Cut_default what ds fs how e o cut) along =
     subst (λ (v : List Standing). FairFrom answer later terms tried k w l (more u v fs)) (after_cut u.standings name how cut.0) (default_fair l name known what at e h o along)
 known_treated {m = m} l name known on at h (Gone_default what ds fs shut e o) along =
-    let cut = along_split calls ds (answered (Close known.held.0) shut ∷ []) m l along in
+    let cut = along_split calls ds (made_with (Close known.held.0) shut ∷ []) m l along in
     fair_end l _ refl cut.2.2 (then_called (Close known.held.0) shut cut.2.0 tt cut.2.1 (default_fair cut.0 name known what at e h o cut.1))
 
 -- and the name is told where it ends unsettled
@@ -479,7 +479,7 @@ flat_fair {m = m} {u = u} {name = name} l (Unbound ms ns es fs rs r how t openin
     let cut = along_split calls ms ns m l a in
     unbound_fair u rs es end (binds_fair l name ns r way (opening_fair cut.0 opening so h cut.1).fair cut.2).3
 flat_fair {m = m} {u = u} {name = name} l (No_place ms ns es rs b shut t opening way) is so h a =
-    let last : List Made = answered (Close b.held.0) shut ∷ [] in
+    let last : List Made = made_with (Close b.held.0) shut ∷ [] in
     let cut = along_split calls ms (ns ++ last) m l a in
     let far = along_split calls ns last cut.0 l cut.2 in
     let x = binds_fair far.0 name ns (Binding.Bound b) way (opening_fair cut.0 opening so h cut.1).fair far.1 in

@@ -4,7 +4,7 @@ use Rattle.std.proofs.lemmas.List.{length-append}
 use Rattle.ug_types.proofs.Sorting.{length-sweep_order}
 use Rattle.std.proofs.lemmas.Bool.{cond_both}
 use Rattle.ug_kernel.specs.Along.{IsAbove}
-use Rattle.ug_table.proofs.Common.{Write, reads_last, probes, without_asking, ending_calls, kept_file, Terms, in_sweep_order, FailedCall, Listing, Call, Names, Answer, Runs, Made, answered, Along, failure, failures, Rises, Entry, Fault, State, Answers, Laters, lists, farewells, told_by, failures_told, numbers_given, InParts, unlisted_files, AfterListing, GoesInParts, TellsFaults, Standing, names_of, sweeping, failures_more, filter}
+use Rattle.ug_table.proofs.Common.{Write, reads_last, probes, without_asking, ending_calls, kept_file, Terms, in_sweep_order, FailedCall, Listing, Call, Names, Answer, Runs, Made, made_with, Along, failure, failures, Rises, Entry, Fault, State, Answers, Laters, lists, farewells, call_told, failures_told, numbers_given, InParts, unlisted_files, AfterListing, GoesInParts, TellsFaults, Standing, names_of, sweeping, failures_more, filter}
 use Rattle.ug_kernel.proofs.Rises.{Counting, along_numbered, along_rises}
 use Rattle.ug_table.proofs.Shapes.{told_at, next_after}
 use Rattle.ug_table.proofs.OnePart.{told_more, given_count, given_more, flat_given, flat_none, flat_is_part}
@@ -77,7 +77,7 @@ parts_thin hub binds (name ∷ names) before after calls ending entries h =
 -- and so are those of a sweep
 pub sweep_thin : {S J : Type 0} {gives : S → (call : Call) → Answer call → S → Type 0} {s t : S} {w v : State J}
     → (g : GoesInParts gives s w t v)
-    → Thinner (failures (answered Names g.listed ∷ g.later)) (failures (answered Names g.listed ∷ (g.shut ++ g.ending)))
+    → Thinner (failures (made_with Names g.listed ∷ g.later)) (failures (made_with Names g.listed ∷ (g.shut ++ g.ending)))
 sweep_thin {w = w} {v = v} g =
     let parts = parts_thin w.hub g.binds g.names g.left v.standings g.made g.ending g.rest g.parts in
     thin_more (thin_refl (failure Names g.listed))
@@ -203,15 +203,15 @@ chain_tells (First name names how w x v ok more ms ns es p c) =
     ∙ sym (failures_more (ending_calls name (kept_file name w.standings) ms) (chain_ending c))
 
 why_told : {list : Listing} {failed : FailedCall} {room : Bool} {why : Fault}
-    → Without list failed room why → told_by why ≡ failure Names (told_at list failed)
+    → Without list failed room why → call_told why ≡ failure Names (told_at list failed)
 why_told (List_failed failed) = refl
 why_told x = refl
 
 abbrev pub goes_ending : {J : Type 0} {answer : Answers J} {later : Laters J} {w v : State J} {ok : Bool}
     {ms : List Made} {es : List Entry} → Goes answer later w ok ms es v → List Made
 goes_ending (Listed found failed ok shut made es v closings c) =
-    answered Names (told_at (Listing.Names found) failed) ∷ (shut ++ chain_ending c)
-goes_ending (Unlisted list failed room why ok made es v by c) = answered Names (told_at list failed) ∷ chain_ending c
+    made_with Names (told_at (Listing.Names found) failed) ∷ (shut ++ chain_ending c)
+goes_ending (Unlisted list failed room why ok made es v by c) = made_with Names (told_at list failed) ∷ chain_ending c
 
 pub goes_tells : {J : Type 0} {answer : Answers J} {later : Laters J} {w v : State J} {ok : Bool}
     {ms : List Made} {es : List Entry} → (g : Goes answer later w ok ms es v)
@@ -226,7 +226,7 @@ goes_tells {w = w} (Listed found failed ok shut made es v closings c) =
     ∙ ap (λ (y : List FailedCall). y ++ failures (chain_ending c))
     (closings_calm (unlisted_files names w.standings) shut closings))
 goes_tells (Unlisted list failed room why ok made es v by c) =
-    ap (λ (y : List FailedCall). told_by why ++ y) (chain_tells c)
+    ap (λ (y : List FailedCall). call_told why ++ y) (chain_tells c)
     ∙ ap (λ (y : List FailedCall). y ++ failures (chain_ending c)) (why_told by)
 
 -- and a sweep tells no other
@@ -239,7 +239,7 @@ sweeping_tells {S} {J} gives calls faults counted answer later s w t v h =
     let x = sweeping_run gives answer later s w t v h in
     let exact = exact_in x.along x.so.1 in
     let g = in_parts x.along x.so.1 in
-    let ms : List Made = answered Names g.listed ∷ g.later in
+    let ms : List Made = made_with Names g.listed ∷ g.later in
     record {
       goes = g;
       exact = exact;
@@ -251,7 +251,7 @@ sweeping_tells {S} {J} gives calls faults counted answer later s w t v h =
   where
     exact_in : {ok : Bool} {ms : List Made} {es : List Entry} (a : Along gives s ms t)
         → (g : Goes answer later w ok ms es v) → let p = in_parts {gives = gives} a g in
-        failures_told (p.head ++ p.rest) ≡ failures (answered Names p.listed ∷ (p.shut ++ p.ending))
+        failures_told (p.head ++ p.rest) ≡ failures (made_with Names p.listed ∷ (p.shut ++ p.ending))
     exact_in a (Listed found failed ok shut made es v closings c) =
         goes_tells (Listed found failed ok shut made es v closings c)
     exact_in a (Unlisted list failed room why ok made es v by c) =

@@ -1,6 +1,6 @@
 -- What settling names leaves of devices: each one that lived through is as judged, or is told.
 use Rattle.std.proofs.Common.{◌≡◌, ℕ, Bool, List, [], ◌∷◌, ◌++◌, Option, Some, refl, sym, ◌∙◌, ap, subst, append_assoc, slice_get, false, ◌⊎◌, inl, inr, true, None, true≢false, cond, is_none, not, ◌&&◌}
-use Rattle.ug_table.proofs.Common.{Terms, did_default, defaulted_known, known_of, default_due, default_write, Default, Has, parent_of, Ask_alive, Put, Close, Closing, Told, Names, Authorized, Remove, Kernel, IsKernel, IsOpenable, Quiet, Grows, Made, answered, Along, Runs, calls, RemoveHold, Bound, Binding, Entry, State, Answers, Laters, standing_of, without, with_standing, place_for, same_name, lists, farewells, Standing, Known, Settled, Held, Target, Wrote, IsOnce, control_of, Device, Control, IsGoneAt, Called, Lived, IsNamed, HasStanding, Stand, IsAsJudged, IsSettled, FailedCall, in_sweep_order, Fault, unlisted_files, Probe, Write, Listing, names_of, sweeping, unsettled_by, tried_standings, has_right, has_left, has_new, cancel, filter_has, has_map, write_of, wants, is_reject, Way, way_runs, along_split, along_sound, along_grows, quiet_grows, called_grows, some_same, grows_refl, grows_trans, parent_standing, binding_for, called_quiet, quiet_refl, quiet_trans}
+use Rattle.ug_table.proofs.Common.{Terms, did_default, defaulted_known, known_of, default_due, default_write, Default, Has, parent_of, Ask_alive, Put, Close, Closing, ToldAnswer, Names, Authorized, Remove, Kernel, IsKernel, IsOpenable, Quiet, Grows, Made, made_with, Along, Runs, calls, RemoveHold, Bound, Binding, Entry, State, Answers, Laters, standing_of, without, with_standing, place_for, same_name, lists, farewells, Standing, Known, Settled, Held, Target, Wrote, IsOnce, control_of, Device, Control, IsGoneAt, Called, Lived, IsNamed, HasStanding, Stand, IsAsJudged, IsSettled, FailedCall, in_sweep_order, Fault, unlisted_files, Probe, Write, Listing, names_of, sweeping, unsettled_by, tried_standings, has_right, has_left, has_new, cancel, filter_has, has_map, write_of, wants, is_reject, Way, way_runs, along_split, along_sound, along_grows, quiet_grows, called_grows, some_same, grows_refl, grows_trans, parent_standing, binding_for, called_quiet, quiet_refl, quiet_trans}
 use Rattle.ug_table.proofs.Shapes.{Piece, Valued, Same, Set, OnceMade, Not_held, Put_on, Carried, By_value, And_removal, Brought, Left_open, Let_go, Treated, No_default, And_default, Cut_default, Gone_default, due_is, due_open, due_once, treated_done, Opening, Fresh, Lost, Flat, Unprobed, Tried, Stopped, Unbound, No_place, Judged_so, told_at, Written, Done, Went, Broke, Unheld, Gone_by, Failed_by, Short_by, Unbound_end, Failed_so, Short_so, opening_absent, opening_less, flat_rest}
 use Rattle.ug_node.specs.Removal.{holding, HoldSays}
 use Rattle.ug_node.proofs.Laws.{holding_law}
@@ -8,7 +8,7 @@ use Rattle.ug_node.specs.Bound.{SaysBy}
 use Rattle.ug_types.specs.declared.record.Attrs.{Attrs}
 use Rattle.ug_table.proofs.Above.{ParentsBy, kept_at, for_law}
 use Rattle.ug_table.proofs.Standings.{Others, others_refl, others_trans, others_quiet, others_put, IsOpen, open_name, open_later, IsFileOf, file_later, LiveAs, lives_between, lived, live_same, gone_no, Value, quiet_value, done_value, alive_open, IsHeldAs, once_leaves, file_same, open_named, found, same_is, is_same, missing, Files, files_later, with_files, others_have, tried_files, tried_new, IsRemovedIf, Was, tried_was, did_was, did_files, did_has, default_as, known_as}
-use Rattle.ug_kernel.proofs.Held.{live_before}
+use Rattle.ug_kernel.proofs.HeldFiles.{live_before}
 use Rattle.ug_table.proofs.Marks.{known_has}
 use Rattle.ug_types.proofs.Sorting.{to_sweep_order}
 use Rattle.ug_table.proofs.Chains.{closings_quiet, Chain, Over, First, Goes, Listed, Unlisted, goes_entries, sweeping_run}
@@ -34,7 +34,7 @@ hold_open control name held answer k l sound can o r =
 once_apart : {what : Write} {name : List ℕ} {known : Known} {ms : List Made} {es : List Entry} {how : Settled} (k l : Kernel) → IsOpenable (control_of what) name → OnceMade name known what ms es how → IsKernel k → IsOpen k name known.held.0 → Along calls k ms l → Others name k l
 once_apart {what} {name} {known} k l can (Not_held ms r es how way u) sound o a = others_quiet name k l (hold_open (control_of what) name known.held.0 r k l sound can o (way_runs calls (holding (control_of what) name known.held.0) ms k r l way a)).0
 once_apart {what} {name} {known} k l can (Put_on ms file t shut es how way w) sound o a =
-    let cut = along_split calls ms (answered (Put file.0 what) t ∷ answered (Close file.0) shut ∷ []) k l a in
+    let cut = along_split calls ms (made_with (Put file.0 what) t ∷ made_with (Close file.0) shut ∷ []) k l a in
     let m = cut.0 in
     let n = cut.2.0 in
     let put = cut.2.1 in
@@ -53,7 +53,7 @@ carried_apart {name} {known} k l (And_removal ms ns es fs how go v r) sound o a 
 brought_apart : {name : List ℕ} {known : Known} {on : Bool} {ms : List Made} {es : List Entry} {how : Settled} (k l : Kernel) → Brought name known on ms es how → IsKernel k → IsOpen k name known.held.0 → Along calls k ms l → Others name k l
 brought_apart k l (Left_open ms es how c n) sound o a = carried_apart k l c sound o a
 brought_apart {name} {known} k l (Let_go ms es shut c) sound o a =
-    let cut = along_split calls ms (answered (Close known.held.0) shut ∷ []) k l a in
+    let cut = along_split calls ms (made_with (Close known.held.0) shut ∷ []) k l a in
     let m = cut.0 in
     let q = subst (λ v. Quiet m v) (sym cut.2.2) (called_quiet (Close known.held.0) shut m cut.2.0 tt cut.2.1) in
     others_trans name k m l (along_grows ms k m cut.1) (carried_apart k m c sound o cut.1) (others_quiet name m l q)
@@ -68,7 +68,7 @@ treated_apart {hub} {name} {known} k l (And_default what ds ms fs es how e w b) 
     others_trans name k m l g (once_apart k m (due_open (due_is hub name known what e)) w sound o cut.1) (brought_apart m l b (along_sound ds k m sound cut.1) (open_later k m name known.held.0 g o) cut.2)
 treated_apart {hub} {name} {known} k l (Cut_default what ds fs how e w c) sound o a = once_apart k l (due_open (due_is hub name known what e)) w sound o a
 treated_apart {hub} {name} {known} k l (Gone_default what ds fs shut e w) sound o a =
-    let cut = along_split calls ds (answered (Close known.held.0) shut ∷ []) k l a in
+    let cut = along_split calls ds (made_with (Close known.held.0) shut ∷ []) k l a in
     let m = cut.0 in
     let q = subst (λ v. Quiet m v) (sym cut.2.2) (called_quiet (Close known.held.0) shut m cut.2.0 tt cut.2.1) in
     others_trans name k m l (along_grows ds k m cut.1) (once_apart k m (due_open (due_is hub name known what e)) w sound o cut.1) (others_quiet name m l q)
@@ -125,7 +125,7 @@ flat_apart {name = name} k l sound f (Unbound ms ns es fs rs r how t opening way
     let o = (opening_bind k l ns r opening way sound f a).0 in
     (others_quiet name k l o.quiet, o.files)
 flat_apart {name = name} k l sound f (No_place ms ns es rs b shut t opening way) a =
-    let last : List Made = answered (Close b.held.0) shut ∷ [] in
+    let last : List Made = made_with (Close b.held.0) shut ∷ [] in
     let cut = along_split calls (ms ++ ns) last k l (subst (λ v. Along calls k v l) (sym (append_assoc ms ns last)) a) in
     let o = (opening_bind k cut.0 ns (Binding.Bound b) opening way sound f cut.1).0 in
     let q = subst (λ v. Quiet cut.0 v) (sym cut.2.2) (called_quiet (Close b.held.0) shut cut.0 cut.2.0 tt cut.2.1) in
@@ -208,7 +208,7 @@ unheld_own control {name} held i on k l Gone_by live file v g says = absurd (dea
 unheld_own control held i on k l (Failed_by failed) live file v g says = inr (Fault.Call failed, inl refl)
 unheld_own control held i on k l Short_by live file v g says = inr (Fault.Memory, inl refl)
 
-put_own : {what : Write} {name : List ℕ} {number : ℕ} {t : Told Wrote} {es : List Entry} {how : Settled} (i file : ℕ) (on : Bool) (shut : Closing) (k x l : Kernel) → IsOnce (control_of what) → Written name number what t es how → LiveAs l i name → IsHeldAs k file i (control_of what) → Value k i on → Called (Put file what) t k x → Called (Close file) shut x l → Ends l how i name on
+put_own : {what : Write} {name : List ℕ} {number : ℕ} {t : ToldAnswer Wrote} {es : List Entry} {how : Settled} (i file : ℕ) (on : Bool) (shut : Closing) (k x l : Kernel) → IsOnce (control_of what) → Written name number what t es how → LiveAs l i name → IsHeldAs k file i (control_of what) → Value k i on → Called (Put file what) t k x → Called (Close file) shut x l → Ends l how i name on
 put_own {what} i file on shut k x l once (Done failed) live of v c d = inl (refl, quiet_value x l i on (called_quiet (Close file) shut x l tt d) (once_leaves what file i on failed k x once of c v))
 put_own {what} {name} i file on shut k x l once (Went failed) live of v c d =
     let g = called_grows (Put file what) (told_at Wrote.Gone failed) k x c in
@@ -229,9 +229,9 @@ once_own {what} {name} {known} i on k l once can (Not_held ms r es how way u) so
     let x = hold_own (control_of what) name known.held.0 i on r ms k l l way sound can live file v a (grows_refl l) in
     unheld_own (control_of what) known.held.0 i on l l u live x.0 x.1.0 (grows_refl l) x.1.1
 once_own {what} {name} {known} i on k l once can (Put_on ms file t shut es how way w) sound live own v a =
-    let cut = along_split calls ms (answered (Put file.0 what) t ∷ answered (Close file.0) shut ∷ []) k l a in
+    let cut = along_split calls ms (made_with (Put file.0 what) t ∷ made_with (Close file.0) shut ∷ []) k l a in
     let m = cut.0 in
-    let x = hold_own (control_of what) name known.held.0 i on (RemoveHold.Ready file) ms k m l way sound can live own v cut.1 (along_grows (answered (Put file.0 what) t ∷ answered (Close file.0) shut ∷ []) m l cut.2) in
+    let x = hold_own (control_of what) name known.held.0 i on (RemoveHold.Ready file) ms k m l way sound can live own v cut.1 (along_grows (made_with (Put file.0 what) t ∷ made_with (Close file.0) shut ∷ []) m l cut.2) in
     put_own i file.0 on shut m cut.2.0 l once w live x.1.1 x.1.0 cut.2.1 (subst (λ y. Called (Close file.0) shut cut.2.0 y) (sym cut.2.2.2) cut.2.2.1)
 
 -- a device that is live at the end was so before
@@ -256,7 +256,7 @@ carried_own {name} {known} {on} i k l (And_removal ms ns es fs how go v r) sound
 pub brought_own : {name : List ℕ} {known : Known} {on : Bool} {ms : List Made} {es : List Entry} {how : Settled} (i : ℕ) (k l : Kernel) → Brought name known on ms es how → IsKernel k → LiveAs l i name → IsFileOf k known.held.0 i → Value k i on → Along calls k ms l → Ends l how i name (wants known.verdict)
 brought_own i k l (Left_open ms es how c n) sound live file at a = carried_own i k l c sound live file at a
 brought_own {name} {known} {on} i k l (Let_go ms es shut c) sound live file at a =
-    let last : List Made = answered (Close known.held.0) shut ∷ [] in
+    let last : List Made = made_with (Close known.held.0) shut ∷ [] in
     let cut = along_split calls ms last k l a in
     let m = cut.0 in
     let mid = live_mid k m l i known.held.0 on name (along_grows ms k m cut.1) (along_grows last m l cut.2) live file at in
@@ -282,7 +282,7 @@ treated_own {hub} {name} {known} {on} i k l (Cut_default what ds fs how e w c) s
       | inr n ↦ inr n
     ]
 treated_own {hub} {name} {known} {on} i k l (Gone_default what ds fs shut e w) sound live file at a =
-    let last : List Made = answered (Close known.held.0) shut ∷ [] in
+    let last : List Made = made_with (Close known.held.0) shut ∷ [] in
     let cut = along_split calls ds last k l a in
     let m = cut.0 in
     let mid = live_mid k m l i known.held.0 on name (along_grows ds k m cut.1) (along_grows last m l cut.2) live file at in

@@ -6,7 +6,7 @@ use Rattle.std.proofs.lemmas.List.{drop_more, get_or_default}
 use Rattle.ug_table.proofs.Common.{Terms, Write, Entry, Standing, Call, Answer, Runs, State, Kept, Answers, Laters, Settled, settling_all, resettling_all, settling, resettling}
 use Rattle.ug_kernel.proofs.Runs.{runs_then}
 use Rattle.ug_audit.specs.declared.journal.Journal.{Journal}
-use Rattle.ug_audit.specs.Journal.{Notes, Told}
+use Rattle.ug_audit.specs.Journal.{Notes, AuditorTold}
 use Rattle.ug_audit.proofs.Noting.{goes_on}
 
 next_of : {X : Type 0} (xs : List X) (i : ℕ) (x : X) → i < length xs → x ≡ get_or xs i x → drop i xs ≡ x ∷ drop (i + 1) xs
@@ -23,7 +23,7 @@ resettling_more {S} gives hub names i name w s u p lt e h r t k =
     (runs_then gives s (resettling hub name w) (λ (q : Settled × Kept). resettling_all hub (drop (i + 1) names) q.1) p u r t h k)
 
 -- what is noted in two parts
-pub notes_then : {X : Type 0} {F : X → Type 0} (told : Told X F) (m n most : ℕ) (a b c : Journal X F) → Notes told m a b → Notes told n b c → m + n ≤ most → Notes told most a c
+pub notes_then : {X : Type 0} {F : X → Type 0} (told : AuditorTold X F) (m n most : ℕ) (a b c : Journal X F) → Notes told m a b → Notes told n b c → m + n ≤ most → Notes told most a c
 notes_then told m n most a b c h k le = (goes_on told a b c h.0 k.0, k.1 ∙ h.1, omega (arith, h.2, k.2, le))
 
 -- one standing more is changed

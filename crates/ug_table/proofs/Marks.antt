@@ -1,6 +1,6 @@
 -- Marks and the order of standings.
 use Rattle.std.proofs.Common.{◌≡◌, ℕ, Bool, true, false, not, cond, List, [], ◌∷◌, ◌++◌, map, Option, inl, inr, refl, sym, ◌∙◌, ap, subst, Some, append_assoc, ◌⊎◌, ◌+◌, add-one, true≢false, ◌<◌, ◌≤◌, None, length, min, take, get_or, arith}
-use Rattle.ug_table.proofs.Common.{Has, AllDistinct, Bound, Binding, Entry, State, Answers, Laters, same_name, without, did_default, with_default, Terms, Write, marked, place_for, with_standing, known_of, standing_of, lists, farewells, IsNamed, IsMarked, IsUnlisted, IsListed, swept_before, AreInOrder, Tries, IsMarkedIn, AreMarkedIn, numbers_of, Standing, Known, Settled, Made, Along, Fault, EndsUnsettled, sweep_cmp, in_place, in_sweep_order, sweep_total, sweep_exact, Kernel, Runs, calls, names_of, parted, sweeping, unsettled_by, kept_standings, tried_standings, dropped, has_left, has_right, has_cases, filter_has, map_has, has_map, cancel, last_is, distinct_filter, distinct_insert, filter, insert, whys, why_of, StandInOrder, KeepsOrder, IsNextNumbered, is_nearer}
+use Rattle.ug_table.proofs.Common.{Has, AllDistinct, Bound, Binding, Entry, State, Answers, Laters, same_name, without, did_default, with_default, Terms, Write, marked, place_for, with_standing, known_of, standing_of, lists, farewells, IsNamed, IsMarked, IsUnlisted, IsListed, swept_before, AreInOrder, Tries, IsMarkedIn, AreMarkedIn, numbers_of, Standing, Known, Settled, Made, Along, Fault, EndsUnsettled, sweep_cmp, in_sweep_place, in_sweep_order, sweep_total, sweep_exact, Kernel, Runs, calls, names_of, parted, sweeping, unsettled_by, kept_standings, tried_standings, dropped, has_left, has_right, has_cases, filter_has, map_has, has_map, cancel, last_is, distinct_filter, distinct_insert, filter, insert, whys, why_of, StandInOrder, KeepsOrder, IsNextNumbered, is_nearer}
 use Rattle.ug_table.proofs.Shapes.{Unbound_end, Absent_so, Flat, Unprobed, Tried, Stopped, Unbound, No_place, Judged_so, opening_absent, flat_rest, new_known}
 use Rattle.ug_table.proofs.Standings.{known_as, did_stands, kept_tried, each_with, farewells_by, is_same, missing, missing_without, found, others_have, tried_own, lists_has, either_listed, same_is, fields_stay}
 use Rattle.ug_table.proofs.OnePart.{flat_is_part, flat_whys, told_in}
@@ -178,9 +178,9 @@ chain_parts distinct (First n names how w x v ok more ms ns es p c) =
 
 -- the order of a sweep has each name once
 
-pub place_has : (name : List ℕ) (names : List (List ℕ)) (x : List ℕ) → Has (in_place name names) x → (name ≡ x) ⊎ Has names x
+pub place_has : (name : List ℕ) (names : List (List ℕ)) (x : List ℕ) → Has (in_sweep_place name names) x → (name ≡ x) ⊎ Has names x
 place_has name [] x h = h
-place_has name (first ∷ names) x h = cond_both (is_gt (sweep_cmp name first)) (first ∷ in_place name names) (name ∷ first ∷ names) (λ (l : List (List ℕ)). Has l x → (name ≡ x) ⊎ Has (first ∷ names) x)
+place_has name (first ∷ names) x h = cond_both (is_gt (sweep_cmp name first)) (first ∷ in_sweep_place name names) (name ∷ first ∷ names) (λ (l : List (List ℕ)). Has l x → (name ≡ x) ⊎ Has (first ∷ names) x)
     (λ b k. elim k [ inl e ↦ inr (inl e) | inr a ↦ elim (place_has name names x a) [ inl e ↦ inl e | inr c ↦ inr (inr c) ] ])
     (λ b k. k) h
 
@@ -213,9 +213,9 @@ less_or Less e ne = refl
 less_or Equal e ne = absurd (ne refl)
 less_or Greater e ne = absurd (true≢false e)
 
-placed_order : (x : List ℕ) (ys : List (List ℕ)) → (Has ys x → ⊥) → AreInOrder ys → AreInOrder (in_place x ys)
+placed_order : (x : List ℕ) (ys : List (List ℕ)) → (Has ys x → ⊥) → AreInOrder ys → AreInOrder (in_sweep_place x ys)
 placed_order x [] none o = (λ z h. absurd h, tt)
-placed_order x (y ∷ ys) none o = cond_both (is_gt (sweep_cmp x y)) (y ∷ in_place x ys) (x ∷ y ∷ ys) AreInOrder
+placed_order x (y ∷ ys) none o = cond_both (is_gt (sweep_cmp x y)) (y ∷ in_sweep_place x ys) (x ∷ y ∷ ys) AreInOrder
     (λ e. (λ z h. elim (place_has x ys z h) [ inl is ↦ subst (λ (v : List ℕ). swept_before y v ≡ true) is (greater_before x y e) | inr a ↦ o.0 z a ], placed_order x ys (λ h. none (inr h)) o.1))
     (λ e.
     let first : swept_before x y ≡ true = less_or (sweep_cmp x y) e (λ f. none (inl (sym (sweep_exact x y f)))) in
@@ -287,11 +287,11 @@ order_filter test (s ∷ ss) o =
     elim (test s) as (λ (b : Bool). AreInOrder (names_of (cond b (s ∷ filter test ss) (filter test ss)))) [ true ↦ (below, rest) | false ↦ rest ]
 
 -- the names with a new standing
-names_with : (s : Standing) (ss : List Standing) → names_of (with_standing s ss) ≡ in_place s.name (names_of ss)
+names_with : (s : Standing) (ss : List Standing) → names_of (with_standing s ss) ≡ in_sweep_place s.name (names_of ss)
 names_with s [] = refl
 names_with s (x ∷ ss) =
     let rest = ap (λ (v : List (List ℕ)). x.name ∷ v) (names_with s ss) in
-    elim (is_gt (sweep_cmp s.name x.name)) as (λ (b : Bool). names_of (insert (x ∷ ss) (cond b (place_for s.name ss + 1) 0) s) ≡ cond b (x.name ∷ in_place s.name (names_of ss)) (s.name ∷ x.name ∷ names_of ss)) [
+    elim (is_gt (sweep_cmp s.name x.name)) as (λ (b : Bool). names_of (insert (x ∷ ss) (cond b (place_for s.name ss + 1) 0) s) ≡ cond b (x.name ∷ in_sweep_place s.name (names_of ss)) (s.name ∷ x.name ∷ names_of ss)) [
       | true ↦ ap (λ (k : ℕ). names_of (insert (x ∷ ss) k s)) (add-one (place_for s.name ss)) ∙ rest
       | false ↦ refl
     ]

@@ -1,7 +1,7 @@
 -- The names that a sweep tells, none twice; and that no device is told for want of memory that had a standing, lived through it, and
 -- wasn't still to be removed.
 use Rattle.std.proofs.Common.{◌≡◌, ℕ, Bool, List, [], ◌∷◌, ◌++◌, Option, Some, ◌⊎◌, inl, inr, refl, sym, ◌∙◌, ap, subst, append_assoc}
-use Rattle.ug_table.proofs.Common.{Has, AllDistinct, Call, Answer, Names, Ask_alive, Kernel, Follows, says_probe, Runs, calls, Made, answered, Along, Entry, State, Answers, Laters, farewells, standing_of, name_in, unsettled_names, EndsUnsettled, NamesOnce, Part, Standing, in_sweep_order, Grows, Probe, Fault, Stand, IsSpared, Known, Listing, names_of, sweeping, has_cases, cancel, has_right, NeedsMemory, known_of, Terms, Write, along_split, along_grows, some_same, called_grows, grows_trans, told_run}
+use Rattle.ug_table.proofs.Common.{Has, AllDistinct, Call, Answer, Names, Ask_alive, Kernel, Follows, says_probe, Runs, calls, Made, made_with, Along, Entry, State, Answers, Laters, farewells, standing_of, name_in, unsettled_names, EndsUnsettled, NamesOnce, Part, Standing, in_sweep_order, Grows, Probe, Fault, Stand, IsSpared, Known, Listing, names_of, sweeping, has_cases, cancel, has_right, NeedsMemory, known_of, Terms, Write, along_split, along_grows, some_same, called_grows, grows_trans, told_run}
 use Rattle.ug_table.proofs.Marks.{order_distinct, ends_only, named_only, farewell_none}
 use Rattle.ug_table.proofs.Says.{none_named}
 use Rattle.ug_table.proofs.Chains.{Chain, Over, First, Goes, Listed, Unlisted, goes_entries, sweeping_run}
@@ -103,7 +103,7 @@ part_spared hub name known i k l ss rs ms es part lives a told = elim (part.memo
         let other = gone.3.0 in
         let t = gone.3.1 in
         let same : other ≡ known = some_same (standing_of name ss) other known gone.3.2 lives.at in
-        let step : Along calls k (answered (Ask_alive other.held.0) t ∷ gone.1) l = subst (λ (m : Made). Along calls k (m ∷ gone.1) l) gone.3.3 (subst (λ (v : List Made). Along calls k v l) gone.2 a) in
+        let step : Along calls k (made_with (Ask_alive other.held.0) t ∷ gone.1) l = subst (λ (m : Made). Along calls k (m ∷ gone.1) l) gone.3.3 (subst (λ (v : List Made). Along calls k v l) gone.2 a) in
         let u = step.0 in
         let g = called_grows (Ask_alive other.held.0) t k u step.1 in
         gone_no u other.held.0 i name (subst (λ (p : Probe). says_probe other.held.0 p k u) gone.3.4 step.1.says)

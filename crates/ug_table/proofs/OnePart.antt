@@ -1,6 +1,6 @@
 -- One name's part of a sweep, from its shapes: one law on its calls, and one on its entries.
 use Rattle.std.proofs.Common.{◌≡◌, ℕ, ◌≤◌, Bool, true, false, not, ◌||◌, List, [], ◌∷◌, ◌++◌, map, length, Option, Some, None, ◌⊎◌, inl, inr, refl, sym, ◌∙◌, ap, subst, append_assoc, append-nil, arith}
-use Rattle.ug_table.proofs.Common.{Has, Held, Control, Default, Target, Authorized, Remove, IsOnce, has_cases, map_has, did_default, Write, FailedCall, Probe, Wrote, Open, Ask_alive, Put, Close, Told, Made, answered, failures, count_calls, Bound, Binding, RemoveHold, Entry, Fault, known_of, with_standing, standing_of, wrote_entries, OpenFile, open_file, Behind, behind_more, IsWriteDue, PutMade, AtMostOneEach, told_by, failure_in, failures_told, write_in, writes_in, TellsWrites, EndsUnsettled, IsBoundAnew, FoundNoRoom, LacksRoom, control_of, known_files, AllBear, number_of, AreOfNumber, numbers_given, Part, Standing, Known, Settled, unsettled_by, tried_standings, has_right, wants, write_of, is_to_go, why_in, whys, why_of, AreAbout, EndsAtFailure, parent_standing, held_of, kept_file}
+use Rattle.ug_table.proofs.Common.{Has, Held, Control, Default, Target, Authorized, Remove, IsOnce, has_cases, map_has, did_default, Write, FailedCall, Probe, Wrote, Open, Ask_alive, Put, Close, ToldAnswer, Made, made_with, failures, count_calls, Bound, Binding, RemoveHold, Entry, Fault, known_of, with_standing, standing_of, wrote_entries, OpenFile, open_file, Behind, behind_more, IsWriteDue, PutMade, AtMostOneEach, call_told, failure_in, failures_told, write_in, writes_in, TellsWrites, EndsUnsettled, IsBoundAnew, FoundNoRoom, LacksRoom, control_of, known_files, AllBear, number_of, AreOfNumber, numbers_given, Part, Standing, Known, Settled, unsettled_by, tried_standings, has_right, wants, write_of, is_to_go, why_in, whys, why_of, AreAbout, EndsAtFailure, parent_standing, held_of, kept_file}
 use Rattle.ug_node.proofs.BindShapes.{Holds_by, way_holds}
 use Rattle.ug_table.proofs.Above.{is_above}
 use Rattle.ug_table.proofs.Asked.{Passes, passes, treated_none, CallsBy, all_end, by_more, by_as, by_within, ending_is, for_calls, for_few, for_found}
@@ -69,7 +69,7 @@ last_more : (name : List ℕ) (es fs : List Entry) → whys es ≡ [] → EndsUn
 last_more name [] fs w a h = h
 last_more name (Entry.Unsettled other why ∷ es) fs w a h = let none : ⊥ = cc in absurd none
 last_more name (Entry.UnsettledAll why ∷ es) fs w a h = absurd a.0
-last_more name (Entry.Reply answered ∷ es) fs w a h = absurd a.0
+last_more name (Entry.Reply made_with ∷ es) fs w a h = absurd a.0
 last_more name (e ∷ es) fs w a h = (tt, last_more name es fs w a.1 h)
 
 pub given_more : (es fs : List Entry)
@@ -199,7 +199,7 @@ goes_are : {P : List PutMade → Type 0} {Q : Type 0} {name : List ℕ} {known :
     → P ps → (how ≡ Settled.Memory → Q) → Goes P Q name known files b ms es how after n
 goes_are {ps = ps} c e p q = record { ps = ps; calls = c; entries = e; single = p; short = q }
 
-written_entries : {name : List ℕ} {number : ℕ} {what : Write} {t : Told Wrote} {es : List Entry}
+written_entries : {name : List ℕ} {number : ℕ} {what : Write} {t : ToldAnswer Wrote} {es : List Entry}
     {how : Settled} → Written name number what t es how
     → EntriesOf name (Some number) es (ended_number how number) []
     (record { write = what; outcome = t.answer } ∷ []) []
@@ -210,9 +210,9 @@ written_entries {number = n} x =
     entries_are (refl, (refl, refl)) refl (n, [], refl, refl) (tt, (tt, tt)) (refl, (refl, tt)) refl
 
 -- a write, and a closing behind it
-written_faults : {name : List ℕ} {number : ℕ} {what : Write} {t : Told Wrote} {es : List Entry}
+written_faults : {name : List ℕ} {number : ℕ} {what : Write} {t : ToldAnswer Wrote} {es : List Entry}
     {how : Settled} (held : ℕ) → Written name number what t es how
-    → (failures (answered (Put held what) t ∷ []) ≡ failed_by (why_of how))
+    → (failures (made_with (Put held what) t ∷ []) ≡ failed_by (why_of how))
     × (false ≡ are_short (why_of how)) × (how ≡ Settled.Memory → ⊥)
 written_faults held (Done failed) = (refl, refl, λ e. let none : ⊥ = cc in none)
 written_faults held x = (refl, refl, λ e. let none : ⊥ = cc in none)
@@ -297,7 +297,7 @@ abbrev pub ToGo : List ℕ → Known → List Made → Type 0
 ToGo name known ms = (is_to_go known ≡ true) × FoundNoRoom Remove name ms
 
 no_room_behind : (control : Control) (name : List ℕ) (ds ms : List Made) → FoundNoRoom control name ms → FoundNoRoom control name (ds ++ ms)
-no_room_behind control name ds ms h = (h.0, has_right ds ms (answered (Open name control) h.0) h.1, h.2)
+no_room_behind control name ds ms h = (h.0, has_right ds ms (made_with (Open name control) h.0) h.1, h.2)
 
 carried_goes : {name : List ℕ} {known : Known} {on : Bool} {ms : List Made} {es : List Entry}
     {how : Settled} (b : Behind) → IsFound b known.held.0 on → Carried name known on ms es how
@@ -335,7 +335,7 @@ brought_goes {known = known} b f (Left_open ms es how c n) =
 brought_goes {name} {known} b f (Let_go ms es shut c) =
     let h = carried_goes b f c in
     let own : List OpenFile = open_file known.held.0 Authorized ∷ [] in
-    let last : List Made = answered (Close known.held.0) shut ∷ [] in
+    let last : List Made = made_with (Close known.held.0) shut ∷ [] in
     let end : CallsOf name own (behind_after b ms) last [] [] [] 0 =
     calls_are ((Authorized, inl refl), tt) (inl refl, tt) (tt, tt)
     (closed_first known.held.0 Authorized [])
@@ -390,7 +390,7 @@ treated_goes {hub} {name} {known} b f (Gone_default what ds fs shut e w) =
     let due = due_is hub name known what e in
     let k = once_goes b (due_once due) w in
     let own : List OpenFile = open_file known.held.0 Authorized ∷ [] in
-    let last : List Made = answered (Close known.held.0) shut ∷ [] in
+    let last : List Made = made_with (Close known.held.0) shut ∷ [] in
     let end : CallsOf name own (behind_after b ds) last [] [] [] 0 =
     calls_are ((Authorized, inl refl), tt) (inl refl, tt) (tt, tt)
     (closed_first known.held.0 Authorized [])
@@ -440,9 +440,9 @@ opening_goes {name} b (Fresh e) =
       anew = λ ns. inl refl;
     })
 opening_goes {name} b (Lost known failed shut e) =
-    let t : Told Probe = told_at Probe.Gone failed in
-    let m : Made = answered (Ask_alive known.held.0) t in
-    let n : Made = answered (Close known.held.0) shut in
+    let t : ToldAnswer Probe = told_at Probe.Gone failed in
+    let m : Made = made_with (Ask_alive known.held.0) t in
+    let n : Made = made_with (Close known.held.0) shut in
     subst (λ o. OpeningGoes name o b (m ∷ n ∷ []) (Entry.Gone known.number name ∷ [])) (sym e)
     (record {
       calls = calls_are (inl refl, ((Authorized, inl refl), tt)) (inl refl, (inl refl, tt))
@@ -456,7 +456,7 @@ opening_goes {name} b (Lost known failed shut e) =
 opening_passes : {name : List ℕ} {ss : List Standing} {ms : List Made} {es : List Entry} {rs : List Standing} (kept : Option ℕ) → Opening name ss ms es rs → Passes name kept ms
 opening_passes {name} kept (Fresh e) = passes name kept [] (λ held. refl)
 opening_passes {name} kept (Lost known failed shut e) =
-    passes name kept (answered (Ask_alive known.held.0) (told_at Probe.Gone failed) ∷ answered (Close known.held.0) shut ∷ []) (λ held. (refl, (refl, refl)))
+    passes name kept (made_with (Ask_alive known.held.0) (told_at Probe.Gone failed) ∷ made_with (Close known.held.0) shut ∷ []) (λ held. (refl, (refl, refl)))
 
 unbound_goes : {name : List ℕ} {kept : Option ℕ} {r : Binding} {es : List Entry} {how : Settled} {b : Behind}
     {ms : List Made} → Unbound_end name r es how
@@ -539,7 +539,7 @@ flat_goes : {hub : Option Write} {binds : Bool} {given : List Standing → Bound
     → Flat hub binds given name ss ok ms rest how rs o
     → FlatGoes hub binds name (kept_file name ss) (standing_of name ss) (standing_of name rs) ok ms rest how (given_count o)
 flat_goes {hub} {binds} {name = name} {ss = ss} {how = how} {rs = rs} (Unprobed known failed at) =
-    let m : Made = answered (Ask_alive known.held.0) (told_at Probe.Failed failed) in
+    let m : Made = made_with (Ask_alive known.held.0) (told_at Probe.Failed failed) in
     let own : List OpenFile = open_file known.held.0 Authorized ∷ [] in
     let e : Entry = Entry.Unsettled name (Fault.Call failed) in
     let so = tried_so name ss how known at in
@@ -550,8 +550,8 @@ flat_goes {hub} {binds} {name = name} {ss = ss} {how = how} {rs = rs} (Unprobed 
     (entries_to so.1 (entries_are refl refl refl ((refl, refl), tt) (refl, tt) refl))
     tt refl refl (λ e. let none : ⊥ = cc in absurd none) refl)
 flat_goes {hub} {binds} {name = name} {ss = ss} {rs = rs} (Tried known on failed d ms es how at brought) =
-    let t : Told Probe = told_at (Probe.Alive on) failed in
-    let m : Made = answered (Ask_alive known.held.0) t in
+    let t : ToldAnswer Probe = told_at (Probe.Alive on) failed in
+    let m : Made = made_with (Ask_alive known.held.0) t in
     let own : List OpenFile = open_file known.held.0 Authorized ∷ [] in
     let so = tried_so name (did_default name d ss) how (known_as d known) (did_stands name d ss known at) in
     let h = treated_goes (behind_more start m) (t, refl, refl) brought in
@@ -585,7 +585,7 @@ flat_goes {hub} {binds} {name = name} {ss = ss} {rest = rest} (No_place ms ns es
     let none = sym (opening_none opening) in
     let o : Option Standing = parent_standing name rs in
     let x = for_calls name ns (Binding.Bound v) o [] (behind_after start ms) (is_above name rs) way in
-    let last : List Made = answered (Close v.held.0) shut ∷ [] in
+    let last : List Made = made_with (Close v.held.0) shut ∷ [] in
     let own : List OpenFile = open_file v.held.0 Authorized ∷ [] in
     let end : CallsOf name own (behind_after (behind_after start ms) ns) last [] [] [] 0 =
     calls_are ((Authorized, inl refl), tt) (inl refl, tt) (tt, tt)
@@ -634,9 +634,9 @@ pub tells_why : (name : List ℕ) (es : List Entry) → EndsUnsettled name es
     → failures_told es ≡ failed_by (whys es)
 tells_why name [] last = refl
 tells_why name (Entry.Unsettled other why ∷ es) last =
-    ap (λ (v : List FailedCall). told_by why ++ v) (tells_why name es last.1)
+    ap (λ (v : List FailedCall). call_told why ++ v) (tells_why name es last.1)
 tells_why name (Entry.UnsettledAll why ∷ es) last = absurd last.0
-tells_why name (Entry.Reply answered ∷ es) last = absurd last.0
+tells_why name (Entry.Reply made_with ∷ es) last = absurd last.0
 tells_why name (e ∷ es) last = tells_why name es last.1
 
 -- why a name is told is among them

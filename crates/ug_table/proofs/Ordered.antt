@@ -2,7 +2,7 @@
 use Rattle.std.proofs.Common.{◌≡◌, ℕ, ◌≤◌, Bool, true, false, cond, nat_eq, List, [], ◌∷◌, ◌++◌, Option, Some, None, is_none, not, ◌&&◌, map, ◌⊎◌, inl, inr, refl, sym, ◌∙◌, ap, subst, append_assoc, arith}
 use Rattle.ug_types.specs.Principals.{Named}
 use Rattle.ug_kernel.specs.declared.device.Effect.{Effect}
-use Rattle.ug_table.proofs.Common.{Has, Control, Authorized, Remove, Default, is_done, Terms, terms_of, Write, default_write, parent_of, open_file, Quiet, says_probe, none_before, Held, Target, Call, Answer, Ask_alive, Told, Follows, Runs, calls, Made, Entry, State, Kept, Answers, Laters, kept_of, with_kept, known_of, known_files, standing_of, numbered, number_of, AreOfNumber, numbers_given, AtMostOneEach, TellsWrites, writes_in, HasDone, HasHash, wrote_entries, Account, Start, Note, Judge, Had, Had_not, Went, Tries, IsNamed, Stand, IsDevice, Standing, Settled, Probe, Kernel, IsKernel, Cause, names_of, unsettled_by, tried_standings, cancel, has_left, has_right, last_is, map_has, distinct_one, bringing, Ways, Sure, Ran, ways_run, sure_last, NeedsRoom, told_run, called_quiet, StandInOrder, KeepsOrder, AllBear}
+use Rattle.ug_table.proofs.Common.{Has, Control, Authorized, Remove, Default, is_done, Terms, terms_of, Write, default_write, parent_of, open_file, Quiet, says_probe, none_before, Held, Target, Call, Answer, Ask_alive, ToldAnswer, Follows, Runs, calls, Made, Entry, State, Kept, Answers, Laters, kept_of, with_kept, known_of, known_files, standing_of, numbered, number_of, AreOfNumber, numbers_given, AtMostOneEach, TellsWrites, writes_in, HasDone, HasHash, wrote_entries, Account, Start, Note, Judge, Had, Had_not, Went, Tries, IsNamed, Stand, IsDevice, Standing, Settled, Probe, Kernel, IsKernel, Cause, names_of, unsettled_by, tried_standings, cancel, has_left, has_right, last_is, map_has, distinct_one, bringing, Ways, Sure, Ran, ways_run, sure_last, NeedsRoom, told_run, called_quiet, StandInOrder, KeepsOrder, AllBear}
 use Rattle.ug_table.specs.Marks.{has_number, stood_done, LeavesMarks}
 use Rattle.ug_table.specs.Orders.{to_probe, probing, ProbesOne, with_verdict, ordered_standing, with_order, verdict_entry, to_tried, to_order, ordering, behind_probe, GoesAsOrder, HasOrdered, IsStopped, just_ordered, OrderedOne, OrdersOne}
 use Rattle.ug_kernel.specs.Along.{count_calls}
@@ -135,7 +135,7 @@ order_part gives calls faults counted next number verdict who on k x s p t order
     let kept = keeps_ordered number verdict who k.standings next order in
     let one = stands_one y.name ss y (names_distinct (names_of ss) kept.order) (has_ordered number verdict who k.standings x at) refl in
     let so = tried_so y.name ss p.0 (known_of y) one in
-    let goes : (t : Told Probe) → t.answer ≡ Probe.Alive on → Goes AreVerdicts (ToGo y.name (known_of y) ms) y.name (known_of y) (open_file y.held.0 Authorized ∷ []) (behind_probe y.held.0 t) ms o.rest p.0 (ended_files p.0 y.held.0) 4 = λ t e. brought_goes (behind_probe y.held.0 t) (t, refl, e) o.brought in
+    let goes : (t : ToldAnswer Probe) → t.answer ≡ Probe.Alive on → Goes AreVerdicts (ToGo y.name (known_of y) ms) y.name (known_of y) (open_file y.held.0 Authorized ∷ []) (behind_probe y.held.0 t) ms o.rest p.0 (ended_files p.0 y.held.0) 4 = λ t e. brought_goes (behind_probe y.held.0 t) (t, refl, e) o.brought in
     let g = goes (told_at (Probe.Alive on) (record { call = 0; count = 0 })) refl in
     let now : standing_of y.name (tried_standings ss y.name p.0) ≡ standing_of y.name p.1.standings = ap (standing_of y.name) (sym o.standings) in
     record {

@@ -2,8 +2,8 @@
 use Rattle.std.proofs.Common.{◌≡◌, ℕ, ◌+◌, ◌≤◌, Bool, true, false, cond, ◌||◌, is_none, List, [], ◌∷◌, ◌++◌, Option, Some, None, inl, inr, refl, sym, ◌∙◌, ap, subst, append_assoc, append-nil, arith}
 use Rattle.std.specs.Prelude.{if◌then◌else◌, nat_eq}
 use Rattle.std.proofs.lemmas.List.Folds.{list_any-append}
-use Rattle.ug_table.proofs.Common.{parent_of, Has, Held, Control, Authorized, IsOnce, IsOnceDue, control_of, Default, Put, Wrote, opens_default, FailedCall, Listing, Probe, Call, Names, Open, Read, Ask_alive, Close, Closing, Told, Answer, failed_read, Made, answered, failure, failures, count_calls, Bound, Binding, RemoveHold, Fault, FoundNoRoom, OpenFile, open_file, close_file, files_left, files_after, AreAbout, EndsAtFailure, Behind, behind_more, IsWriteDue, AreDue, PutMade, put_of, puts_of, told_by, Write, failures_more, list_any, binding_of}
-use Rattle.ug_types.specs.declared.control.Attr.{Attr}
+use Rattle.ug_table.proofs.Common.{parent_of, Has, Held, Control, Authorized, IsOnce, IsOnceDue, control_of, Default, Put, Wrote, opens_default, FailedCall, Listing, Probe, Call, Names, Open, Read, Ask_alive, Close, Closing, ToldAnswer, Answer, failed_read, Made, made_with, failure, failures, count_calls, Bound, Binding, RemoveHold, Fault, FoundNoRoom, OpenFile, open_file, close_file, files_left, files_after, AreAbout, EndsAtFailure, Behind, behind_more, IsWriteDue, AreDue, PutMade, put_of, puts_of, call_told, Write, failures_more, list_any, binding_of}
+use Rattle.ug_kernel.specs.declared.control.Attr.{Attr}
 use Rattle.ug_types.specs.declared.record.Attrs.{Attrs}
 use Rattle.ug_kernel.specs.declared.calls.Opened.{Opened}
 use Rattle.ug_kernel.specs.declared.calls.ReadOut.{ReadOut}
@@ -42,7 +42,7 @@ want_more ms ns = list_any-append (λ (m : Made). is_want m.call m.answer) ms ns
 
 abbrev pub failed_by : List Fault → List FailedCall
 failed_by [] = []
-failed_by (f ∷ fs) = told_by f ++ failed_by fs
+failed_by (f ∷ fs) = call_told f ++ failed_by fs
 
 abbrev is_short : Fault → Bool
 is_short (Fault.Call failed) = false
@@ -161,7 +161,7 @@ reads_calls : {name : List ℕ} {ms : List Made} (files : List OpenFile) (b : Be
     → CallsOf name files b ms files [] [] (count_calls ms)
 reads_calls files b No_more = calls_are tt tt tt refl refl refl refl (omega arith)
 reads_calls {name} files b (Then_read of at t ms may came r) =
-    let m : Made = answered (Read of at) t in
+    let m : Made = made_with (Read of at) t in
     let well = came_well t.answer at came in
     let f : FailedCall = record { call = t.number; count = t.count } in
     let failed : failures (m ∷ []) ≡ [] = ap (λ (v : Bool). (if v then f ∷ [] else []) ++ []) well.0
@@ -186,10 +186,10 @@ pub open_calls : {name : List ℕ} {ms ns : List Made} {after : List OpenFile} {
     (files : List OpenFile) (b : Behind) (file : Held) (call count : ℕ) → Reads name ms
     → count_calls ms ≤ 7
     → ((c : Behind) → CallsOf name (open_file file.0 Authorized ∷ files) c ns after faults [] 1)
-    → let start = answered (Open name Authorized) (told (Opened.Token file) call count) in
+    → let start = made_with (Open name Authorized) (told (Opened.Token file) call count) in
     CallsOf name files b (start ∷ (ms ++ ns)) after faults [] 9
 open_calls {name} {ms} files b file call count r few k =
-    let start : Made = answered (Open name Authorized) (told (Opened.Token file) call count) in
+    let start : Made = made_with (Open name Authorized) (told (Opened.Token file) call count) in
     let own : List OpenFile = open_file file.0 Authorized ∷ files in
     let c : Behind = behind_more b start in
     let one : CallsOf name files b (start ∷ []) own [] [] 1 =
@@ -197,10 +197,10 @@ open_calls {name} {ms} files b file call count r few k =
     calls_as refl (omega (arith, few))
     (calls_more one (calls_more (reads_calls own c r) (k (behind_after c ms))))
 
-pub stop_calls : {name : List ℕ} {at : Attr} {t : Told ReadOut} {why : Stop} (files : List OpenFile)
+pub stop_calls : {name : List ℕ} {at : Attr} {t : ToldAnswer ReadOut} {why : Stop} (files : List OpenFile)
     (c : Behind) (of : List ℕ) (file : ℕ) (shut : Closing) → IsReadable name of → Stops at t why
     → CallsOf name (open_file file Authorized ∷ files) c
-    (answered (Read of at) t ∷ answered (Close file) shut ∷ []) files
+    (made_with (Read of at) t ∷ made_with (Close file) shut ∷ []) files
     (binding_faults (binding_of why)) [] 1
 stop_calls files c of file shut may (No_descriptors call count) =
     calls_are (may, ((Authorized, inl refl), tt)) (inl refl, (inr tt, tt)) (tt, (tt, tt))
@@ -269,7 +269,7 @@ files_few (Below of d p s c x y z e) =
 
 -- the device of that open file was found alive last
 abbrev pub IsFound : Behind → ℕ → Bool → Type 0
-IsFound b held on = (t : Told Probe) × (b.found ≡ Some (answered (Ask_alive held) t)) ×
+IsFound b held on = (t : ToldAnswer Probe) × (b.found ≡ Some (made_with (Ask_alive held) t)) ×
     (t.answer ≡ Probe.Alive on)
 
 pub stop_unbound : (why : Stop) (x : Bound) → Binding.Bound x ≡ binding_of why → ⊥
@@ -279,14 +279,14 @@ stop_unbound y x e = let none : ⊥ = cc in none
 -- readings open no default
 reads_open : {name : List ℕ} {ms : List Made} (b : Behind) → Reads name ms → opens_default b.last ≡ false → opens_default (behind_after b ms).last ≡ false
 reads_open b No_more e = e
-reads_open b (Then_read of at t ms may came r) e = reads_open (behind_more b (answered (Read of at) t)) r refl
+reads_open b (Then_read of at t ms may came r) e = reads_open (behind_more b (made_with (Read of at) t)) r refl
 
 pub bound_few : {name : List ℕ} {ms : List Made} {x : Bound}
     → Binds_by name ms (Binding.Bound x) → count_calls ms ≤ binding_most name
 bound_few {x = x} (Cut file call count ms of at t shut why r left a first may stops e) =
     absurd (stop_unbound why x e)
 bound_few (Bound_by call count number total ms x a first are) =
-    let end : Made = answered (Ask_alive x.held.0) (told (Probe.Alive x.on) number total) in
+    let end : Made = made_with (Ask_alive x.held.0) (told (Probe.Alive x.on) number total) in
     let most = files_few are in
     let sum = count_more ms (end ∷ []) in
     omega (arith, most, sum)
@@ -296,8 +296,8 @@ pub bound_found : {name : List ℕ} {ms : List Made} {x : Bound} (b : Behind)
 bound_found {x = x} b (Cut file call count ms of at t shut why r left a first may stops e) =
     absurd (stop_unbound why x e)
 bound_found {name} b (Bound_by call count number total ms x a first are) =
-    let start : Made = answered (Open name Authorized) (told (Opened.Token x.held) call count) in
-    let end : Made = answered (Ask_alive x.held.0) (told (Probe.Alive x.on) number total) in
+    let start : Made = made_with (Open name Authorized) (told (Opened.Token x.held) call count) in
+    let end : Made = made_with (Ask_alive x.held.0) (told (Probe.Alive x.on) number total) in
     let c = behind_more b start in
     let last = ap (λ (v : Behind). v.found) (behind_join c ms (end ∷ [])) in
     let none = ap (λ (v : Bool). cond v (behind_after c ms).found (Some end)) (reads_open c a refl) in
@@ -352,14 +352,14 @@ ready_due what {ms = ms} {file = file} b once h = once_due what (behind_after b 
 held_found : {name : List ℕ} {held : ℕ} {ms : List Made} {file : Held} {h : ℕ} {on : Bool} (b : Behind) → Holds_by Default name held ms (RemoveHold.Ready file) → IsFound b h on → IsFound (behind_after b ms) h on
 held_found b (Held_on file on call count number total) f = f
 
-put_found : (what : Write) (file h : ℕ) (on : Bool) (t : Told Wrote) (shut : Closing) (b : Behind) → control_of what ≡ Default → IsFound b h on → IsFound (behind_after b (answered (Put file what) t ∷ answered (Close file) shut ∷ [])) h on
+put_found : (what : Write) (file h : ℕ) (on : Bool) (t : ToldAnswer Wrote) (shut : Closing) (b : Behind) → control_of what ≡ Default → IsFound b h on → IsFound (behind_after b (made_with (Put file what) t ∷ made_with (Close file) shut ∷ [])) h on
 put_found Write.DefaultOff file h on t shut b e f = f
 put_found Write.DefaultOn file h on t shut b e f = f
 put_found x file h on t shut b e f = let none : ⊥ = cc in absurd none
 
-pub default_found : {name : List ℕ} {held : ℕ} {ms : List Made} {file : Held} {h : ℕ} {on : Bool} (what : Write) (t : Told Wrote) (shut : Closing) (b : Behind) → control_of what ≡ Default → Holds_by (control_of what) name held ms (RemoveHold.Ready file) → IsFound b h on → IsFound (behind_after b (ms ++ answered (Put file.0 what) t ∷ answered (Close file.0) shut ∷ [])) h on
+pub default_found : {name : List ℕ} {held : ℕ} {ms : List Made} {file : Held} {h : ℕ} {on : Bool} (what : Write) (t : ToldAnswer Wrote) (shut : Closing) (b : Behind) → control_of what ≡ Default → Holds_by (control_of what) name held ms (RemoveHold.Ready file) → IsFound b h on → IsFound (behind_after b (ms ++ made_with (Put file.0 what) t ∷ made_with (Close file.0) shut ∷ [])) h on
 default_found {name} {held} {ms} {file} {h} {on} what t shut b e by f =
-    let ns : List Made = answered (Put file.0 what) t ∷ answered (Close file.0) shut ∷ [] in
+    let ns : List Made = made_with (Put file.0 what) t ∷ made_with (Close file.0) shut ∷ [] in
     let mid : IsFound (behind_after b ms) h on = held_found b (subst (λ (c : Control). Holds_by c name held ms (RemoveHold.Ready file)) e by) f in
     subst (λ (v : Behind). IsFound v h on) (sym (behind_join b ms ns)) (put_found what file.0 h on t shut (behind_after b ms) e mid)
 

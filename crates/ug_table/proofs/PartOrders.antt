@@ -1,7 +1,7 @@
 -- The order of the calls in a part, from its shapes.
 use Rattle.std.proofs.Common.{◌≡◌, ℕ, Bool, true, false, List, [], ◌∷◌, ◌++◌, Option, Some, None, inl, inr, refl, sym, subst, append_assoc, append-nil}
-use Rattle.ug_table.proofs.Common.{Authorized, Ask_alive, Bound, Binding, Close, Control, Entry, FailedCall, Fault, Held, Known, Made, Open, Probe, Put, Read, RemoveHold, Settled, Standing, Target, Told, Write, Wrote, answered, default_due, has_right, is_to_go, known_of, standing_of, unsettled_by, wants, write_of, parent_of, parent_standing, held_of, kept_file, binding_by, binding_of, Way}
-use Rattle.ug_types.specs.declared.control.Attr.{Attr}
+use Rattle.ug_table.proofs.Common.{Authorized, Ask_alive, Bound, Binding, Close, Control, Entry, FailedCall, Fault, Held, Known, Made, Open, Probe, Put, Read, RemoveHold, Settled, Standing, Target, ToldAnswer, Write, Wrote, made_with, default_due, has_right, is_to_go, known_of, standing_of, unsettled_by, wants, write_of, parent_of, parent_standing, held_of, kept_file, binding_by, binding_of, Way}
+use Rattle.ug_kernel.specs.declared.control.Attr.{Attr}
 use Rattle.ug_kernel.specs.Calls.{Closing}
 use Rattle.ug_kernel.specs.declared.calls.Opened.{Opened}
 use Rattle.ug_kernel.specs.declared.calls.ReadOut.{ReadOut}
@@ -114,9 +114,9 @@ other_value Target.Block false ne = absurd (ne refl)
 other_value Target.Reject true ne = refl
 other_value Target.Reject false ne = absurd (ne refl)
 
-written_led : {name : List ℕ} {number : ℕ} {what : Write} {t : Told Wrote} {es : List Entry}
+written_led : {name : List ℕ} {number : ℕ} {what : Write} {t : ToldAnswer Wrote} {es : List Entry}
     {how : Settled} (held : ℕ) → Written name number what t es how
-    → Led (To_write what ∷ []) how (answered (Put held what) t ∷ [])
+    → Led (To_write what ∷ []) how (made_with (Put held what) t ∷ [])
 written_led held (Done failed) = (refl, refl, refl)
 written_led held x = (refl, inr (refl, tt))
 
@@ -150,10 +150,10 @@ once_led {what} {name} {known} (Not_held ms r es how way u) =
 once_led {what} {name} {known} (Put_on ms file t shut es how way w) =
     let held = held_led (way_holds (control_of what) name known.held.0 ms (RemoveHold.Ready file) way) in
     led_join (To_open name (control_of what) ∷ To_probe ∷ []) (To_write what ∷ To_close ∷ []) ms
-    (answered (Put file.0 what) t ∷ answered (Close file.0) shut ∷ []) how held (put_led w)
+    (made_with (Put file.0 what) t ∷ made_with (Close file.0) shut ∷ []) how held (put_led w)
   where
-    put_led : {number : ℕ} {us : Told Wrote} {fs : List Entry} {so : Settled} → Written name number what us fs so
-        → Led (To_write what ∷ To_close ∷ []) so (answered (Put file.0 what) us ∷ answered (Close file.0) shut ∷ [])
+    put_led : {number : ℕ} {us : ToldAnswer Wrote} {fs : List Entry} {so : Settled} → Written name number what us fs so
+        → Led (To_write what ∷ To_close ∷ []) so (made_with (Put file.0 what) us ∷ made_with (Close file.0) shut ∷ [])
     put_led (Done failed) = (refl, refl, (refl, refl, refl))
     put_led x = (refl, inr (refl, (refl, tt)))
 
@@ -172,7 +172,7 @@ brought_order {name} {known} {on} (Left_open ms es how c n) =
     let acts = verdict_acts name known on in
     subst (λ (v : List Made). GoBy acts OnlyCloses v) (append-nil ms) (led_ends acts ms [] how (carried_led c) tt)
 brought_order {name} {known} {on} (Let_go ms es shut c) =
-    led_ends (verdict_acts name known on) ms (answered (Close known.held.0) shut ∷ []) Settled.Nobody (carried_led c) (refl, tt)
+    led_ends (verdict_acts name known on) ms (made_with (Close known.held.0) shut ∷ []) Settled.Nobody (carried_led c) (refl, tt)
 
 treated_order : {hub : Option Write} {name : List ℕ} {known : Known} {on d : Bool} {ms : List Made}
     {es : List Entry} {how : Settled} → Treated hub name known on d ms es how
@@ -201,7 +201,7 @@ treated_order {hub} {name} {known} {on} x = by x
         subst (λ (v : List Made). Goes (default_due hub name known) v) (append-nil ds)
         (cut what ds [] how e n.0 (once_led w) tt)
     by (Gone_default what ds fs shut e w) =
-        cut what ds (answered (Close known.held.0) shut ∷ []) Settled.Nobody e (λ s. let none : ⊥ = cc in none) (once_led w) (refl, tt)
+        cut what ds (made_with (Close known.held.0) shut ∷ []) Settled.Nobody e (λ s. let none : ⊥ = cc in none) (once_led w) (refl, tt)
 
 unbound_behind : {name : List ℕ} {r : Binding} {es : List Entry} {how : Settled} (alive : Bool → List Made → Type 0)
     → Unbound_end name r es how → Behind_bound alive r []
@@ -226,7 +226,7 @@ behind_goes : {name parent : List ℕ} {file : Held} {own : OwnFiles} {ns : List
     → GoBy (parent_acts (Some parent)) (GoByProbe alive OnlyCloses) (ns ++ os)
 behind_goes {name} {parent} {file} alive os (Cut_behind ms at t shut why r left a first stops e) c =
     let rest : List Made → Type 0 = GoByProbe alive OnlyCloses in
-    let last : List Made = answered (Read parent at) t ∷ answered (Close file.0) shut ∷ [] in
+    let last : List Made = made_with (Read parent at) t ∷ made_with (Close file.0) shut ∷ [] in
     let closes = stop_closes alive why os (subst (λ (v : Binding). Behind_bound alive v os) e c) in
     subst (λ (v : List Made). GoBy (parent_acts (Some parent)) rest v) (sym (append_assoc ms last os))
     (reads_go rest (last ++ os) first (refl, inr (stops_end stops, (refl, closes))))
@@ -243,18 +243,18 @@ under_goes : {name parent : List ℕ} {kept : ℕ} {ms : List Made} {r : Binding
     → GoBy (own_acts name []) (GoByParent name kept (GoByProbe alive OnlyCloses)) (ms ++ os)
 under_goes {name} {parent} {kept} alive os above (Under_cut file call count ms at t shut why r left a first stops e) c =
     let rest : List Made → Type 0 = GoByParent name kept (GoByProbe alive OnlyCloses) in
-    let front : Made = answered (Open name Authorized) (told (Opened.Token file) call count) in
-    let last : List Made = answered (Read name at) t ∷ answered (Close file.0) shut ∷ [] in
+    let front : Made = made_with (Open name Authorized) (told (Opened.Token file) call count) in
+    let last : List Made = made_with (Read name at) t ∷ made_with (Close file.0) shut ∷ [] in
     let closes = stop_closes alive why os (subst (λ (v : Binding). Behind_bound alive v os) e c) in
     subst (λ (v : List Made). GoBy (own_acts name []) rest (front ∷ v)) (sym (append_assoc ms last os))
     (refl, inl (refl, reads_go rest (last ++ os) first (refl, inr (stops_end stops, (refl, closes)))))
 under_goes {name} {parent} {kept} alive os above (Under_alive file call count d p s q on number total ns r own h) c =
     let rest : List Made → Type 0 = GoByParent name kept (GoByProbe alive OnlyCloses) in
-    (refl, inl (refl, reads_go rest (answered (Ask_alive kept) (told (Probe.Alive on) number total) ∷ (ns ++ os)) own.1 (refl, last_goes alive os h c)))
+    (refl, inl (refl, reads_go rest (made_with (Ask_alive kept) (told (Probe.Alive on) number total) ∷ (ns ++ os)) own.1 (refl, last_goes alive os h c)))
 under_goes {name} {parent} {kept} alive os above (Under_other file call count d p s q t ns r isnt own h) c =
     let probed : List Made → Type 0 = GoByProbe alive OnlyCloses in
     let reads = subst (λ (o : Option (List ℕ)). GoBy (parent_acts o) probed (ns ++ os)) (sym above) (behind_goes alive os h c) in
-    (refl, inl (refl, reads_go (GoByParent name kept probed) (answered (Ask_alive kept) t ∷ (ns ++ os)) own.1 (refl, isnt_goes name probed t.answer (ns ++ os) isnt reads)))
+    (refl, inl (refl, reads_go (GoByParent name kept probed) (made_with (Ask_alive kept) t ∷ (ns ++ os)) own.1 (refl, isnt_goes name probed t.answer (ns ++ os) isnt reads)))
 under_goes alive os above x c = (refl, inr (refl, c))
 
 for_order : (name : List ℕ) (ms : List Made) (r : Binding) (o : Option Standing) (alive : Bool → List Made → Type 0)
@@ -272,7 +272,7 @@ opening_order : {name : List ℕ} {ss rs : List Standing} {ms : List Made} {es :
 opening_order {name} binds hub kept entries ns (Fresh e) h =
     subst (λ (o : Option Known). GoInOrder binds hub name kept o entries ns) (sym e) h
 opening_order {name} binds hub kept entries ns (Lost known failed shut e) h =
-    let ms : List Made = answered (Ask_alive known.held.0) (told_at Probe.Gone failed) ∷ answered (Close known.held.0) shut ∷ ns in
+    let ms : List Made = made_with (Ask_alive known.held.0) (told_at Probe.Gone failed) ∷ made_with (Close known.held.0) shut ∷ ns in
     subst (λ (o : Option Known). GoInOrder binds hub name kept o entries ms) (sym e) (refl, inl (refl, h))
 
 -- and where the name is bound, beside the standing of its parent
@@ -310,7 +310,7 @@ flat_order {hub} {binds} {name = name} {rest = rest} (Unbound ms ns es fs rs r h
     new_order hub rest ns t opening new
 flat_order {hub} {binds} {name = name} {rest = rest} (No_place ms ns es rs b shut t opening way) =
     let short : Entry = Entry.Unsettled name Fault.Memory in
-    let last : List Made = answered (Close b.held.0) shut ∷ [] in
+    let last : List Made = made_with (Close b.held.0) shut ∷ [] in
     let alive : Bool → List Made → Type 0 = GoByVerdict hub name rest (told_known rest) in
     let so = subst (λ (v : Option Known). GoByVerdict hub name rest v b.on last) (sym (opening_told opening (short ∷ []))) (has_right es (short ∷ []) short (inl refl), (refl, tt)) in
     new_order hub rest (ns ++ last) t opening (for_order name ns (Binding.Bound b) (parent_standing name rs) alive last (is_above name rs) way so)
@@ -325,11 +325,11 @@ flat_order {hub} {binds} {name = name} {rest = rest} (Judged_so ms ns os es fs r
 -- Calls that the order refuses, whatever else is true of them.
 
 -- a serial read before the product
-serial_first : (name : List ℕ) (held : Held) (bytes : List ℕ) (a b c d : ℕ) (t : Told ReadOut) (ms : List Made)
+serial_first : (name : List ℕ) (held : Held) (bytes : List ℕ) (a b c d : ℕ) (t : ToldAnswer ReadOut) (ms : List Made)
     (rest : List Made → Type 0)
-    → let opened = answered (Open name Authorized) (told (Opened.Token held) a b) in
-    let descriptors = answered (Read name Attr.Descriptors) (told (ReadOut.Bytes bytes) c d) in
-    GoBy (bind_acts name) rest (opened ∷ descriptors ∷ answered (Read name Attr.Serial) t ∷ ms) → ⊥
+    → let opened = made_with (Open name Authorized) (told (Opened.Token held) a b) in
+    let descriptors = made_with (Read name Attr.Descriptors) (told (ReadOut.Bytes bytes) c d) in
+    GoBy (bind_acts name) rest (opened ∷ descriptors ∷ made_with (Read name Attr.Serial) t ∷ ms) → ⊥
 serial_first name held bytes a b c d t ms rest h = elim h.1 [
   | inl on ↦ elim on.1.1 [
     | inl more ↦ let same = more.1.0 in let none : ⊥ = cc in none
@@ -340,16 +340,16 @@ serial_first name held bytes a b c d t ms rest h = elim h.1 [
 
 -- a file of a known device read before its probe
 known_read : (binds : Bool) (hub : Option Write) (name of : List ℕ) (kept : Option ℕ) (known : Known) (entries : List Entry)
-    (at : Attr) (t : Told ReadOut) (ms : List Made)
-    → GoInOrder binds hub name kept (Some known) entries (answered (Read of at) t ∷ ms) → ⊥
+    (at : Attr) (t : ToldAnswer ReadOut) (ms : List Made)
+    → GoInOrder binds hub name kept (Some known) entries (made_with (Read of at) t ∷ ms) → ⊥
 known_read binds hub name of kept known entries at t ms h = h
 
 -- a second probe before an order switches a device on
-probed_again : (name : List ℕ) (known : Known) (held : ℕ) (t : Told Probe) (ms : List Made)
+probed_again : (name : List ℕ) (known : Known) (held : ℕ) (t : ToldAnswer Probe) (ms : List Made)
     → wants known.verdict ≡ true
-    → GoBy (verdict_acts name known false) OnlyCloses (answered (Ask_alive held) t ∷ ms) → ⊥
+    → GoBy (verdict_acts name known false) OnlyCloses (made_with (Ask_alive held) t ∷ ms) → ⊥
 probed_again name known held t ms e h =
-    let again : Made = answered (Ask_alive held) t in
+    let again : Made = made_with (Ask_alive held) t in
     let removal : List Act = removal_acts name (is_to_go known) in
     let acts : GoBy (To_write Write.On ∷ removal) OnlyCloses (again ∷ ms) =
     subst (λ (b : Bool). GoBy (value_acts b false ++ removal) OnlyCloses (again ∷ ms)) e h in
@@ -359,20 +359,20 @@ probed_again name known held t ms e h =
 -- a call behind a device that is gone, where the listing didn't succeed
 bound_unlisted : (hub : Option Write) (name : List ℕ) (kept : Option ℕ) (known : Known) (entries : List Entry) (failed : FailedCall)
     (shut : Closing) (m : Made) (ms : List Made)
-    → let gone = answered (Ask_alive known.held.0) (told_at Probe.Gone failed) in
-    GoInOrder false hub name kept (Some known) entries (gone ∷ answered (Close known.held.0) shut ∷ m ∷ ms) → ⊥
+    → let gone = made_with (Ask_alive known.held.0) (told_at Probe.Gone failed) in
+    GoInOrder false hub name kept (Some known) entries (gone ∷ made_with (Close known.held.0) shut ∷ m ∷ ms) → ⊥
 bound_unlisted hub name kept known entries failed shut m ms h = elim h.1 [
   | inl on ↦ let end = on.1 in let none : ⊥ = cc in none
   | inr off ↦ let end = off.0 in let none : ⊥ = cc in none
 ]
 
 -- the parent's files read where its held file is alive
-read_alive : (name : List ℕ) (kept : ℕ) (p : Bool) (a b : ℕ) (of : List ℕ) (at : Attr) (t : Told ReadOut) (ms : List Made)
+read_alive : (name : List ℕ) (kept : ℕ) (p : Bool) (a b : ℕ) (of : List ℕ) (at : Attr) (t : ToldAnswer ReadOut) (ms : List Made)
     (alive : Bool → List Made → Type 0)
-    → GoByParent name kept (GoByProbe alive OnlyCloses) (answered (Ask_alive kept) (told (Probe.Alive p) a b) ∷ answered (Read of at) t ∷ ms) → ⊥
+    → GoByParent name kept (GoByProbe alive OnlyCloses) (made_with (Ask_alive kept) (told (Probe.Alive p) a b) ∷ made_with (Read of at) t ∷ ms) → ⊥
 read_alive name kept p a b of at t ms alive h = h.1
 
 -- another file probed in its place
-asked_other : (name : List ℕ) (kept held : ℕ) (t : Told Probe) (ms : List Made) (rest : List Made → Type 0)
-    → (held ≡ kept → ⊥) → GoByParent name kept rest (answered (Ask_alive held) t ∷ ms) → ⊥
+asked_other : (name : List ℕ) (kept held : ℕ) (t : ToldAnswer Probe) (ms : List Made) (rest : List Made → Type 0)
+    → (held ≡ kept → ⊥) → GoByParent name kept rest (made_with (Ask_alive held) t ∷ ms) → ⊥
 asked_other name kept held t ms rest ne h = ne h.0

@@ -1,7 +1,7 @@
 -- One name's part, flat: each way through the trees of a settling and a resettling has one of these shapes.
 use Rattle.ug_kernel.specs.Tree.{Return}
 use Rattle.std.proofs.Common.{cond, ◌≡◌, ℕ, ◌+◌, Bool, true, false, ◌&&◌, not, is_none, List, [], ◌∷◌, ◌++◌, Option, Some, None, refl, sym, ◌∙◌, ap, subst, append_assoc, append-nil}
-use Rattle.ug_table.proofs.Common.{Control, IsOpenable, parent_of, Judged, Held, Target, Cause, Probe, Write, Wrote, Ask_alive, Put, Close, Closing, Told, Made, answered, failure_of, Bound, Binding, RemoveHold, Entry, State, Kept, with_kept, Answers, Laters, Has, known_of, standing_of, did_default, defaulted_known, default_due, default_write, IsOnce, Default, Terms, treating, after_default, by_default, same_name, without, with_standing, Standing, Known, Settled, FailedCall, Fault, names_of, unsettled_by, kept_standings, to_keep, no_room, standing_for, known_in, judged_entry, if_place, if_record, admitting, after_bind, entering, tried_standings, to_mark, after_known, from_standing, settling, to_keep_mark, after_again, again, resettling, filter_has, wants, write_of, after_write, to_value, valuing, after_hold, once, control_of, is_to_go, if_to_go, after_value, writing, close_gone, bringing, Ways, Sure, Way, ways_more, behind_sure, sure_last, parent_standing, held_of, binding_for, judged_bound, bound_hash, kept_file}
+use Rattle.ug_table.proofs.Common.{Control, IsOpenable, parent_of, Judged, Held, Target, Cause, Probe, Write, Wrote, Ask_alive, Put, Close, Closing, ToldAnswer, Made, made_with, failure_of, Bound, Binding, RemoveHold, Entry, State, Kept, with_kept, Answers, Laters, Has, known_of, standing_of, did_default, defaulted_known, default_due, default_write, IsOnce, Default, Terms, treating, after_default, by_default, same_name, without, with_standing, Standing, Known, Settled, FailedCall, Fault, names_of, unsettled_by, kept_standings, to_keep, no_room, standing_for, known_in, judged_entry, if_place, if_record, admitting, after_bind, entering, tried_standings, to_mark, after_known, from_standing, settling, to_keep_mark, after_again, again, resettling, filter_has, wants, write_of, after_write, to_value, valuing, after_hold, once, control_of, is_to_go, if_to_go, after_value, writing, close_gone, bringing, Ways, Sure, Way, ways_more, behind_sure, sure_last, parent_standing, held_of, binding_for, judged_bound, bound_hash, kept_file}
 use Rattle.ug_node.specs.Removal.{holding}
 use Rattle.ug_node.proofs.BindShapes.{sure_hold}
 use Rattle.ug_table.proofs.Above.{sure_for, is_above}
@@ -11,7 +11,7 @@ pub use Rattle.ug_table.proofs.Standings.{told_at}
 -- the shapes
 
 -- what came of a write, its entries, and how it ended
-pub data Written (name : List ℕ) (number : ℕ) (what : Write) : Told Wrote → List Entry → Settled → Type 0 where
+pub data Written (name : List ℕ) (number : ℕ) (what : Write) : ToldAnswer Wrote → List Entry → Settled → Type 0 where
   Done : (failed : FailedCall) → Written name number what (told_at Wrote.Done failed) (Entry.Intent number name what ∷ Entry.Wrote number name what Wrote.Done ∷ []) Settled.Stands
   Went : (failed : FailedCall) → Written name number what (told_at Wrote.Gone failed) (Entry.Intent number name what ∷ Entry.Wrote number name what Wrote.Gone ∷ Entry.Gone number name ∷ []) Settled.Nobody
   Broke : (failed : FailedCall) → Written name number what (told_at Wrote.Failed failed) (Entry.Intent number name what ∷ Entry.Wrote number name what Wrote.Failed ∷ []) (Settled.Fault failed)
@@ -19,7 +19,7 @@ pub data Written (name : List ℕ) (number : ℕ) (what : Write) : Told Wrote �
 -- the value is as wanted, or is written
 pub data Valued (name : List ℕ) (known : Known) (on : Bool) : List Made → List Entry → Settled → Type 0 where
   Same : wants known.verdict ≡ on → Valued name known on [] [] Settled.Stands
-  Set : (t : Told Wrote) (es : List Entry) (how : Settled) → (wants known.verdict ≡ on → ⊥) → Written name known.number (write_of known.verdict) t es how → Valued name known on (answered (Put known.held.0 (write_of known.verdict)) t ∷ []) es how
+  Set : (t : ToldAnswer Wrote) (es : List Entry) (how : Settled) → (wants known.verdict ≡ on → ⊥) → Written name known.number (write_of known.verdict) t es how → Valued name known on (made_with (Put known.held.0 (write_of known.verdict)) t ∷ []) es how
 
 -- the second file isn't held
 pub data Unheld (name : List ℕ) (number : ℕ) : RemoveHold → List Entry → Settled → Type 0 where
@@ -30,7 +30,7 @@ pub data Unheld (name : List ℕ) (number : ℕ) : RemoveHold → List Entry →
 -- a write that is made once
 pub data OnceMade (name : List ℕ) (known : Known) (what : Write) : List Made → List Entry → Settled → Type 0 where
   Not_held : (ms : List Made) (answer : RemoveHold) (es : List Entry) (how : Settled) → Way (holding (control_of what) name known.held.0) ms answer → Unheld name known.number answer es how → OnceMade name known what ms es how
-  Put_on : (ms : List Made) (file : Held) (t : Told Wrote) (shut : Closing) (es : List Entry) (how : Settled) → Way (holding (control_of what) name known.held.0) ms (RemoveHold.Ready file) → Written name known.number what t es how → OnceMade name known what (ms ++ answered (Put file.0 what) t ∷ answered (Close file.0) shut ∷ []) es how
+  Put_on : (ms : List Made) (file : Held) (t : ToldAnswer Wrote) (shut : Closing) (es : List Entry) (how : Settled) → Way (holding (control_of what) name known.held.0) ms (RemoveHold.Ready file) → Written name known.number what t es how → OnceMade name known what (ms ++ made_with (Put file.0 what) t ∷ made_with (Close file.0) shut ∷ []) es how
 
 -- the value, and then the removal
 pub data Carried (name : List ℕ) (known : Known) (on : Bool) : List Made → List Entry → Settled → Type 0 where
@@ -40,7 +40,7 @@ pub data Carried (name : List ℕ) (known : Known) (on : Bool) : List Made → L
 -- and the held file is closed where the device is gone
 pub data Brought (name : List ℕ) (known : Known) (on : Bool) : List Made → List Entry → Settled → Type 0 where
   Left_open : (ms : List Made) (es : List Entry) (how : Settled) → Carried name known on ms es how → (how ≡ Settled.Nobody → ⊥) → Brought name known on ms es how
-  Let_go : (ms : List Made) (es : List Entry) (shut : Closing) → Carried name known on ms es Settled.Nobody → Brought name known on (ms ++ answered (Close known.held.0) shut ∷ []) es Settled.Nobody
+  Let_go : (ms : List Made) (es : List Entry) (shut : Closing) → Carried name known on ms es Settled.Nobody → Brought name known on (ms ++ made_with (Close known.held.0) shut ∷ []) es Settled.Nobody
 
 -- neither that it stands nor that there is nobody
 abbrev pub IsCut : Settled → Type 0
@@ -51,7 +51,7 @@ pub data Treated (hub : Option Write) (name : List ℕ) (known : Known) (on : Bo
   No_default : (ms : List Made) (es : List Entry) (how : Settled) → default_due hub name known ≡ None → Brought name known on ms es how → Treated hub name known on false ms es how
   And_default : (what : Write) (ds ms : List Made) (fs es : List Entry) (how : Settled) → default_due hub name known ≡ Some what → OnceMade name known what ds fs Settled.Stands → Brought name (defaulted_known known) on ms es how → Treated hub name known on true (ds ++ ms) (fs ++ es) how
   Cut_default : (what : Write) (ds : List Made) (fs : List Entry) (how : Settled) → default_due hub name known ≡ Some what → OnceMade name known what ds fs how → IsCut how → Treated hub name known on false ds fs how
-  Gone_default : (what : Write) (ds : List Made) (fs : List Entry) (shut : Closing) → default_due hub name known ≡ Some what → OnceMade name known what ds fs Settled.Nobody → Treated hub name known on false (ds ++ answered (Close known.held.0) shut ∷ []) fs Settled.Nobody
+  Gone_default : (what : Write) (ds : List Made) (fs : List Entry) (shut : Closing) → default_due hub name known ≡ Some what → OnceMade name known what ds fs Settled.Nobody → Treated hub name known on false (ds ++ made_with (Close known.held.0) shut ∷ []) fs Settled.Nobody
 
 -- what is due
 
@@ -101,7 +101,7 @@ treated_done (Gone_default what ds fs shut e w) s = let none : ⊥ = cc in absur
 -- the name has no standing, or its device is found gone
 pub data Opening (name : List ℕ) (ss : List Standing) : List Made → List Entry → List Standing → Type 0 where
   Fresh : standing_of name ss ≡ None → Opening name ss [] [] ss
-  Lost : (known : Known) (failed : FailedCall) (shut : Closing) → standing_of name ss ≡ Some known → Opening name ss (answered (Ask_alive known.held.0) (told_at Probe.Gone failed) ∷ answered (Close known.held.0) shut ∷ []) (Entry.Gone known.number name ∷ []) (without name ss)
+  Lost : (known : Known) (failed : FailedCall) (shut : Closing) → standing_of name ss ≡ Some known → Opening name ss (made_with (Ask_alive known.held.0) (told_at Probe.Gone failed) ∷ made_with (Close known.held.0) shut ∷ []) (Entry.Gone known.number name ∷ []) (without name ss)
 
 -- so none of the name is left, and no other is new
 pub opening_none : {name : List ℕ} {ss : List Standing} {ms : List Made} {es : List Entry} {rs : List Standing} → Opening name ss ms es rs → standing_of name rs ≡ None
@@ -142,11 +142,11 @@ new_known {name} {rs = rs} {x = x} opening new = with_own name x rs new.named (o
 -- A name's part: whether room was granted, the calls, the entries, how it ended, the standings then, and the device that was judged
 -- beside which standings, if one was. Only a settling binds; `given` is what is known of a new standing.
 pub data Flat (hub : Option Write) (binds : Bool) (given : List Standing → Bound → Standing → Type 0) (name : List ℕ) (ss : List Standing) : Bool → List Made → List Entry → Settled → List Standing → Option (List Standing × Bound) → Type 0 where
-  Unprobed : (known : Known) (failed : FailedCall) → standing_of name ss ≡ Some known → Flat hub binds given name ss true (answered (Ask_alive known.held.0) (told_at Probe.Failed failed) ∷ []) (Entry.Unsettled name (Fault.Call failed) ∷ []) (Settled.Fault failed) (tried_standings ss name (Settled.Fault failed)) None
-  Tried : (known : Known) (on : Bool) (failed : FailedCall) (d : Bool) (ms : List Made) (es : List Entry) (how : Settled) → standing_of name ss ≡ Some known → Treated hub name known on d ms es how → Flat hub binds given name ss true (answered (Ask_alive known.held.0) (told_at (Probe.Alive on) failed) ∷ ms) (es ++ unsettled_by name how) how (tried_standings (did_default name d ss) name how) None
+  Unprobed : (known : Known) (failed : FailedCall) → standing_of name ss ≡ Some known → Flat hub binds given name ss true (made_with (Ask_alive known.held.0) (told_at Probe.Failed failed) ∷ []) (Entry.Unsettled name (Fault.Call failed) ∷ []) (Settled.Fault failed) (tried_standings ss name (Settled.Fault failed)) None
+  Tried : (known : Known) (on : Bool) (failed : FailedCall) (d : Bool) (ms : List Made) (es : List Entry) (how : Settled) → standing_of name ss ≡ Some known → Treated hub name known on d ms es how → Flat hub binds given name ss true (made_with (Ask_alive known.held.0) (told_at (Probe.Alive on) failed) ∷ ms) (es ++ unsettled_by name how) how (tried_standings (did_default name d ss) name how) None
   Stopped : (ms : List Made) (es : List Entry) (rs : List Standing) → binds ≡ false → Opening name ss ms es rs → Flat hub binds given name ss true ms es Settled.Nobody rs None
   Unbound : (ms ns : List Made) (es fs : List Entry) (rs : List Standing) (r : Binding) (how : Settled) → binds ≡ true → Opening name ss ms es rs → Way (binding_for name rs) ns r → Unbound_end name r fs how → Flat hub binds given name ss true (ms ++ ns) (es ++ fs) how rs None
-  No_place : (ms ns : List Made) (es : List Entry) (rs : List Standing) (b : Bound) (shut : Closing) → binds ≡ true → Opening name ss ms es rs → Way (binding_for name rs) ns (Binding.Bound b) → Flat hub binds given name ss false (ms ++ (ns ++ answered (Close b.held.0) shut ∷ [])) (es ++ Entry.Unsettled name Fault.Memory ∷ []) Settled.Memory rs None
+  No_place : (ms ns : List Made) (es : List Entry) (rs : List Standing) (b : Bound) (shut : Closing) → binds ≡ true → Opening name ss ms es rs → Way (binding_for name rs) ns (Binding.Bound b) → Flat hub binds given name ss false (ms ++ (ns ++ made_with (Close b.held.0) shut ∷ [])) (es ++ Entry.Unsettled name Fault.Memory ∷ []) Settled.Memory rs None
   Judged_so : (ms ns os : List Made) (es fs : List Entry) (rs : List Standing) (b : Bound) (x : Standing) (d : Bool) (how : Settled) → binds ≡ true → Opening name ss ms es rs → Way (binding_for name rs) ns (Binding.Bound b) → given rs b x → IsNew name b x → Treated hub name (known_of x) b.on d os fs how → Flat hub binds given name ss true (ms ++ (ns ++ os)) (es ++ Entry.Judged x.number name x.held x.verdict x.cause ∷ (fs ++ unsettled_by name how)) how (tried_standings (did_default name d (with_standing x rs)) name how) (Some (rs, b))
 
 -- the standings of other names stay
@@ -182,8 +182,8 @@ valued : (name : List ℕ) (known : Known) (on : Bool) (entries : List Entry) �
 unfolding valuing
 valued name known on entries = by (wants known.verdict) on refl refl
   where
-    set : (b : Bool) → (wants known.verdict ≡ b → ⊥) → b ≡ on → (t : Told Wrote) → Ways (after_write name known.number (write_of known.verdict) (entries ++ Entry.Intent known.number name (write_of known.verdict) ∷ []) t.answer (failure_of t)) (Sure (λ ms p. Adds entries (Valued name known on) (answered (Put known.held.0 (write_of known.verdict)) t ∷ ms) p))
-    set b ne e t = written name known.number (write_of known.verdict) entries t.answer (failure_of t) (Sure (λ ms p. Adds entries (Valued name known on) (answered (Put known.held.0 (write_of known.verdict)) t ∷ ms) p)) (λ es fs how is w. (refl, (es, is, Set t es how (λ s. ne (s ∙ sym e)) w)))
+    set : (b : Bool) → (wants known.verdict ≡ b → ⊥) → b ≡ on → (t : ToldAnswer Wrote) → Ways (after_write name known.number (write_of known.verdict) (entries ++ Entry.Intent known.number name (write_of known.verdict) ∷ []) t.answer (failure_of t)) (Sure (λ ms p. Adds entries (Valued name known on) (made_with (Put known.held.0 (write_of known.verdict)) t ∷ ms) p))
+    set b ne e t = written name known.number (write_of known.verdict) entries t.answer (failure_of t) (Sure (λ ms p. Adds entries (Valued name known on) (made_with (Put known.held.0 (write_of known.verdict)) t ∷ ms) p)) (λ es fs how is w. (refl, (es, is, Set t es how (λ s. ne (s ∙ sym e)) w)))
 
     by : (a b : Bool) → wants known.verdict ≡ a → b ≡ on → Ways (to_value name known entries a b) (Sure (Adds entries (Valued name known on)))
     by true true e f = (refl, ([], sym (append-nil entries), Same (e ∙ f)))
@@ -199,7 +199,7 @@ made_once name known what entries = behind_sure (Way (holding (control_of what) 
     at_end ms p h = (refl, subst (λ v. Adds entries (OnceMade name known what) v p) (sym (append-nil ms)) h)
 
     by : (ms : List Made) (a : RemoveHold) → Way (holding (control_of what) name known.held.0) ms a → Ways (after_hold name known what entries a) (Sure (λ ns p. Adds entries (OnceMade name known what) (ms ++ ns) p))
-    by ms (RemoveHold.Ready file) way = λ t shut. written name known.number what entries t.answer (failure_of t) (Sure (λ ns p. Adds entries (OnceMade name known what) (ms ++ answered (Put file.0 what) t ∷ answered (Close file.0) shut ∷ ns) p)) (λ es fs how is w. (refl, (es, is, Put_on ms file t shut es how way w)))
+    by ms (RemoveHold.Ready file) way = λ t shut. written name known.number what entries t.answer (failure_of t) (Sure (λ ns p. Adds entries (OnceMade name known what) (ms ++ made_with (Put file.0 what) t ∷ made_with (Close file.0) shut ∷ ns) p)) (λ es fs how is w. (refl, (es, is, Put_on ms file t shut es how way w)))
     by ms RemoveHold.Gone way = at_end ms _ (_, refl, Not_held ms RemoveHold.Gone _ _ way Gone_by)
     by ms (RemoveHold.Failed failed) way = at_end ms _ ([], sym (append-nil entries), Not_held ms (RemoveHold.Failed failed) _ _ way (Failed_by failed))
     by ms RemoveHold.Memory way = at_end ms _ ([], sym (append-nil entries), Not_held ms RemoveHold.Memory _ _ way Short_by)
@@ -349,11 +349,11 @@ pub settles : {J : Type 0} (answer : Answers J) (later : Laters J) (name : List 
 unfolding settling
 settles {J} answer later name terms w = from (standing_of name w.standings) refl
   where
-    known_by : (known : Known) → standing_of name w.standings ≡ Some known → (r : Probe) (failed : FailedCall) → Ways (after_known answer later name terms w known r failed) (λ ok ms p. Settles answer later name terms w ok (answered (Ask_alive known.held.0) (told_at r failed) ∷ ms) p)
+    known_by : (known : Known) → standing_of name w.standings ≡ Some known → (r : Probe) (failed : FailedCall) → Ways (after_known answer later name terms w known r failed) (λ ok ms p. Settles answer later name terms w ok (made_with (Ask_alive known.held.0) (told_at r failed) ∷ ms) p)
     known_by known e (Probe.Alive on) failed =
-        sure_last (AddsDone w.entries (Treated terms.hub name known on)) (λ ok ms p. Settles answer later name terms w ok (answered (Ask_alive known.held.0) (told_at (Probe.Alive on) failed) ∷ ms) p) (treating terms.hub name known on w.entries) (to_mark w name) (λ (q : Settled × Bool × List Entry). (q.0, record w { standings = tried_standings (did_default name q.1 w.standings) name q.0; entries = q.2 ++ unsettled_by name q.0 })) (λ q. refl) (treated terms.hub name known on w.entries)
+        sure_last (AddsDone w.entries (Treated terms.hub name known on)) (λ ok ms p. Settles answer later name terms w ok (made_with (Ask_alive known.held.0) (told_at (Probe.Alive on) failed) ∷ ms) p) (treating terms.hub name known on w.entries) (to_mark w name) (λ (q : Settled × Bool × List Entry). (q.0, record w { standings = tried_standings (did_default name q.1 w.standings) name q.0; entries = q.2 ++ unsettled_by name q.0 })) (λ q. refl) (treated terms.hub name known on w.entries)
         (λ ms q h. record { rest = h.0 ++ unsettled_by name q.0; judged = None; flat = Tried known on failed q.1 ms h.0 q.0 e h.2; entries = adds_told w.entries q.2 h.0 name q.0 h.1; listed = refl; hub = refl; next = refl; judge = refl })
-    known_by known e Probe.Gone failed = λ shut. entered answer later name terms w (answered (Ask_alive known.held.0) (told_at Probe.Gone failed) ∷ answered (Close known.held.0) shut ∷ []) (Entry.Gone known.number name ∷ []) (w.entries ++ Entry.Gone known.number name ∷ []) (without name w.standings) refl (Lost known failed shut e)
+    known_by known e Probe.Gone failed = λ shut. entered answer later name terms w (made_with (Ask_alive known.held.0) (told_at Probe.Gone failed) ∷ made_with (Close known.held.0) shut ∷ []) (Entry.Gone known.number name ∷ []) (w.entries ++ Entry.Gone known.number name ∷ []) (without name w.standings) refl (Lost known failed shut e)
     known_by known e Probe.Failed failed = record { rest = _; judged = None; flat = Unprobed known failed e; entries = refl; listed = refl; hub = refl; next = refl; judge = refl }
 
     from : (o : Option Known) → standing_of name w.standings ≡ o → Ways (from_standing answer later name terms w o) (Settles answer later name terms w)
@@ -373,9 +373,9 @@ resettles {J} answer later name terms w k = from (standing_of name k.standings) 
     R : Bool → List Made → Settled × Kept → Type 0
     R = Resettles answer later name terms w k
 
-    known_by : (known : Known) → standing_of name k.standings ≡ Some known → (r : Probe) (failed : FailedCall) → Ways (after_again terms.hub name k known r failed) (λ ok ms p. R ok (answered (Ask_alive known.held.0) (told_at r failed) ∷ ms) p)
+    known_by : (known : Known) → standing_of name k.standings ≡ Some known → (r : Probe) (failed : FailedCall) → Ways (after_again terms.hub name k known r failed) (λ ok ms p. R ok (made_with (Ask_alive known.held.0) (told_at r failed) ∷ ms) p)
     known_by known e (Probe.Alive on) failed =
-        sure_last (AddsDone k.entries (Treated terms.hub name known on)) (λ ok ms p. R ok (answered (Ask_alive known.held.0) (told_at (Probe.Alive on) failed) ∷ ms) p) (treating terms.hub name known on k.entries) (to_keep_mark k name) (λ (q : Settled × Bool × List Entry). (q.0, record { standings = tried_standings (did_default name q.1 k.standings) name q.0; entries = q.2 ++ unsettled_by name q.0 })) (λ q. refl) (treated terms.hub name known on k.entries)
+        sure_last (AddsDone k.entries (Treated terms.hub name known on)) (λ ok ms p. R ok (made_with (Ask_alive known.held.0) (told_at (Probe.Alive on) failed) ∷ ms) p) (treating terms.hub name known on k.entries) (to_keep_mark k name) (λ (q : Settled × Bool × List Entry). (q.0, record { standings = tried_standings (did_default name q.1 k.standings) name q.0; entries = q.2 ++ unsettled_by name q.0 })) (λ q. refl) (treated terms.hub name known on k.entries)
         (λ ms q h. record { rest = h.0 ++ unsettled_by name q.0; judged = None; flat = Tried known on failed q.1 ms h.0 q.0 e h.2; entries = adds_told k.entries q.2 h.0 name q.0 h.1; listed = refl; hub = refl; next = refl; judge = refl })
     known_by known e Probe.Gone failed = λ shut. record { rest = _; judged = None; flat = Stopped _ _ _ refl (Lost known failed shut e); entries = refl; listed = refl; hub = refl; next = refl; judge = refl }
     known_by known e Probe.Failed failed = record { rest = _; judged = None; flat = Unprobed known failed e; entries = refl; listed = refl; hub = refl; next = refl; judge = refl }

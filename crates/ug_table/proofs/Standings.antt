@@ -2,15 +2,15 @@
 use Rattle.std.proofs.Common.{◌≡◌, ◌↔◌, ℕ, nat_eq, Option, option_copied, IsNone, IsSome, Bor, sym, Bool, true, false, not, ◌∙◌, ◌||◌, List, [], ◌∷◌, Some, None, map, cond, ◌⊎◌, inl, inr, refl, ap, subst, arith, true≢false, slice_get, ◌&&◌, ◌++◌, take, drop}
 use Rattle.std.proofs.lemmas.Bool.{or_right, or_cases, cases_Bool, cond_both, cond-false, both_ways, not-true, not-false, false_from_ne_true}
 use Rattle.std.specs.Cmp.Lexicographic.{bytes_decides}
-use Rattle.ug_table.proofs.Common.{Has, AllDistinct, same_name, known_of, standing_of, numbered, without, marked, lists, removed_of, did_default, with_default, default_due, defaulted_known, Default, IsOnce, control_of, is_done, place_for, with_standing, settled_standing, Standing, Known, Target, Device, Control, Authorized, Remove, Write, Wrote, Told, Put, Kernel, Live, IsKernel, Lived, value_after, written_to, does_put, IsWritten, IsGoneAt, IsAlive, Called, Quiet, Grows, FailedCall, Settled, Held, open_file, known_files, number_of, Entry, farewells, names_of, kept_standings, tried_standings, filter_has, map_has, has_map, distinct_one, has_filter, insert_has, is_reject, wants, write_of, filter, insert, some_same, moves_quiet}
+use Rattle.ug_table.proofs.Common.{Has, AllDistinct, same_name, known_of, standing_of, numbered, without, marked, lists, removed_of, did_default, with_default, default_due, defaulted_known, Default, IsOnce, control_of, is_done, place_for, with_standing, settled_standing, Standing, Known, Target, Device, Control, Authorized, Remove, Write, Wrote, ToldAnswer, Put, Kernel, Live, IsKernel, Lived, value_after, written_to, does_put, IsWritten, IsGoneAt, IsAlive, Called, Quiet, Grows, FailedCall, Settled, Held, open_file, known_files, number_of, Entry, farewells, names_of, kept_standings, tried_standings, filter_has, map_has, has_map, distinct_one, has_filter, insert_has, is_reject, wants, write_of, filter, insert, some_same, moves_quiet}
 use Rattle.ug_kernel.specs.declared.device.HeldFile.{HeldFile}
-use Rattle.ug_kernel.proofs.Held.{live_before}
+use Rattle.ug_kernel.proofs.HeldFiles.{live_before}
 use Rattle.ug_node.proofs.BindShapes.{told}
 use Rattle.std.specs.Prelude.{if◌then◌else◌}
 use Rattle.std.proofs.lemmas.List.{take-append-drop}
 
 -- what a call was answered, with its number and the count of failed calls after it
-abbrev pub told_at : {X : Type 0} → X → FailedCall → Told X
+abbrev pub told_at : {X : Type 0} → X → FailedCall → ToldAnswer X
 told_at answer last = told answer last.call last.count
 
 -- what holds of no entry, and stays with one that tells a standing gone, holds of those that tell what isn't listed
@@ -210,7 +210,7 @@ does_put_other held i write Wrote.Failed on k l ne (inl e) v = subst (λ x. Valu
 does_put_other held i write Wrote.Failed on k l ne (inr w) v = written_other held i write on k l w (ne w) v
 
 -- a write to another device
-put_other : (held i j : ℕ) (control : Control) (write : Write) (answer : Told Wrote) (on : Bool) (k l : Kernel) → IsHeldAs k held j control → (j ≡ i → ⊥) → Called (Put held write) answer k l → Value k i on → Value l i on
+put_other : (held i j : ℕ) (control : Control) (write : Write) (answer : ToldAnswer Wrote) (on : Bool) (k l : Kernel) → IsHeldAs k held j control → (j ≡ i → ⊥) → Called (Put held write) answer k l → Value k i on → Value l i on
 put_other held i j control write answer on k l file ne c v =
     let before = moves_quiet k c.before c.moves_before in
     let at = before.held held (record { device = j; control = control }) file in
@@ -303,7 +303,7 @@ pub open_named : (k : Kernel) (name other : List ℕ) (held i : ℕ) → IsOpen 
 open_named k name other held i o file live = sym (open_name k name held i live.d o live.live.at file) ∙ live.named
 
 -- a write through a file of a device of that name
-pub others_put : (name : List ℕ) (held file : ℕ) (control : Control) (write : Write) (answer : Told Wrote) (k l : Kernel) (o : IsOpen k name held) → IsHeldAs k file o.i control → Called (Put file write) answer k l → Others name k l
+pub others_put : (name : List ℕ) (held file : ℕ) (control : Control) (write : Write) (answer : ToldAnswer Wrote) (k l : Kernel) (o : IsOpen k name held) → IsHeldAs k file o.i control → Called (Put file write) answer k l → Others name k l
 others_put name held file control write answer k l o of c i on d e ne v =
     let other : o.i ≡ i → ⊥ = λ is. ne (open_name k name held i d o e (subst (λ j. IsFileOf k held j) is o.file)) in
     put_other file i o.i control write answer on k l of other c v

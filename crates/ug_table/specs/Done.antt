@@ -1,8 +1,8 @@
 -- The writes that are made once at most for a standing: those to another file than `authorized`.
 -- The standing is marked with what was done.
 use Rattle.std.specs.Prelude.{Bool, false}
-use Rattle.ug_types.specs.declared.control.Control.{Control}
-use Rattle.ug_types.specs.declared.control.Control.TheVariants.{Authorized, Remove, Default}
+use Rattle.ug_kernel.specs.declared.control.Control.{Control}
+use Rattle.ug_kernel.specs.declared.control.Control.TheVariants.{Authorized, Remove, Default}
 use Rattle.ug_table.specs.declared.standing.Standing.{Standing}
 pub use Rattle.ug_kernel.specs.Calls.{control_of}
 

@@ -1,8 +1,8 @@
 -- The calls of a name's part whose failure ends it, and is told: all but the probe of its parent's
 -- held file, which stands directly behind the reading of the last of the name's own files.
 use Rattle.std.specs.Prelude.{ℕ, Bool, true, false, ◌&&◌, nat_eq, if◌then◌else◌, List, [], ◌∷◌, Option, Some, None}
-use Rattle.ug_types.specs.declared.control.Attr.{Attr}
-use Rattle.ug_types.specs.declared.control.Attr.TheVariants as attr
+use Rattle.ug_kernel.specs.declared.control.Attr.{Attr}
+use Rattle.ug_kernel.specs.declared.control.Attr.TheVariants as attr
 use Rattle.ug_kernel.specs.Along.{Made}
 use Rattle.ug_kernel.specs.Calls.{Call, Names, Open, Read, Ask_alive, Put, Close}
 use Rattle.ug_table.specs.Parent.{parent_standing, held_of}

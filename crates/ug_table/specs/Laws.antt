@@ -5,15 +5,15 @@ use Rattle.std.specs.Ordering.{is_lt}
 use Rattle.ug_types.specs.Names.{parent_of, sweep_cmp}
 use Rattle.ug_types.specs.declared.record.Attrs.{Attrs}
 use Rattle.ug_types.specs.declared.record.Judged.{Judged}
-use Rattle.ug_types.specs.declared.verdict.Held.{Held}
+use Rattle.ug_kernel.specs.declared.control.Held.{Held}
 use Rattle.ug_types.specs.declared.verdict.Target.{Target}
 use Rattle.ug_types.specs.declared.verdict.Target.TheVariants as target
 use Rattle.ug_types.specs.declared.verdict.Cause.{Cause}
 use Rattle.ug_kernel.specs.declared.device.Device.{Device}
 use Rattle.ug_kernel.specs.declared.device.Effect.{Effect}
-use Rattle.ug_types.specs.declared.control.Control.TheVariants.{Authorized, Default}
-use Rattle.ug_types.specs.declared.control.Write.{Write}
-use Rattle.ug_types.specs.declared.control.Write.TheVariants as write
+use Rattle.ug_kernel.specs.declared.control.Control.TheVariants.{Authorized, Default}
+use Rattle.ug_kernel.specs.declared.control.Write.{Write}
+use Rattle.ug_kernel.specs.declared.control.Write.TheVariants as write
 use Rattle.ug_kernel.specs.declared.calls.Wrote.{Wrote}
 use Rattle.ug_kernel.specs.declared.calls.Wrote.TheVariants as wrote
 use Rattle.ug_kernel.specs.Kernel.{Kernel, IsKernel}
@@ -26,7 +26,7 @@ use Rattle.ug_audit.specs.declared.entry.Entry.{Entry}
 use Rattle.ug_audit.specs.declared.entry.Entry.TheVariants as entry
 use Rattle.ug_audit.specs.declared.entry.Fault.{Fault}
 use Rattle.ug_audit.specs.declared.entry.Fault.TheVariants as fault
-use Rattle.ug_types.specs.declared.control.Control.{Control}
+use Rattle.ug_kernel.specs.declared.control.Control.{Control}
 use Rattle.ug_table.specs.Done.{control_of, IsOnce, is_done}
 use Rattle.ug_table.specs.Bring.{wants, CallsFor, default_write, NeedsMemory}
 use Rattle.ug_table.specs.Standings.{known_of}

@@ -2,9 +2,9 @@
 use Rattle.std.specs.Prelude.{◌≡◌, ℕ, Bool, true, not, ◌&&◌, ◌||◌, List, nat_eq, Option, None}
 use Rattle.std.specs.List.{filter, list_any}
 use Rattle.ug_types.specs.Elements.{Has}
-use Rattle.ug_types.specs.declared.control.Control.{Control}
-use Rattle.ug_types.specs.declared.control.Control.TheVariants.{Remove, Default}
-use Rattle.ug_types.specs.declared.control.Write.{Write}
+use Rattle.ug_kernel.specs.declared.control.Control.{Control}
+use Rattle.ug_kernel.specs.declared.control.Control.TheVariants.{Remove, Default}
+use Rattle.ug_kernel.specs.declared.control.Write.{Write}
 use Rattle.ug_table.specs.Done.{is_done}
 use Rattle.ug_table.specs.Bring.{is_reject, default_due}
 use Rattle.ug_table.specs.Standings.{same_name, known_of}

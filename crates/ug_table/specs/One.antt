@@ -2,7 +2,7 @@
 use Rattle.std.specs.Prelude.{◌≡◌, ℕ, Bool, ◌^◌, ◌<◌, List, [], ◌∷◌, ◌++◌, Option, Some, None, ◌⊎◌, slice_get}
 use Rattle.ug_types.specs.Elements.{Has}
 use Rattle.ug_kernel.specs.declared.device.Device.{Device}
-use Rattle.ug_types.specs.declared.control.Control.TheVariants.{Authorized}
+use Rattle.ug_kernel.specs.declared.control.Control.TheVariants.{Authorized}
 use Rattle.ug_kernel.specs.Calls.{Call, Answer}
 use Rattle.ug_kernel.specs.Kernel.{Kernel, IsKernel}
 use Rattle.ug_kernel.specs.Called.{Lived}
@@ -16,7 +16,7 @@ use Rattle.ug_audit.specs.declared.entry.Fault.TheVariants as fault
 use Rattle.ug_table.specs.State.{State, Kept, Answers, Laters, Terms, terms_of}
 use Rattle.ug_table.specs.Settle.{resettling}
 use Rattle.ug_table.specs.Sweep.{names_of}
-use Rattle.ug_types.specs.declared.control.Write.{Write}
+use Rattle.ug_kernel.specs.declared.control.Write.{Write}
 use Rattle.ug_table.specs.Bring.{NeedsMemory}
 use Rattle.ug_table.specs.Standings.{known_of, numbered}
 use Rattle.ug_table.specs.Laws.{Stand, AreDefaulted, Tries, none_before, IsFair, IsGone, IsNamed, IsAsJudged}

@@ -3,8 +3,8 @@
 use Rattle.std.specs.Prelude.{◌≡◌, ℕ, Bool, ◌^◌, ◌<◌, ◌≤◌, nat_eq, cond, map, List, [], ◌∷◌, ◌++◌, Option, Some, None, ◌⊎◌}
 use Rattle.ug_types.specs.Elements.{Has}
 use Rattle.ug_types.specs.Principals.{Named}
-use Rattle.ug_types.specs.declared.control.Control.TheVariants.{Authorized}
-use Rattle.ug_types.specs.declared.control.Write.{Write}
+use Rattle.ug_kernel.specs.declared.control.Control.TheVariants.{Authorized}
+use Rattle.ug_kernel.specs.declared.control.Write.{Write}
 use Rattle.ug_types.specs.declared.verdict.Cause.{Cause}
 use Rattle.ug_types.specs.declared.verdict.Cause.TheVariants as cause
 use Rattle.ug_types.specs.declared.verdict.Target.{Target}
@@ -12,9 +12,9 @@ use Rattle.ug_kernel.specs.declared.calls.Probe.{Probe}
 use Rattle.ug_kernel.specs.declared.calls.Probe.TheVariants as probe
 use Rattle.ug_kernel.specs.declared.device.Device.{Device}
 use Rattle.ug_kernel.specs.declared.device.Effect.{Effect}
-use Rattle.ug_kernel.specs.Along.{Made, answered, count_calls, Along, failures, AreNumbered, Rises}
+use Rattle.ug_kernel.specs.Along.{Made, made_with, count_calls, Along, failures, AreNumbered, Rises}
 use Rattle.ug_kernel.specs.Called.{Lived, says_probe}
-use Rattle.ug_kernel.specs.Calls.{Call, Answer, Ask_alive, Told}
+use Rattle.ug_kernel.specs.Calls.{Call, Answer, Ask_alive, ToldAnswer}
 use Rattle.ug_kernel.specs.Kernel.{Kernel, IsKernel}
 use Rattle.ug_kernel.specs.Quiet.{Quiet}
 use Rattle.ug_kernel.specs.Tree.{Prog, Return, Ask, then}
@@ -99,13 +99,13 @@ ordering number verdict who on k = to_order number verdict who on k (numbered nu
 -- what it does, in the words of calls
 
 -- the probe of that file was the last call
-abbrev pub behind_probe : ℕ → Told Probe → Behind
+abbrev pub behind_probe : ℕ → ToldAnswer Probe → Behind
 behind_probe held t =
     record {
-      last = Some (answered (Ask_alive held) t);
+      last = Some (made_with (Ask_alive held) t);
       earlier = None;
       found = Some
-          (answered (Ask_alive held) t);
+          (made_with (Ask_alive held) t);
     }
 
 -- The calls of an order on that standing, which has the ordered verdict. They are about its name,
@@ -125,7 +125,8 @@ pub record GoesAsOrder {S : Type 0} (gives : S → (call : Call) → Answer call
   pub leaves : files_after (open_file x.held.0 Authorized ∷ []) made
       ≡ known_files (standing_of x.name after)
   pub ends : EndsAtFailure [] made
-  pub due : (t : Told Probe) → t.answer ≡ probe.Alive on → AreDue (behind_probe x.held.0 t) made
+  pub due : (t : ToldAnswer Probe) → t.answer ≡ probe.Alive on
+      → AreDue (behind_probe x.held.0 t) made
   pub single : AtMostOneEach (puts_of made)
   pub writes : TellsWrites x.name (puts_of made) (writes_in rest)
   pub few : count_calls made ≤ 4

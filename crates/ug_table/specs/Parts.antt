@@ -5,12 +5,12 @@ use Rattle.std.specs.List.{filter}
 use Rattle.ug_types.specs.Elements.{Has, AllDistinct}
 use Rattle.ug_types.specs.Names.{parent_of}
 use Rattle.ug_types.specs.Sweep.{in_sweep_order}
-use Rattle.ug_types.specs.declared.control.Control.{Control}
-use Rattle.ug_types.specs.declared.control.Control.TheVariants.{Authorized, Remove, Default}
-use Rattle.ug_types.specs.declared.refusal.Refusal.{Refusal}
-use Rattle.ug_types.specs.declared.refusal.Refusal.TheVariants as refusal
-use Rattle.ug_types.specs.declared.control.Write.{Write}
-use Rattle.ug_types.specs.declared.control.Write.TheVariants as write
+use Rattle.ug_kernel.specs.declared.control.Control.{Control}
+use Rattle.ug_kernel.specs.declared.control.Control.TheVariants.{Authorized, Remove, Default}
+use Rattle.ug_refusal.specs.declared.refusal.Refusal.{Refusal}
+use Rattle.ug_refusal.specs.declared.refusal.Refusal.TheVariants as refusal
+use Rattle.ug_kernel.specs.declared.control.Write.{Write}
+use Rattle.ug_kernel.specs.declared.control.Write.TheVariants as write
 use Rattle.ug_kernel.specs.declared.calls.Listing.{Listing}
 use Rattle.ug_kernel.specs.declared.calls.Listing.TheVariants as listing
 use Rattle.ug_kernel.specs.declared.calls.Opened.{Opened}
@@ -18,10 +18,10 @@ use Rattle.ug_kernel.specs.declared.calls.Opened.TheVariants as opened
 use Rattle.ug_kernel.specs.declared.calls.Probe.{Probe}
 use Rattle.ug_kernel.specs.declared.calls.Probe.TheVariants as probe
 use Rattle.ug_kernel.specs.declared.calls.Wrote.{Wrote}
-use Rattle.ug_kernel.specs.Calls.{Call, Names, Open, Read, Ask_alive, Put, Close, Closing, Told, Answer}
+use Rattle.ug_kernel.specs.Calls.{Call, Names, Open, Read, Ask_alive, Put, Close, Closing, ToldAnswer, Answer}
 use Rattle.ug_kernel.specs.Kernel.{Kernel, IsKernel}
 use Rattle.ug_kernel.specs.declared.calls.FailedCall.{FailedCall}
-use Rattle.ug_kernel.specs.Along.{Made, answered, count_calls, Along, failure, failures, AreNumbered, Rises, failure_of}
+use Rattle.ug_kernel.specs.Along.{Made, made_with, count_calls, Along, failure, failures, AreNumbered, Rises, failure_of}
 use Rattle.ug_audit.specs.declared.entry.Entry.{Entry}
 use Rattle.ug_audit.specs.declared.entry.Entry.TheVariants as entry
 use Rattle.ug_audit.specs.declared.entry.Fault.{Fault}
@@ -32,28 +32,28 @@ use Rattle.ug_table.specs.Sweep.{names_of}
 use Rattle.ug_table.specs.Laws.{Stand, wrote_entries}
 use Rattle.ug_table.specs.declared.standing.Standing.{Standing}
 use Rattle.ug_table.specs.declared.standing.Known.{Known}
-use Rattle.ug_types.specs.declared.verdict.Held.{Held}
+use Rattle.ug_kernel.specs.declared.control.Held.{Held}
 use Rattle.ug_table.specs.Done.{control_of}
 use Rattle.ug_table.specs.Bring.{is_to_go, default_due}
 use Rattle.ug_table.specs.PartOrder.{GoInOrder}
 use Rattle.ug_table.specs.Ending.{ending_calls, kept_file}
 
 -- the failed call that an `unsettled` entry tells
-abbrev pub told_by : Fault → List FailedCall
-told_by (fault.Call failed) = failed ∷ []
-told_by fault.Memory = []
+abbrev pub call_told : Fault → List FailedCall
+call_told (fault.Call failed) = failed ∷ []
+call_told fault.Memory = []
 
 -- The failed call that a reply tells: one behind the order's probe, or that probe, which is the
 -- first call of its event.
 abbrev pub told_in_reply : Result (Unit {0}) Refusal → List FailedCall
 told_in_reply (Err (refusal.DeviceFault call count)) = record { call = call; count = count } ∷ []
 told_in_reply (Err (refusal.ProbeFault count)) = record { call = 1; count = count } ∷ []
-told_in_reply answered = []
+told_in_reply made_with = []
 
 abbrev pub failure_in : Entry → List FailedCall
-failure_in (entry.Unsettled name why) = told_by why
-failure_in (entry.UnsettledAll why) = told_by why
-failure_in (entry.Reply answered) = told_in_reply answered
+failure_in (entry.Unsettled name why) = call_told why
+failure_in (entry.UnsettledAll why) = call_told why
+failure_in (entry.Reply made_with) = told_in_reply made_with
 failure_in e = []
 
 -- the failed calls that entries tell, in their order
@@ -137,14 +137,14 @@ EndsAtFailure before (m ∷ ms) =
 -- the last call was a probe that found the device alive, with that value
 abbrev pub FoundAlive : Option Made → Bool → Type 0
 FoundAlive last on =
-    (held : ℕ) × (t : Told Probe) × (last ≡ Some (answered (Ask_alive held) t))
+    (held : ℕ) × (t : ToldAnswer Probe) × (last ≡ Some (made_with (Ask_alive held) t))
     × (t.answer ≡ probe.Alive on)
 
 -- the last call opened that file, of that control
 abbrev pub OpenedFile : Control → Option Made → ℕ → Type 0
 OpenedFile control last file =
-    (name : List ℕ) × (t : Told Opened) × (held : Held)
-    × (last ≡ Some (answered (Open name control) t)) × (t.answer ≡ opened.Token held)
+    (name : List ℕ) × (t : ToldAnswer Opened) × (held : Held)
+    × (last ≡ Some (made_with (Open name control) t)) × (t.answer ≡ opened.Token held)
     × (held.0 ≡ file)
 
 -- the last two calls, the last one first; and the last one again if it probed, where no more than
@@ -164,10 +164,10 @@ IsOnceDue control behind held =
 -- a probe that found the device alive, and that directly behind the opening of its file.
 abbrev pub IsWriteDue : Behind → ℕ → Write → Type 0
 IsWriteDue behind held write.On =
-    (t : Told Probe) × (behind.found ≡ Some (answered (Ask_alive held) t))
+    (t : ToldAnswer Probe) × (behind.found ≡ Some (made_with (Ask_alive held) t))
     × (t.answer ≡ probe.Alive false)
 IsWriteDue behind held write.Off =
-    (t : Told Probe) × (behind.found ≡ Some (answered (Ask_alive held) t))
+    (t : ToldAnswer Probe) × (behind.found ≡ Some (made_with (Ask_alive held) t))
     × (t.answer ≡ probe.Alive true)
 IsWriteDue behind held write.Remove = IsOnceDue Remove behind held
 IsWriteDue behind held write.DefaultOff = IsOnceDue Default behind held
@@ -261,7 +261,7 @@ TellsWrites name (p ∷ ps) es =
 abbrev pub IsLast : List ℕ → Entry → List Entry → Type 0
 IsLast name (entry.Unsettled other why) rest = (other ≡ name) × (rest ≡ [])
 IsLast name (entry.UnsettledAll why) rest = ⊥
-IsLast name (entry.Reply answered) rest = ⊥
+IsLast name (entry.Reply made_with) rest = ⊥
 IsLast name e rest = Unit {0}
 
 abbrev pub EndsUnsettled : List ℕ → List Entry → Type 0
@@ -309,8 +309,8 @@ numbers_given (e ∷ es) = numbers_given es
 -- a call that found the device of a standing gone
 abbrev pub FoundGone : Option Known → Made → Type 0
 FoundGone stands m =
-    (known : Known) × (t : Told Probe) × (stands ≡ Some known)
-    × (m ≡ answered (Ask_alive known.held.0) t) × (t.answer ≡ probe.Gone)
+    (known : Known) × (t : ToldAnswer Probe) × (stands ≡ Some known)
+    × (m ≡ made_with (Ask_alive known.held.0) t) × (t.answer ≡ probe.Gone)
 
 -- the name has no standing, or the first call finds that its device is gone
 abbrev pub IsBoundAnew : Option Known → List Made → Type 0
@@ -324,7 +324,8 @@ known_files (Some known) = open_file known.held.0 Authorized ∷ []
 -- an opening of that file of the name found no memory
 abbrev pub FoundNoRoom : Control → List ℕ → List Made → Type 0
 FoundNoRoom control name calls =
-    (t : Told Opened) × Has calls (answered (Open name control) t) × (t.answer ≡ opened.Memory)
+    (t : ToldAnswer Opened) × Has calls (made_with (Open name control) t)
+    × (t.answer ≡ opened.Memory)
 
 -- The device of a standing is still to be removed, and there was no memory to open its `remove`; or
 -- its default is still to be written, and there was none to open that.
@@ -382,7 +383,7 @@ InParts hub binds (name ∷ names) before after calls ending entries =
 abbrev pub AreClosings : List Held → List Made → Type 0
 AreClosings [] calls = calls ≡ []
 AreClosings (file ∷ files) calls =
-    (shut : Closing) × (rest : List Made) × (calls ≡ answered (Close file.0) shut ∷ rest)
+    (shut : Closing) × (rest : List Made) × (calls ≡ made_with (Close file.0) shut ∷ rest)
     × AreClosings files rest
 
 -- the files that the standings of other names than these hold
@@ -426,9 +427,9 @@ count_listed answer = 0
 -- names that were listed.
 pub record GoesInParts {S J : Type 0} (gives : S → (call : Call) → Answer call → S → Type 0) (s : S)
     (w : State J) (t : S) (v : State J) : Type 0 where
-  pub listed : Told Listing
+  pub listed : ToldAnswer Listing
   pub later : List Made
-  pub along : Along gives s (answered Names listed ∷ later) t
+  pub along : Along gives s (made_with Names listed ∷ later) t
   pub head : List Entry
   pub rest : List Entry
   pub entries : v.entries ≡ w.entries ++ (head ++ rest)
@@ -451,8 +452,8 @@ pub record TellsFaults {S J : Type 0} (gives : S → (call : Call) → Answer ca
     (calls faults : S → ℕ) (s : S) (w : State J) (t : S) (v : State J) : Type 0 where
   pub goes : GoesInParts gives s w t v
   pub exact : failures_told (goes.head ++ goes.rest)
-      ≡ failures (answered Names goes.listed ∷ (goes.shut ++ goes.ending))
-  pub numbered : AreNumbered (calls s) (answered Names goes.listed ∷ goes.later)
+      ≡ failures (made_with Names goes.listed ∷ (goes.shut ++ goes.ending))
+  pub numbered : AreNumbered (calls s) (made_with Names goes.listed ∷ goes.later)
   pub rises : calls s < 2 ^ 64 → Rises (calls s) (faults s) (failures_told (goes.head ++ goes.rest))
 
 -- where a kernel is told at the end of a sweep, one was told at its start; and where that is sound

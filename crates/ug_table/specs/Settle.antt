@@ -18,7 +18,7 @@ use Rattle.ug_audit.specs.declared.entry.Entry.{Entry}
 use Rattle.ug_audit.specs.declared.entry.Entry.TheVariants as entry
 use Rattle.ug_audit.specs.declared.entry.Fault.{Fault}
 use Rattle.ug_audit.specs.declared.entry.Fault.TheVariants as fault
-use Rattle.ug_types.specs.declared.control.Write.{Write}
+use Rattle.ug_kernel.specs.declared.control.Write.{Write}
 use Rattle.ug_table.specs.State.{State, noted, Kept, Answers, Laters, Terms}
 use Rattle.ug_table.specs.Standings.{standing_of, without, did_default, marked, with_standing, settled_standing}
 use Rattle.ug_table.specs.Parent.{binding_for, judged_bound, bound_hash}

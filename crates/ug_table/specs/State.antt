@@ -1,6 +1,6 @@
 -- What an event works on.
 use Rattle.std.specs.Prelude.{ℕ, Bool, not, List, ◌∷◌, [], ◌++◌, Option}
-use Rattle.ug_types.specs.declared.control.Write.{Write}
+use Rattle.ug_kernel.specs.declared.control.Write.{Write}
 use Rattle.ug_types.specs.declared.record.Judged.{Judged}
 use Rattle.ug_types.specs.declared.verdict.Target.{Target}
 use Rattle.ug_types.specs.declared.verdict.Cause.{Cause}

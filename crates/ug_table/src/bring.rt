@@ -1,9 +1,9 @@
 // Brings a device to its verdict.
 ghost use Rattle.std.specs.Prelude.{◌≡◌, ◌≤◌, ◌+◌, Some, None};
 ghost use Rattle.ug_types.specs.Names.{parent_of};
-ghost use Rattle.ug_types.specs.declared.control.Write.{Write};
-ghost use Rattle.ug_types.specs.declared.control.Control.TheVariants.{Default};
-ghost use Rattle.ug_types.specs.declared.control.Write.TheVariants.{Remove};
+ghost use Rattle.ug_kernel.specs.declared.control.Write.{Write};
+ghost use Rattle.ug_kernel.specs.declared.control.Control.TheVariants.{Default};
+ghost use Rattle.ug_kernel.specs.declared.control.Write.TheVariants.{Remove};
 ghost use Rattle.ug_kernel.specs.Tree.{Runs};
 ghost use Rattle.ug_audit.specs.Journal.{Notes, noted_in};
 ghost use Rattle.ug_table.specs.declared.standing.Settled.TheVariants.{Stands};
@@ -13,9 +13,9 @@ ghost use Rattle.ug_table.specs.Bring.{wants, write_of, is_reject, is_to_go, val
 use crate::standing::{Known, Settled};
 use std::alloc::Global;
 use ug_audit::{Auditor, Entry, Journal};
-use ug_kernel::{Sysfs, Write, Wrote};
+use ug_kernel::{Held, Sysfs, Write, Wrote};
 use ug_node::{RemoveHold, failed_call, hold_default, hold_remove, put};
-use ug_types::{Held, NodeName, Target};
+use ug_types::{NodeName, Target};
 
 /// Whether a verdict wants the device to be authorised.
 pub fn is_wanted(verdict: Target) -> bool

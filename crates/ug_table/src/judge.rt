@@ -32,5 +32,6 @@ pub trait Judge {
     ) -> (Target, Cause)
         ensures answer { result
             ≡ answer (meaning self.old) dev.now controller present on allowed.now.standings }
-        ensures later { meaning self.new ≡ later (meaning self.old) dev.now controller present on allowed.now.standings };
+        ensures later { meaning self.new
+            ≡ later (meaning self.old) dev.now controller present on allowed.now.standings };
 }

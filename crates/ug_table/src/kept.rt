@@ -43,7 +43,8 @@ impl Model for Standings {
 
     ghost view = { λ s. store s.by_name.entries s.place };
 
-    ghost invariant = { λ s. Agree s.by_name s.by_number s.place s.retry.items (vec_capacity s.retry) };
+    ghost invariant = { λ s.
+        Agree s.by_name s.by_number s.place s.retry.items (vec_capacity s.retry) };
 }
 
 impl Standings {

@@ -22,9 +22,9 @@ use crate::standing::{Known, Settled, Standing};
 use crate::table::{Table, known_of};
 use std::alloc::Global;
 use ug_audit::{Auditor, Entry, Fault, Journal};
-use ug_kernel::{Probe, Sysfs, Write};
+use ug_kernel::{Held, Probe, Sysfs, Write};
 use ug_node::{Binding, Bound, failed_call, reprobe};
-use ug_types::{Held, Judged, NodeName, Text};
+use ug_types::{Judged, NodeName, Text};
 
 // Whether the name is a root hub's.
 fn is_controller(name: &NodeName) -> bool

@@ -1,7 +1,7 @@
 // How a device stands.
 use ug_audit::Fault;
-use ug_kernel::FailedCall;
-use ug_types::{Cause, Held, Judged, NodeName, Target, Text};
+use ug_kernel::{FailedCall, Held};
+use ug_types::{Cause, Judged, NodeName, Target, Text};
 
 /// A device that was judged, with the file by which it is known.
 #[derive(Drop)]

@@ -318,7 +318,8 @@ impl Table {
 
 // Ten entries for each name, and some for the event.
 fn room_for(standings: &Standings, names: &[NodeName]) -> usize
-    ensures { min (2 ^ 64 - 1) (10 * (length standings.now.items + length names.now) + 65) ≤ result }
+    ensures { min (2 ^ 64 - 1) (10 * (length standings.now.items + length names.now) + 65)
+        ≤ result }
 {
     let count = standings.count() as u128 + names.len() as u128;
     let room = 10 * count + 65;

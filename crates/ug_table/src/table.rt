@@ -33,9 +33,14 @@ impl Model for Table {
 
     ghost Value = { TableState };
 
-    ghost view = { λ t. record { standings = t.standings.items; next = t.next; listed = t.listed } };
+    ghost view = { λ t. record {
+      standings = t.standings.items;
+      next = t.next;
+      listed = t.listed;
+    } };
 
-    ghost invariant = { λ t. StandInOrder t.next t.standings.items × (length t.standings.items ≤ vec_capacity t.names) };
+    ghost invariant = { λ t. StandInOrder t.next t.standings.items
+        × (length t.standings.items ≤ vec_capacity t.names) };
 }
 
 impl Table {

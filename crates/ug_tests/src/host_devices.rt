@@ -2,8 +2,8 @@
 use crate::folders::{make_folder, put, remove_folder};
 use std::alloc::Global;
 use ug_host::SysfsFolder;
-use ug_kernel::{Listing, Opened, Probe, ReadOut, Sysfs, Wrote};
-use ug_types::{Attr, Control, Held, NodeName, Write};
+use ug_kernel::{Attr, Control, Held, Listing, Opened, Probe, ReadOut, Sysfs, Write, Wrote};
+use ug_types::NodeName;
 
 type Folder = SysfsFolder<HostRuntime>;
 

@@ -6,8 +6,8 @@ use std::os::unix::fs::{MetadataExt, symlink};
 use std::time::Instant;
 use ug_conf::{ConfFiles, FileRead, FolderRead};
 use ug_host::{ConfFolder, RuleFile, SocketWaiter, SystemClock};
+use ug_links::{Clock, Ready, Waiter, Woken};
 use ug_store::{DiskAnswer, Loaded, RuleDisk};
-use ug_types::{Clock, Ready, Waiter, Woken};
 
 type Disk = RuleFile<HostRuntime>;
 

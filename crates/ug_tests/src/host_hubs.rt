@@ -2,8 +2,8 @@
 use crate::folders::{make_folder, put, remove_folder};
 use std::alloc::Global;
 use ug_host::SysfsFolder;
-use ug_kernel::{Opened, ReadOut, Sysfs};
-use ug_types::{Attr, Control, Held, NodeName};
+use ug_kernel::{Attr, Control, Held, Opened, ReadOut, Sysfs};
+use ug_types::NodeName;
 
 type Folder = SysfsFolder<HostRuntime>;
 

@@ -2,8 +2,7 @@
 use crate::folders::{make_folder, remove_folder};
 use crate::host_sockets::{Sockets, Wait, listens_for, open};
 use std::os::unix::net::UnixStream;
-use ug_links::{Accepted, Links};
-use ug_types::{LinkId, Ready, Waiter, Woken};
+use ug_links::{Accepted, LinkId, Links, Ready, Waiter, Woken};
 
 /// Who has a socket and where, and how many sessions each can have while the others have theirs.
 const NAMES: [(&str, &str, usize); 5] = [

@@ -5,8 +5,10 @@ use std::os::unix::fs::{FileTypeExt, MetadataExt};
 use std::os::unix::net::{UnixListener, UnixStream};
 use std::time::Instant;
 use ug_host::{Reached, SocketFolder, SocketLink, SocketWaiter};
-use ug_links::{Accepted, LinkRead, LinkWrote, Links, Listening};
-use ug_types::{Dialled, Link, LinkId, Principal, Put, Ready, Taken, Waiter, Woken};
+use ug_links::{
+    Accepted, Dialled, Link, LinkId, LinkRead, LinkWrote, Links, Listening, Ready, Waiter, Woken,
+};
+use ug_types::{Principal, Put, Taken};
 
 pub type Sockets = SocketFolder<HostRuntime>;
 

@@ -7,9 +7,9 @@ use std::alloc::Global;
 use std::cell::RefCell;
 use std::rc::Rc;
 use ug_audit::{Auditor, Noted, Panel};
-use ug_kernel::{Listing, Opened, Probe, ReadOut, Sysfs, Wrote};
+use ug_kernel::{Attr, Control, Held, Listing, Opened, Probe, ReadOut, Sysfs, Write, Wrote};
 use ug_sysfs::SimKernel;
-use ug_types::{Attr, Control, Held, NodeName, Write};
+use ug_types::NodeName;
 
 // Appends a line to the list. One that finds no memory is missing there.
 fn append(list: &Rc<RefCell<Vec<u8>>>, line: &[u8]) {

@@ -2,8 +2,7 @@
 use crate::turns::{closed, links, read_item, sent, serves, was_sent};
 use std::alloc::Global;
 use std::collections::VecDeque;
-use ug_links::{Arrival, MemLinks, Peer, ReadItem, Script, WriteItem};
-use ug_types::LinkId;
+use ug_links::{Arrival, LinkId, MemLinks, Peer, ReadItem, Script, WriteItem};
 
 // What root asks, and is told.
 const ORDER: [&[u8]; 2] = [b"allow-dev", b"ice 99\n"];

@@ -8,10 +8,10 @@ use std::collections::VecDeque;
 use ug_audit::Panel;
 use ug_conf::{MemFile, MemFiles, MemFolder};
 use ug_kernel::Sysfs;
-use ug_links::{Arrival, ListenItem, MemLinks, Script};
+use ug_links::{Arrival, ListClock, ListWaiter, ListenItem, MemLinks, Script};
 use ug_serve::run_daemon;
 use ug_store::MemDisk;
-use ug_types::{List, ListClock, ListWaiter, Text};
+use ug_types::{List, Text};
 
 pub const USUAL: &[u8] = b"/etc/usbguard/usbguard-daemon.conf";
 

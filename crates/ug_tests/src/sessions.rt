@@ -3,10 +3,11 @@ use std::alloc::Global;
 use std::collections::VecDeque;
 use ug_acl::{Acl, Grants, parse_access};
 use ug_links::{
-    Arrival, LinkStep, LinkWrote, Links, Listening, MemLinks, Peer, ReadItem, Script, WriteItem,
+    Arrival, LinkId, LinkStep, LinkWrote, Links, Listening, MemLinks, Peer, ReadItem, Ready,
+    Script, WriteItem,
 };
 use ug_sessions::{Server, Turn};
-use ug_types::{LinkId, List, Principal, Ready, Section, Text};
+use ug_types::{List, Principal, Section, Text};
 
 fn peer(alloc: Global) -> Option<Peer> {
     let mut reads = VecDeque::new(alloc);

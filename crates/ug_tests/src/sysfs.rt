@@ -1,9 +1,9 @@
 // A hub and a device come, are opened and written, and go.
 use crate::devices::{HUB, KEY, device, plug};
 use std::alloc::Global;
-use ug_kernel::{Attr, Control, Kind, Listing, Opened, Probe, ReadOut, Sysfs, Write, Wrote};
+use ug_kernel::{Attr, Control, Held, Kind, Listing, Opened, Probe, ReadOut, Sysfs, Write, Wrote};
 use ug_sysfs::{Move, SimKernel};
-use ug_types::{Held, NodeName};
+use ug_types::NodeName;
 
 fn plan(kernel: &mut SimKernel, call: u64, after: bool, action: Move) -> Option<()> {
     kernel.schedule(call, after, action).ok()

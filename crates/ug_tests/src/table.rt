@@ -20,7 +20,8 @@ impl Judge for Rejecting {
 
     ghost meaning = { λ judge. judge };
 
-    ghost answer = { λ judge dev controller present on ss. if controller then (Allow, Implicit) else (Reject, Implicit) };
+    ghost answer = { λ judge dev controller present on ss. if controller then (Allow, Implicit) else
+        (Reject, Implicit) };
 
     ghost later = { λ judge dev controller present on ss. judge };
 

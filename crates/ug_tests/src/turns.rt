@@ -9,12 +9,15 @@ use ug_acl::{Acl, parse_access};
 use ug_audit::Panel;
 use ug_conf::default_settings;
 use ug_core::Daemon;
-use ug_links::{Arrival, LinkStep, LinkWrote, Links, Listening, MemLinks, Peer, ReadItem, Script};
+use ug_links::{
+    Arrival, LinkId, LinkStep, LinkWrote, Links, ListClock, ListWaiter, Listening, MemLinks, Peer,
+    ReadItem, Script,
+};
 use ug_serve::{TurnEnd, serve_turn};
 use ug_sessions::Server;
 use ug_store::MemDisk;
 use ug_sysfs::SimKernel;
-use ug_types::{LinkId, List, ListClock, ListWaiter, Moment, Principal, Text};
+use ug_types::{List, Moment, Principal, Text};
 
 /// What a read gives: that piece, or a wait.
 pub fn read_item(alloc: Global, piece: Option<&[u8]>) -> Option<ReadItem> {

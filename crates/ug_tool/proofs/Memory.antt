@@ -2,12 +2,12 @@
 use Rattle.std.proofs.Common.{◌≡◌, inl, inr, ℕ, List, [], ◌++◌, Option, Some, None, refl, ap, sym, arith, ◌∙◌}
 use Rattle.std.proofs.KnownBytes.{Keeps-refl}
 use Rattle.std.specs.Io.KnownBytes.{Appends}
-use Rattle.ug_console.specs.Fold.{Outcome, no_memory}
-use Rattle.ug_console.specs.Statuses.{Answers, FirstLines, OfNoMemory}
-use Rattle.ug_console.specs.WholeInputs.{AnswersWhole}
-use Rattle.ug_console.specs.declared.results.Ended.{Ended}
-use Rattle.ug_console.specs.declared.results.Ended.TheVariants.{Memory, WriteFault}
-use Rattle.ug_types.specs.declared.link_call.LinkCall.{LinkCall}
+use Rattle.ug_command_io.specs.Fold.{LineOutcome, no_memory}
+use Rattle.ug_command_io.specs.Statuses.{AnswersLines, FirstLines, OfNoMemory}
+use Rattle.ug_command_io.specs.WholeInputs.{AnswersWhole}
+use Rattle.ug_command_io.specs.declared.results.Ended.{Ended}
+use Rattle.ug_command_io.specs.declared.results.Ended.TheVariants.{Memory, WriteFault}
+use Rattle.ug_links.specs.declared.link_call.LinkCall.{LinkCall}
 use Rattle.ug_client.specs.Calls.{Unprinted}
 use Rattle.ug_client.specs.declared.asked.Asked.TheVariants as asked
 use Rattle.ug_client.proofs.Calls.{tells_nothing}
@@ -36,12 +36,12 @@ appends_known : (base bs : List ℕ) (after : Option (List ℕ)) → Appends (So
 appends_known base bs None a = absurd a
 appends_known base bs (Some ys) a = ap Some a
 
-nothing_played : {M : Type 0} (step : M → List ℕ → Outcome M) (m : M) (all : List ℕ) → FirstLines step m all [] m
+nothing_played : {M : Type 0} (step : M → List ℕ → LineOutcome M) (m : M) (all : List ℕ) → FirstLines step m all [] m
 nothing_played step m all = record { lines = []; others = _; count = 0; front = refl; played = refl }
 
 -- of a script
-pub lines_unread : {M : Type 0} (step : M → List ℕ → Outcome M) (closing : M → Option (List ℕ)) (m : M) (all base : List ℕ) (held : Option (List ℕ)) (status : ℕ)
-    → IsOutOfMemory (Some base) held status → Answers step closing m all base (Some all) held m status
+pub lines_unread : {M : Type 0} (step : M → List ℕ → LineOutcome M) (closing : M → Option (List ℕ)) (m : M) (all base : List ℕ) (held : Option (List ℕ)) (status : ℕ)
+    → IsOutOfMemory (Some base) held status → AnswersLines step closing m all base (Some all) held m status
 lines_unread step closing m all base held status (inl (is, appended)) = record {
   done = λ e. absurd (omega (arith, e, is));
   bad = λ e. absurd (omega (arith, e, is));

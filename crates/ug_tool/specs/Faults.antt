@@ -3,7 +3,7 @@ use Rattle.std.specs.Prelude.{◌≡◌, ◌⊎◌, ℕ, List, Option, codes}
 use Rattle.std.specs.Io.KnownBytes.{Appends}
 use Rattle.ug_types.specs.Ends.{Puts}
 use Rattle.ug_types.specs.declared.sink.Put.TheVariants.{Failed}
-use Rattle.ug_console.specs.Fold.{no_memory}
+use Rattle.ug_command_io.specs.Fold.{no_memory}
 
 unfoldable pub bad_words : List ℕ
 bad_words = codes "bad words\n"

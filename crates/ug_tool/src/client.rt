@@ -3,18 +3,19 @@ ghost use Rattle.std.specs.Prelude.{◌≡◌, ◌≢◌, ◌≤◌};
 ghost use Rattle.ug_types.specs.Ends.{Rose};
 ghost use Rattle.ug_proto.specs.declared.request.Request.TheVariants as request;
 ghost use Rattle.ug_client.specs.Asking.{request_line};
-ghost use Rattle.ug_tool.specs.Client.{AsksAndEnds, Ends, WatchesAndEnds};
+ghost use Rattle.ug_tool.specs.Client.{AsksAndEnds, EndsAsked, WatchesAndEnds};
 
 use crate::faults::end_with;
 use std::alloc::Global;
 use ug_client::{Asked, ask, watch};
+use ug_links::Link;
 use ug_proto::Request;
-use ug_types::{Link, Sink};
+use ug_types::Sink;
 
 /// The status, and the fault line that belongs to it.
-#[tactic(auto, unfolding(crate::specs::Client::link_fault, ug_console::specs::Fold::no_memory))]
+#[tactic(auto, unfolding(crate::specs::Client::link_fault, ug_command_io::specs::Fold::no_memory))]
 fn end<K: Sink>(out: &mut K, asked: Asked) -> u8
-    ensures ends { Ends (K.held out.old) (K.held out.new) asked result }
+    ensures ends { EndsAsked (K.held out.old) (K.held out.new) asked result }
     ensures not_read { result ≢ 4 }
     ensures counted { K.faults out.old ≤ K.faults out.new }
     ensures written { asked ≢ Asked.WriteFault → result ≡ 5
@@ -38,7 +39,8 @@ pub fn ask_daemon<L: Link, K: Sink>(
     request: &Request,
     out: &mut K,
 ) -> u8
-    ensures asks { AsksAndEnds path.now (request_line request.now) (L.told link.old) (L.told link.new)
+    ensures asks { AsksAndEnds path.now (request_line request.now) (L.told link.old)
+        (L.told link.new)
         (L.sent link.old) (L.sent link.new)
         (L.left link.old) (L.left link.new) (K.held out.old) (K.held out.new)
         (L.faults link.old) (L.faults link.new) result }
@@ -57,7 +59,8 @@ pub fn watch_daemon<L: Link, K: Sink>(
     most: u64,
     out: &mut K,
 ) -> u8
-    ensures watches { WatchesAndEnds path.now (request_line request.Watch) most (L.told link.old) (L.told link.new)
+    ensures watches { WatchesAndEnds path.now (request_line request.Watch) most (L.told link.old)
+        (L.told link.new)
         (L.sent link.old) (L.sent link.new)
         (L.left link.old) (L.left link.new) (K.held out.old) (K.held out.new)
         (L.faults link.old) (L.faults link.new) result }

@@ -2,10 +2,10 @@
 ghost use Rattle.std.specs.Prelude.{◌≡◌, ◌≢◌, ◌++◌, [], ℕ, Bool, List, Option, Some, None, true, false};
 ghost use Rattle.ug_types.specs.Ends.{Rose};
 ghost use Rattle.ug_types.specs.Principals.{Named};
-ghost use Rattle.ug_console.specs.Fold.{of_first};
-ghost use Rattle.ug_console.specs.Statuses.{status_of};
-ghost use Rattle.ug_console.specs.Statuses as lines;
-ghost use Rattle.ug_console.specs.declared.results.Ended.{Ended};
+ghost use Rattle.ug_command_io.specs.Fold.{of_first};
+ghost use Rattle.ug_command_io.specs.Statuses.{status_of};
+ghost use Rattle.ug_command_io.specs.Statuses as lines;
+ghost use Rattle.ug_command_io.specs.declared.results.Ended.{Ended};
 ghost use Rattle.ug_sysfs.specs.World.{World};
 ghost use Rattle.ug_lines.specs.Lines.{lines_of};
 ghost use Rattle.ug_script.specs.Against.{RefusesScript};
@@ -35,14 +35,16 @@ use crate::replay::replay_over;
 use std::alloc::Global;
 use ug_arguments::Command;
 use ug_commands::{check_rules, lint_rules, list_descriptors, make_script};
+use ug_links::Link;
 use ug_script::{generate_policy, summarize};
 use ug_sysfs::SimKernel;
-use ug_types::{Link, Put, Sink, Source};
+use ug_types::{Put, Sink, Source};
 use ug_users::add_user;
 
 /// Writes a script of random events.
 fn write_script<K: Sink>(events: u32, start: u32, out: &mut K) -> u8
-    ensures ends { EndsIn (generated_script events start) 0 (K.held out.old) (K.held out.new) result }
+    ensures ends { EndsIn (generated_script events start) 0 (K.held out.old)
+        (K.held out.new) result }
     ensures ended { (ended : Ended) × (result ≡ status_of ended) }
     ensures not_read { result ≢ 4 }
     ensures cause { result ≡ 5 → Rose (K.faults out.old) (K.faults out.new) }
@@ -61,13 +63,20 @@ pub fn carry_out<S: Source, K: Sink, L: Link>(
     out: &mut K,
     link: &mut L,
 ) -> u8
-    ensures replayed { command.now ≡ commands.Replay → (all base : List ℕ) → S.left input.old ≡ Some all → K.held out.old ≡ Some base
-        → (script : Option Script) × (world : World) × lines.Answers script_step (of_first script_end) (None, new_world) all base (S.left input.new) (K.held out.new) (script, world) result }
-    ensures summarized { command.now ≡ commands.Summarize → (all base : List ℕ) → S.left input.old ≡ Some all → K.held out.old ≡ Some base
+    ensures replayed { command.now ≡ commands.Replay → (all base : List ℕ)
+        → S.left input.old ≡ Some all → K.held out.old ≡ Some base
+        → (script : Option Script)
+        × (world : World) × lines.AnswersLines script_step (of_first script_end) (
+          None,
+          new_world,
+        ) all base (S.left input.new) (K.held out.new) (script, world) result }
+    ensures summarized { command.now ≡ commands.Summarize → (all base : List ℕ)
+        → S.left input.old ≡ Some all → K.held out.old ≡ Some base
         → (summary : Summary) × (world : World)
-        × lines.Answers summary_step summary_end ((None, no_totals), new_world) all base
+        × lines.AnswersLines summary_step summary_end ((None, no_totals), new_world) all base
         (S.left input.new) (K.held out.new) (summary, world) result }
-    ensures summary { command.now ≡ commands.Summarize → (all base : List ℕ) → S.left input.old ≡ Some all → K.held out.old ≡ Some base
+    ensures summary { command.now ≡ commands.Summarize → (all base : List ℕ)
+        → S.left input.old ≡ Some all → K.held out.old ≡ Some base
         → TellsSummary new_world all base (K.held out.new) result }
     ensures why { command.now ≡ commands.Replay → (all : List ℕ) → S.left input.old ≡ Some all
         → result ≡ 2 → RefusesScript new_world (lines_of all) }
@@ -83,17 +92,19 @@ pub fn carry_out<S: Source, K: Sink, L: Link>(
         → EndsIn (generated_script events start) 0 (K.held out.old) (K.held out.new) result }
     ensures unread { (events start : ℕ) → command.now ≡ commands.MakeScript events start
         → S.left input.new ≡ S.left input.old }
-    ensures listed { command.now ≡ commands.ReadDescriptor → (all base : List ℕ) → S.left input.old ≡ Some all → K.held out.old ≡ Some base
-        → listing.Answers all base (S.left input.new) (K.held out.new) result }
-    ensures checked { command.now ≡ commands.CheckRules → (all base : List ℕ) → S.left input.old ≡ Some all → K.held out.old ≡ Some base
-        → checking.Answers all base (S.left input.new) (K.held out.new) result }
+    ensures listed { command.now ≡ commands.ReadDescriptor → (all base : List ℕ)
+        → S.left input.old ≡ Some all → K.held out.old ≡ Some base
+        → listing.AnswersListing all base (S.left input.new) (K.held out.new) result }
+    ensures checked { command.now ≡ commands.CheckRules → (all base : List ℕ)
+        → S.left input.old ≡ Some all → K.held out.old ≡ Some base
+        → checking.AnswersCheck all base (S.left input.new) (K.held out.new) result }
     ensures linted { (prune : Bool) → command.now ≡ commands.LintRules prune
         → (all base : List ℕ) → S.left input.old ≡ Some all → K.held out.old ≡ Some base
-        → linting.Answers prune all base (S.left input.new) (K.held out.new) result }
+        → linting.AnswersLint prune all base (S.left input.new) (K.held out.new) result }
     ensures generated { command.now ≡ commands.GeneratePolicy → (all base : List ℕ)
         → S.left input.old ≡ Some all → K.held out.old ≡ Some base
         → (script : Option Script) × (world : World)
-        × lines.Answers generate_step generate_end (None, new_world) all base
+        × lines.AnswersLines generate_step generate_end (None, new_world) all base
         (S.left input.new) (K.held out.new) (script, world) result }
     ensures policy { command.now ≡ commands.GeneratePolicy → (all base : List ℕ)
         → S.left input.old ≡ Some all → K.held out.old ≡ Some base → result ≡ 0
@@ -104,20 +115,22 @@ pub fn carry_out<S: Source, K: Sink, L: Link>(
         → TellsFaultAlone base (K.held out.new) result }
     ensures added { (name : Named) (asked : Asked) → command.now ≡ commands.AddUser name asked
         → (all base : List ℕ) → S.left input.old ≡ Some all → K.held out.old ≡ Some base
-        → adding.Answers asked all base (S.left input.new) (K.held out.new) result }
-    ensures asked { (socket : List ℕ) (request : Request) → command.now ≡ commands.Ask socket request
+        → adding.AnswersAdding asked all base (S.left input.new) (K.held out.new) result }
+    ensures asked { (socket : List ℕ) (request : Request)
+        → command.now ≡ commands.Ask socket request
         → AsksAndEnds socket (request_line request) (L.told link.old) (L.told link.new)
         (L.sent link.old) (L.sent link.new) (L.left link.old) (L.left link.new)
         (K.held out.old) (K.held out.new) (L.faults link.old) (L.faults link.new) result }
     ensures watched { (socket : List ℕ) (most : ℕ) → command.now ≡ commands.Watch socket most
-        → WatchesAndEnds socket (request_line request.Watch) most (L.told link.old) (L.told link.new)
+        → WatchesAndEnds socket (request_line request.Watch) most (L.told link.old)
+        (L.told link.new)
         (L.sent link.old) (L.sent link.new) (L.left link.old) (L.left link.new)
         (K.held out.old) (K.held out.new) (L.faults link.old) (L.faults link.new) result }
     ensures ended { gives_ended command.now ≡ true → (ended : Ended) × (result ≡ status_of ended) }
     ensures checked_ended { command.now ≡ commands.CheckRules
-        → (ended : Ended) × (result ≡ checking.status_of ended) }
+        → (ended : Ended) × (result ≡ checking.check_status ended) }
     ensures linted_ended { (prune : Bool) → command.now ≡ commands.LintRules prune
-        → (ended : Ended) × (result ≡ checking.status_of ended) }
+        → (ended : Ended) × (result ≡ checking.check_status ended) }
     ensures read { result ≡ 4 → Rose (S.faults input.old) (S.faults input.new) }
     ensures written { result ≡ 5 → Rose (K.faults out.old) (K.faults out.new) }
     ensures input { asks_daemon command.now ≡ true → S.left input.new ≡ S.left input.old }

@@ -21,7 +21,7 @@ pub fn end_with<K: Sink>(out: &mut K, line: &[u8], status: u8) -> u8
 }
 
 /// Ends where the words weren't read.
-#[tactic(auto, unfolding(crate::specs::Faults::bad_words, ug_console::specs::Fold::no_memory))]
+#[tactic(auto, unfolding(crate::specs::Faults::bad_words, ug_command_io::specs::Fold::no_memory))]
 pub fn refuse<K: Sink>(out: &mut K, fault: WordsFault) -> u8
     ensures bad { fault ≡ WordsFault.Bad → IsRefused (K.held out.old) (K.held out.new) result }
     ensures memory { fault ≡ WordsFault.Memory

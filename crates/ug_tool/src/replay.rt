@@ -1,9 +1,9 @@
 // The command `replay`.
 ghost use Rattle.std.specs.Prelude.{◌≡◌, ◌⊎◌, ℕ, Bool, true, false, IfErr, IfOk, List, Option, Some, None, map};
 ghost use Rattle.ug_types.specs.Ends.{Rose};
-ghost use Rattle.ug_console.specs.Fold.{of_first};
-ghost use Rattle.ug_console.specs.Statuses.{Answers, status_of};
-ghost use Rattle.ug_console.specs.declared.results.Ended.{Ended};
+ghost use Rattle.ug_command_io.specs.Fold.{of_first};
+ghost use Rattle.ug_command_io.specs.Statuses.{AnswersLines, status_of};
+ghost use Rattle.ug_command_io.specs.declared.results.Ended.{Ended};
 ghost use Rattle.ug_arguments.specs.Commands.{command_in};
 ghost use Rattle.ug_arguments.specs.declared.command.Command.TheVariants as command;
 ghost use Rattle.ug_lines.specs.Lines.{lines_of};
@@ -23,7 +23,7 @@ ghost use Rattle.ug_tool.specs.Tool.{replay_of};
 use crate::faults::refuse;
 use std::alloc::Global;
 use ug_arguments::{Command, WordsFault, read_command};
-use ug_console::run;
+use ug_command_io::run;
 use ug_script::{Interpreter, summarize};
 use ug_sysfs::SimKernel;
 use ug_types::{Sink, Source};
@@ -36,8 +36,12 @@ pub fn replay_over<S: Source, K: Sink>(
     kernel: &mut SimKernel,
 ) -> u8
     requires { kernel.old ≡ new_world }
-    ensures replayed { (all base : List ℕ) → S.left input.old ≡ Some all → K.held out.old ≡ Some base
-        → (script : Option Script) × Answers script_step (of_first script_end) (None, new_world) all base (S.left input.new) (K.held out.new) (script, kernel.new) result }
+    ensures replayed { (all base : List ℕ) → S.left input.old ≡ Some all
+        → K.held out.old ≡ Some base
+        → (script : Option Script) × AnswersLines script_step (of_first script_end) (
+          None,
+          new_world,
+        ) all base (S.left input.new) (K.held out.new) (script, kernel.new) result }
     ensures why { (all : List ℕ) → S.left input.old ≡ Some all → result ≡ 2
         → RefusesScript new_world (lines_of all) }
     ensures too_long { (all base : List ℕ)
@@ -62,11 +66,20 @@ fn replay_or_summarize<S: Source, K: Sink>(
     kernel: &mut SimKernel,
 ) -> u8
     requires { kernel.old ≡ new_world }
-    ensures replayed { summary ≡ false → (all base : List ℕ) → S.left input.old ≡ Some all → K.held out.old ≡ Some base
-        → (script : Option Script) × Answers script_step (of_first script_end) (None, new_world) all base (S.left input.new) (K.held out.new) (script, kernel.new) result }
-    ensures summarized { summary ≡ true → (all base : List ℕ) → S.left input.old ≡ Some all → K.held out.old ≡ Some base
-        → (numbers : Summary) × Answers summary_step summary_end ((None, no_totals), new_world) all base (S.left input.new) (K.held out.new) (numbers, kernel.new) result }
-    ensures summary { summary ≡ true → (all base : List ℕ) → S.left input.old ≡ Some all → K.held out.old ≡ Some base
+    ensures replayed { summary ≡ false → (all base : List ℕ) → S.left input.old ≡ Some all
+        → K.held out.old ≡ Some base
+        → (script : Option Script) × AnswersLines script_step (of_first script_end) (
+          None,
+          new_world,
+        ) all base (S.left input.new) (K.held out.new) (script, kernel.new) result }
+    ensures summarized { summary ≡ true → (all base : List ℕ) → S.left input.old ≡ Some all
+        → K.held out.old ≡ Some base
+        → (numbers : Summary) × AnswersLines summary_step summary_end (
+          (None, no_totals),
+          new_world,
+        ) all base (S.left input.new) (K.held out.new) (numbers, kernel.new) result }
+    ensures summary { summary ≡ true → (all base : List ℕ) → S.left input.old ≡ Some all
+        → K.held out.old ≡ Some base
         → TellsSummary new_world all base (K.held out.new) result }
     ensures why { (all : List ℕ) → S.left input.old ≡ Some all → result ≡ 2
         → RefusesScript new_world (lines_of all) }
@@ -90,7 +103,8 @@ fn read_replay(alloc: Global, words: &[&str]) -> Result<bool, WordsFault>
     ensures ok { IfOk result
         (λ summary. command_in (map (λ word. word.now) words.now) ≡ Some (replay_of summary)) }
     ensures bad { IfErr result (λ fault. fault ≡ WordsFault.Bad
-        → (summary : Bool) → ¬ (command_in (map (λ word. word.now) words.now) ≡ Some (replay_of summary))) }
+        → (summary : Bool)
+        → ¬ (command_in (map (λ word. word.now) words.now) ≡ Some (replay_of summary))) }
 {
     match read_command(alloc, words)? {
         Command::Replay => Ok(false),
@@ -119,14 +133,20 @@ pub fn run_replay<S: Source, K: Sink>(
     kernel: &mut SimKernel,
 ) -> u8
     requires { kernel.old ≡ new_world }
-    ensures refused { ((summary : Bool) → ¬ (command_in (map (λ word. word.now) words.now) ≡ Some (replay_of summary)))
-        → (IsRefused (K.held out.old) (K.held out.new) result ⊎ IsOutOfMemory (K.held out.old) (K.held out.new) result)
+    ensures refused { ((summary : Bool)
+        → ¬ (command_in (map (λ word. word.now) words.now) ≡ Some (replay_of summary)))
+        → (IsRefused (K.held out.old) (K.held out.new) result
+        ⊎ IsOutOfMemory (K.held out.old) (K.held out.new) result)
         × (kernel.new ≡ kernel.old) × (S.left input.new ≡ S.left input.old) }
-    ensures replayed { command_in (map (λ word. word.now) words.now) ≡ Some command.Replay → (all base : List ℕ) → S.left input.old ≡ Some all → K.held out.old ≡ Some base
-        → (script : Option Script) × Answers script_step (of_first script_end) (None, new_world) all base (S.left input.new) (K.held out.new) (script, kernel.new) result }
+    ensures replayed { command_in (map (λ word. word.now) words.now) ≡ Some command.Replay
+        → (all base : List ℕ) → S.left input.old ≡ Some all → K.held out.old ≡ Some base
+        → (script : Option Script) × AnswersLines script_step (of_first script_end) (
+          None,
+          new_world,
+        ) all base (S.left input.new) (K.held out.new) (script, kernel.new) result }
     ensures summarized { command_in (map (λ word. word.now) words.now) ≡ Some command.Summarize
         → (all base : List ℕ) → S.left input.old ≡ Some all → K.held out.old ≡ Some base
-        → (numbers : Summary) × Answers summary_step summary_end ((None, no_totals), new_world)
+        → (numbers : Summary) × AnswersLines summary_step summary_end ((None, no_totals), new_world)
         all base (S.left input.new) (K.held out.new) (numbers, kernel.new) result }
     ensures summary { command_in (map (λ word. word.now) words.now) ≡ Some command.Summarize
         → (all base : List ℕ) → S.left input.old ≡ Some all → K.held out.old ≡ Some base
@@ -145,7 +165,8 @@ pub fn run_replay<S: Source, K: Sink>(
     ensures carries { command_in (map (λ word. word.now) words.now) ≡ Some command.Replay
         → (all base : List ℕ) → S.left input.old ≡ Some all → K.held out.old ≡ Some base
         → result ≡ 0 → CarriesThrough new_world (lines_of all) }
-    ensures ended { (summary : Bool) → command_in (map (λ word. word.now) words.now) ≡ Some (replay_of summary)
+    ensures ended { (summary : Bool)
+        → command_in (map (λ word. word.now) words.now) ≡ Some (replay_of summary)
         → (ended : Ended) × (result ≡ status_of ended) }
     ensures read { result ≡ 4 → Rose (S.faults input.old) (S.faults input.new) }
     ensures written { result ≡ 5 → Rose (K.faults out.old) (K.faults out.new) }

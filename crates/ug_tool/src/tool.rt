@@ -2,10 +2,10 @@
 ghost use Rattle.std.specs.Prelude.{◌≡◌, ◌⊎◌, ◌++◌, [], ℕ, Bool, List, Option, Some, None, map, true, false};
 ghost use Rattle.ug_types.specs.Ends.{Rose};
 ghost use Rattle.ug_types.specs.Principals.{Named};
-ghost use Rattle.ug_console.specs.Fold.{of_first};
-ghost use Rattle.ug_console.specs.Statuses.{status_of};
-ghost use Rattle.ug_console.specs.Statuses as lines;
-ghost use Rattle.ug_console.specs.declared.results.Ended.{Ended};
+ghost use Rattle.ug_command_io.specs.Fold.{of_first};
+ghost use Rattle.ug_command_io.specs.Statuses.{status_of};
+ghost use Rattle.ug_command_io.specs.Statuses as lines;
+ghost use Rattle.ug_command_io.specs.declared.results.Ended.{Ended};
 ghost use Rattle.ug_sysfs.specs.World.{World};
 ghost use Rattle.ug_script.specs.Against.{RefusesScript};
 ghost use Rattle.ug_script.specs.CarriedOn.{CarriesThrough};
@@ -39,7 +39,8 @@ use crate::command::carry_out;
 use crate::faults::refuse;
 use std::alloc::Global;
 use ug_arguments::read_command;
-use ug_types::{Link, Sink, Source};
+use ug_links::Link;
+use ug_types::{Sink, Source};
 
 /// Carries out a command, whose words are those of the command line behind the program's name. `replay` does what
 /// `run_replay` does, over a new kernel of its own, and with `--summary` writes numbers of that journal alone. `make-script` writes a
@@ -59,18 +60,26 @@ pub fn run_tool<S: Source, K: Sink, L: Link>(
     link: &mut L,
 ) -> u8
     ensures refused { command_in (map (λ word. word.now) words.now) ≡ None
-        → (IsRefused (K.held out.old) (K.held out.new) result ⊎ IsOutOfMemory (K.held out.old) (K.held out.new) result)
+        → (IsRefused (K.held out.old) (K.held out.new) result
+        ⊎ IsOutOfMemory (K.held out.old) (K.held out.new) result)
         × (S.left input.new ≡ S.left input.old) × (link.new ≡ link.old) }
-    ensures replayed { command_in (map (λ word. word.now) words.now) ≡ Some command.Replay → (all base : List ℕ) → S.left input.old ≡ Some all → K.held out.old ≡ Some base
-        → (script : Option Script) × (world : World) × lines.Answers script_step (of_first script_end) (None, new_world) all base (S.left input.new) (K.held out.new) (script, world) result }
+    ensures replayed { command_in (map (λ word. word.now) words.now) ≡ Some command.Replay
+        → (all base : List ℕ) → S.left input.old ≡ Some all → K.held out.old ≡ Some base
+        → (script : Option Script)
+        × (world : World) × lines.AnswersLines script_step (of_first script_end) (
+          None,
+          new_world,
+        ) all base (S.left input.new) (K.held out.new) (script, world) result }
     ensures laws { StaysLawful new_world }
     ensures recorded { StaysRecorded new_world }
     ensures births { StaysBorn new_world }
-    ensures summarized { command_in (map (λ word. word.now) words.now) ≡ Some command.Summarize → (all base : List ℕ) → S.left input.old ≡ Some all → K.held out.old ≡ Some base
+    ensures summarized { command_in (map (λ word. word.now) words.now) ≡ Some command.Summarize
+        → (all base : List ℕ) → S.left input.old ≡ Some all → K.held out.old ≡ Some base
         → (summary : Summary) × (world : World)
-        × lines.Answers summary_step summary_end ((None, no_totals), new_world) all base
+        × lines.AnswersLines summary_step summary_end ((None, no_totals), new_world) all base
         (S.left input.new) (K.held out.new) (summary, world) result }
-    ensures summary { command_in (map (λ word. word.now) words.now) ≡ Some command.Summarize → (all base : List ℕ) → S.left input.old ≡ Some all → K.held out.old ≡ Some base
+    ensures summary { command_in (map (λ word. word.now) words.now) ≡ Some command.Summarize
+        → (all base : List ℕ) → S.left input.old ≡ Some all → K.held out.old ≡ Some base
         → TellsSummary new_world all base (K.held out.new) result }
     ensures why { (summary : Bool)
         → command_in (map (λ word. word.now) words.now) ≡ Some (replay_of summary)
@@ -82,47 +91,60 @@ pub fn run_tool<S: Source, K: Sink, L: Link>(
     ensures too_long { command_in (map (λ word. word.now) words.now) ≡ Some command.Replay
         → (all base : List ℕ) → S.left input.old ≡ Some all → K.held out.old ≡ Some base
         → TellsRoom new_world (lines_of all) base (K.held out.new) result }
-    ensures made { (events start : ℕ) → command_in (map (λ word. word.now) words.now) ≡ Some (command.MakeScript events start)
+    ensures made { (events start : ℕ)
+        → command_in (map (λ word. word.now) words.now) ≡ Some (command.MakeScript events start)
         → EndsIn (generated_script events start) 0 (K.held out.old) (K.held out.new) result
         ⊎ IsOutOfMemory (K.held out.old) (K.held out.new) result }
-    ensures unread { (events start : ℕ) → command_in (map (λ word. word.now) words.now) ≡ Some (command.MakeScript events start)
+    ensures unread { (events start : ℕ)
+        → command_in (map (λ word. word.now) words.now) ≡ Some (command.MakeScript events start)
         → S.left input.new ≡ S.left input.old }
-    ensures listed { command_in (map (λ word. word.now) words.now) ≡ Some command.ReadDescriptor → (all base : List ℕ) → S.left input.old ≡ Some all → K.held out.old ≡ Some base
-        → listing.Answers all base (S.left input.new) (K.held out.new) result }
-    ensures checked { command_in (map (λ word. word.now) words.now) ≡ Some command.CheckRules → (all base : List ℕ) → S.left input.old ≡ Some all → K.held out.old ≡ Some base
-        → checking.Answers all base (S.left input.new) (K.held out.new) result }
-    ensures linted { (prune : Bool) → command_in (map (λ word. word.now) words.now) ≡ Some (command.LintRules prune)
+    ensures listed { command_in (map (λ word. word.now) words.now) ≡ Some command.ReadDescriptor
         → (all base : List ℕ) → S.left input.old ≡ Some all → K.held out.old ≡ Some base
-        → linting.Answers prune all base (S.left input.new) (K.held out.new) result }
-    ensures generated { command_in (map (λ word. word.now) words.now) ≡ Some command.GeneratePolicy → (all base : List ℕ)
+        → listing.AnswersListing all base (S.left input.new) (K.held out.new) result }
+    ensures checked { command_in (map (λ word. word.now) words.now) ≡ Some command.CheckRules
+        → (all base : List ℕ) → S.left input.old ≡ Some all → K.held out.old ≡ Some base
+        → checking.AnswersCheck all base (S.left input.new) (K.held out.new) result }
+    ensures linted { (prune : Bool)
+        → command_in (map (λ word. word.now) words.now) ≡ Some (command.LintRules prune)
+        → (all base : List ℕ) → S.left input.old ≡ Some all → K.held out.old ≡ Some base
+        → linting.AnswersLint prune all base (S.left input.new) (K.held out.new) result }
+    ensures generated { command_in (map (λ word. word.now) words.now) ≡ Some command.GeneratePolicy
+        → (all base : List ℕ)
         → S.left input.old ≡ Some all → K.held out.old ≡ Some base
         → (script : Option Script) × (world : World)
-        × lines.Answers generate_step generate_end (None, new_world) all base
+        × lines.AnswersLines generate_step generate_end (None, new_world) all base
         (S.left input.new) (K.held out.new) (script, world) result }
-    ensures policy { command_in (map (λ word. word.now) words.now) ≡ Some command.GeneratePolicy → (all base : List ℕ)
+    ensures policy { command_in (map (λ word. word.now) words.now) ≡ Some command.GeneratePolicy
+        → (all base : List ℕ)
         → S.left input.old ≡ Some all → K.held out.old ≡ Some base → result ≡ 0
         → (text : List ℕ) × (K.held out.new ≡ Some (base ++ text))
         × IsFirstPolicy (lines_of all) [] text }
-    ensures alone { command_in (map (λ word. word.now) words.now) ≡ Some command.GeneratePolicy → (all base : List ℕ)
+    ensures alone { command_in (map (λ word. word.now) words.now) ≡ Some command.GeneratePolicy
+        → (all base : List ℕ)
         → S.left input.old ≡ Some all → K.held out.old ≡ Some base
         → TellsFaultAlone base (K.held out.new) result }
-    ensures added { (name : Named) (asked : Asked) → command_in (map (λ word. word.now) words.now) ≡ Some (command.AddUser name asked)
+    ensures added { (name : Named) (asked : Asked)
+        → command_in (map (λ word. word.now) words.now) ≡ Some (command.AddUser name asked)
         → (all base : List ℕ) → S.left input.old ≡ Some all → K.held out.old ≡ Some base
-        → adding.Answers asked all base (S.left input.new) (K.held out.new) result }
-    ensures asked { (socket : List ℕ) (request : Request) → command_in (map (λ word. word.now) words.now) ≡ Some (command.Ask socket request)
+        → adding.AnswersAdding asked all base (S.left input.new) (K.held out.new) result }
+    ensures asked { (socket : List ℕ) (request : Request)
+        → command_in (map (λ word. word.now) words.now) ≡ Some (command.Ask socket request)
         → AsksAndEnds socket (request_line request) (L.told link.old) (L.told link.new)
         (L.sent link.old) (L.sent link.new) (L.left link.old) (L.left link.new)
         (K.held out.old) (K.held out.new) (L.faults link.old) (L.faults link.new) result }
-    ensures watched { (socket : List ℕ) (most : ℕ) → command_in (map (λ word. word.now) words.now) ≡ Some (command.Watch socket most)
-        → WatchesAndEnds socket (request_line request.Watch) most (L.told link.old) (L.told link.new)
+    ensures watched { (socket : List ℕ) (most : ℕ)
+        → command_in (map (λ word. word.now) words.now) ≡ Some (command.Watch socket most)
+        → WatchesAndEnds socket (request_line request.Watch) most (L.told link.old)
+        (L.told link.new)
         (L.sent link.old) (L.sent link.new) (L.left link.old) (L.left link.new)
         (K.held out.old) (K.held out.new) (L.faults link.old) (L.faults link.new) result }
     ensures ended { (c : Command) → command_in (map (λ word. word.now) words.now) ≡ Some c
         → gives_ended c ≡ true → (ended : Ended) × (result ≡ status_of ended) }
     ensures checked_ended { command_in (map (λ word. word.now) words.now) ≡ Some command.CheckRules
-        → (ended : Ended) × (result ≡ checking.status_of ended) }
-    ensures linted_ended { (prune : Bool) → command_in (map (λ word. word.now) words.now) ≡ Some (command.LintRules prune)
-        → (ended : Ended) × (result ≡ checking.status_of ended) }
+        → (ended : Ended) × (result ≡ checking.check_status ended) }
+    ensures linted_ended { (prune : Bool)
+        → command_in (map (λ word. word.now) words.now) ≡ Some (command.LintRules prune)
+        → (ended : Ended) × (result ≡ checking.check_status ended) }
     ensures read { result ≡ 4 → Rose (S.faults input.old) (S.faults input.new) }
     ensures written { result ≡ 5 → Rose (K.faults out.old) (K.faults out.new) }
     ensures input { (c : Command) → command_in (map (λ word. word.now) words.now) ≡ Some c

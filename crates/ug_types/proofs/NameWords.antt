@@ -8,20 +8,20 @@ use Rattle.std.proofs.lemmas.Bool.{and_parts, false≢true}
 use Rattle.std.proofs.lemmas.Bool.Decides.{nat_tests}
 use Rattle.std.proofs.lemmas.Fmt.{digits_decimal}
 use Rattle.std.proofs.lemmas.Str.Parse.{numerals_by_value, tells_digits, digit_from_value}
-use Rattle.ug_types.specs.NodeNames.{IsPort, ArePorts, joined, IsNodeName}
+use Rattle.ug_types.specs.NodeNames.{IsPort, ArePorts, joined_by_dots, IsNodeName}
 use Rattle.ug_types.specs.Principals.{Named, is_name_byte, is_name, principal_text}
 use Rattle.ug_types.proofs.SpacedWords.{is_graphic, number_graphic, both_graphic}
 
 port_graphic : (port : ℕ) → IsPort port → is_graphic (decimal port) ≡ true
 port_graphic port h = number_graphic port (omega (arith, h.1))
 
-joined_graphic : (port : ℕ) (ports : List ℕ) → ArePorts (port ∷ ports) → is_graphic (joined port ports) ≡ true
+joined_graphic : (port : ℕ) (ports : List ℕ) → ArePorts (port ∷ ports) → is_graphic (joined_by_dots port ports) ≡ true
 joined_graphic port [] h = port_graphic port h.0
-joined_graphic port (next ∷ ports) h = both_graphic (decimal port) (46 ∷ joined next ports) (port_graphic port h.0) (joined_graphic next ports h.1)
+joined_graphic port (next ∷ ports) h = both_graphic (decimal port) (46 ∷ joined_by_dots next ports) (port_graphic port h.0) (joined_graphic next ports h.1)
 
 pub node_graphic : (name : List ℕ) → IsNodeName name → is_graphic name ≡ true
 node_graphic name (inl h) = ap is_graphic h.is ∙ number_graphic h.bus (omega (arith, h.is_bus.1))
-node_graphic name (inr h) = ap is_graphic h.is ∙ both_graphic (decimal h.bus) (45 ∷ joined h.port h.ports) (number_graphic h.bus (omega (arith, h.is_bus.1))) (joined_graphic h.port h.ports h.are_ports)
+node_graphic name (inr h) = ap is_graphic h.is ∙ both_graphic (decimal h.bus) (45 ∷ joined_by_dots h.port h.ports) (number_graphic h.bus (omega (arith, h.is_bus.1))) (joined_graphic h.port h.ports h.are_ports)
 
 no_star : (ds text : List ℕ) → AllDigits 10 ds → pointwise nat_eq (ds ++ 45 ∷ text) (codes "*") ≡ false
 no_star [] text d = refl
@@ -35,7 +35,7 @@ pub node_no_star : (name : List ℕ) → IsNodeName name → pointwise nat_eq na
 node_no_star name (inl h) = ap (λ (v : List ℕ). pointwise nat_eq v (codes "*")) h.is
 node_no_star name (inr h) =
     ap (λ (v : List ℕ). pointwise nat_eq v (codes "*")) h.is
-    ∙ no_star (decimal h.bus) (joined h.port h.ports) (digits_decimal (numerals_by_value _ tells_digits) h.bus (omega (arith, h.is_bus.1)))
+    ∙ no_star (decimal h.bus) (joined_by_dots h.port h.ports) (digits_decimal (numerals_by_value _ tells_digits) h.bus (omega (arith, h.is_bus.1)))
 
 -- a byte of a name is neither a space nor a colon
 name_byte : (b : ℕ) → is_name_byte b ≡ true → (nat_lt 32 b ≡ true) × (nat_eq b 58 ≡ false)

@@ -12,8 +12,8 @@ use Rattle.std.specs.Ordering.{nat_cmp, ordering_then}
 use Rattle.std.specs.Cmp.Lexicographic.{slice_cmp}
 use Rattle.std.specs.Option.{option_map, IfSome}
 use Rattle.std.specs.List.{count_by}
-use Rattle.ug_types.specs.NodeNames.{IsBus, IsPort, ArePorts, joined, IsRootHub, IsDevice, IsNodeName}
-use Rattle.ug_types.specs.Names.{is_mark, parent_of, depth_of, root_of, or_root, sweep_cmp, or_nothing, before_last_dot, behind, before_dash}
+use Rattle.ug_types.specs.NodeNames.{IsBus, IsPort, ArePorts, joined_by_dots, IsRootHub, IsDeviceName, IsNodeName}
+use Rattle.ug_types.specs.Names.{is_mark, parent_of, depth_of, root_of, or_root, sweep_cmp, or_nothing, before_last_dot, with_first, before_dash}
 
 -- the last dot stands before a text without one
 dot_before : (xs ys : List ℕ) → before_last_dot ys ≡ None → before_last_dot (xs ++ 46 ∷ ys) ≡ Some xs
@@ -31,13 +31,13 @@ cond_none : {A : Type 0} (t : Bool) (x : A) (o : Option A) → cond t (Some x) o
 cond_none true x o h = absurd (none-some x (sym h))
 cond_none false x o h = (refl, h)
 
-behind_none : (x : ℕ) (o : Option (List ℕ)) → behind x o ≡ None → o ≡ None
+behind_none : (x : ℕ) (o : Option (List ℕ)) → with_first x o ≡ None → o ≡ None
 behind_none x None h = refl
 behind_none x (Some xs) h = absurd (none-some (x ∷ xs) (sym h))
 
 no_dash_parts : (x : ℕ) (xs : List ℕ) → before_dash (x ∷ xs) ≡ None → (nat_eq x 45 ≡ false) × (before_dash xs ≡ None)
 no_dash_parts x xs h =
-    let p : (nat_eq x 45 ≡ false) × (behind x (before_dash xs) ≡ None) = cond_none (nat_eq x 45) [] (behind x (before_dash xs)) h in
+    let p : (nat_eq x 45 ≡ false) × (with_first x (before_dash xs) ≡ None) = cond_none (nat_eq x 45) [] (with_first x (before_dash xs)) h in
     (p.0, behind_none x (before_dash xs) p.1)
 
 -- the first dash stands behind a text without one
@@ -45,13 +45,13 @@ dash_behind : (xs ys : List ℕ) → before_dash xs ≡ None → before_dash (xs
 dash_behind [] ys h = refl
 dash_behind (x ∷ xs) ys h =
     let p : (nat_eq x 45 ≡ false) × (before_dash xs ≡ None) = no_dash_parts x xs h in
-    cond-false (nat_eq x 45) (Some []) (behind x (before_dash (xs ++ 45 ∷ ys))) p.0 ∙ ap (behind x) (dash_behind xs ys p.1)
+    cond-false (nat_eq x 45) (Some []) (with_first x (before_dash (xs ++ 45 ∷ ys))) p.0 ∙ ap (with_first x) (dash_behind xs ys p.1)
 
 no_dash_added : (xs : List ℕ) (b : ℕ) → before_dash xs ≡ None → ¬ (b ≡ 45) → before_dash (xs ++ b ∷ []) ≡ None
 no_dash_added [] b h k = cond-false (nat_eq b 45) (Some []) None (ne_eqb b 45 k)
 no_dash_added (x ∷ xs) b h k =
     let p : (nat_eq x 45 ≡ false) × (before_dash xs ≡ None) = no_dash_parts x xs h in
-    cond-false (nat_eq x 45) (Some []) (behind x (before_dash (xs ++ b ∷ []))) p.0 ∙ ap (behind x) (no_dash_added xs b p.1 k)
+    cond-false (nat_eq x 45) (Some []) (with_first x (before_dash (xs ++ b ∷ []))) p.0 ∙ ap (with_first x) (no_dash_added xs b p.1 k)
 
 -- the loops over a text
 
@@ -128,7 +128,7 @@ record IsOnRootHub (t : List ℕ) : Type 0 where
 record IsOnDevice (t : List ℕ) : Type 0 where
   front : List ℕ
   port : ℕ
-  device : IsDevice front
+  device : IsDeviceName front
   is_port : IsPort port
   is : t ≡ front ++ 46 ∷ decimal port
 
@@ -137,7 +137,7 @@ record HasLastPort (p : ℕ) (ps : List ℕ) : Type 0 where
   last : ℕ
   are_ports : ArePorts (p ∷ ports)
   is_port : IsPort last
-  is : joined p ps ≡ joined p ports ++ 46 ∷ decimal last
+  is : joined_by_dots p ps ≡ joined_by_dots p ports ++ 46 ∷ decimal last
 
 last_port : (p q : ℕ) (qs : List ℕ) → ArePorts (p ∷ q ∷ qs) → HasLastPort p (q ∷ qs)
 last_port p q [] h = record { ports = []; last = q; are_ports = (h.0, tt); is_port = h.1.0; is = refl }
@@ -148,22 +148,22 @@ last_port p q (r ∷ rs) h =
       last = l.last;
       are_ports = (h.0, l.are_ports);
       is_port = l.is_port;
-      is = ap (λ (t : List ℕ). decimal p ++ 46 ∷ t) l.is ∙ sym (append_assoc (decimal p) (46 ∷ joined q l.ports) (46 ∷ decimal l.last));
+      is = ap (λ (t : List ℕ). decimal p ++ 46 ∷ t) l.is ∙ sym (append_assoc (decimal p) (46 ∷ joined_by_dots q l.ports) (46 ∷ decimal l.last));
     }
 
-device_by : (t : List ℕ) (bus p : ℕ) (ps : List ℕ) → IsBus bus → ArePorts (p ∷ ps) → t ≡ decimal bus ++ 45 ∷ joined p ps → IsOnRootHub t ⊎ IsOnDevice t
+device_by : (t : List ℕ) (bus p : ℕ) (ps : List ℕ) → IsBus bus → ArePorts (p ∷ ps) → t ≡ decimal bus ++ 45 ∷ joined_by_dots p ps → IsOnRootHub t ⊎ IsOnDevice t
 device_by t bus p [] b h e = inl (record { bus = bus; port = p; is_bus = b; is_port = h.0; is = e })
 device_by t bus p (q ∷ qs) b h e =
     let l : HasLastPort p (q ∷ qs) = last_port p q qs h in
     inr (record {
-      front = decimal bus ++ 45 ∷ joined p l.ports;
+      front = decimal bus ++ 45 ∷ joined_by_dots p l.ports;
       port = l.last;
       device = record { bus = bus; port = p; ports = l.ports; is_bus = b; are_ports = l.are_ports; is = refl };
       is_port = l.is_port;
-      is = e ∙ ap (λ (s : List ℕ). decimal bus ++ 45 ∷ s) l.is ∙ sym (append_assoc (decimal bus) (45 ∷ joined p l.ports) (46 ∷ decimal l.last));
+      is = e ∙ ap (λ (s : List ℕ). decimal bus ++ 45 ∷ s) l.is ∙ sym (append_assoc (decimal bus) (45 ∷ joined_by_dots p l.ports) (46 ∷ decimal l.last));
     })
 
-device_form : (t : List ℕ) → IsDevice t → IsOnRootHub t ⊎ IsOnDevice t
+device_form : (t : List ℕ) → IsDeviceName t → IsOnRootHub t ⊎ IsOnDevice t
 device_form t d = device_by t d.bus d.port d.ports d.is_bus d.are_ports d.is
 
 -- ---- their parents and depths
@@ -173,7 +173,7 @@ hub_unmarked bus b =
     let u : IsUnmarked (decimal bus) = decimal_unmarked bus b.1 in
     record {
       dot = ap (λ (o : Option (List ℕ)). or_nothing 117 (or_nothing 115 (or_nothing 98 o))) u.dot;
-      dash = ap (λ (o : Option (List ℕ)). behind 117 (behind 115 (behind 98 o))) u.dash;
+      dash = ap (λ (o : Option (List ℕ)). with_first 117 (with_first 115 (with_first 98 o))) u.dash;
       marks = omega (arith, marks-append (codes "usb") (decimal bus), u.marks);
     }
 
@@ -233,7 +233,7 @@ depth_on_device front port p =
 by_form : (P : List ℕ → Type 0)
     → ((bus : ℕ) → IsBus bus → P (codes "usb" ++ decimal bus))
     → ((bus port : ℕ) → IsBus bus → IsPort port → P (decimal bus ++ 45 ∷ decimal port))
-    → ((front : List ℕ) (port : ℕ) → IsDevice front → IsPort port → P (front ++ 46 ∷ decimal port))
+    → ((front : List ℕ) (port : ℕ) → IsDeviceName front → IsPort port → P (front ++ 46 ∷ decimal port))
     → (name : List ℕ) → IsNodeName name → P name
 by_form P root hub device name (inl h) = subst P (sym h.is) (root h.bus h.is_bus)
 by_form P root hub device name (inr d) = elim (device_form name d) [

@@ -12,7 +12,7 @@ use Rattle.std.proofs.lemmas.List.Sorted.{sum_by-IsPermutation}
 use Rattle.std.proofs.lemmas.Bool.{cond-true, cond-false, cond_both}
 use Rattle.ug_types.specs.Elements.{Has}
 use Rattle.ug_types.specs.Names.{sweep_cmp}
-use Rattle.ug_types.specs.Sweep.{in_place, in_sweep_order, sweep_total, sweep_exact}
+use Rattle.ug_types.specs.Sweep.{in_sweep_place, in_sweep_order, sweep_total, sweep_exact}
 
 -- how often x stands in the list
 abbrev times : List ℕ → List (List ℕ) → ℕ
@@ -70,13 +70,13 @@ ascends_sorted (y ∷ z ∷ zs) s =
     let step : is_gt (sweep_cmp y z) ≡ false = turned y z ∙ s 0 y (omega arith) (omega arith) in
     ((step, first_below y z zs step up.0), up)
 
-first_in_place : (y x : List ℕ) (ys : List (List ℕ)) → is_gt (sweep_cmp y x) ≡ false → IsFirst y ys → IsFirst y (in_place x ys)
+first_in_place : (y x : List ℕ) (ys : List (List ℕ)) → is_gt (sweep_cmp y x) ≡ false → IsFirst y ys → IsFirst y (in_sweep_place x ys)
 first_in_place y x [] h f = (h, tt)
-first_in_place y x (z ∷ zs) h f = cond_both (is_gt (sweep_cmp x z)) (z ∷ in_place x zs) (x ∷ z ∷ zs) (IsFirst y) (λ _. (f.0, first_in_place y x zs h f.1)) (λ _. (h, f))
+first_in_place y x (z ∷ zs) h f = cond_both (is_gt (sweep_cmp x z)) (z ∷ in_sweep_place x zs) (x ∷ z ∷ zs) (IsFirst y) (λ _. (f.0, first_in_place y x zs h f.1)) (λ _. (h, f))
 
-ascends_in_place : (x : List ℕ) (ys : List (List ℕ)) → Ascends ys → Ascends (in_place x ys)
+ascends_in_place : (x : List ℕ) (ys : List (List ℕ)) → Ascends ys → Ascends (in_sweep_place x ys)
 ascends_in_place x [] up = (tt, tt)
-ascends_in_place x (y ∷ ys) up = cond_both (is_gt (sweep_cmp x y)) (y ∷ in_place x ys) (x ∷ y ∷ ys) Ascends
+ascends_in_place x (y ∷ ys) up = cond_both (is_gt (sweep_cmp x y)) (y ∷ in_sweep_place x ys) (x ∷ y ∷ ys) Ascends
     (λ e. (first_in_place y x ys (after x y e) up.0, ascends_in_place x ys up.1))
     (λ e. ((e, first_below x y ys e up.0), up))
 
@@ -84,10 +84,10 @@ ascends_in_order : (ys : List (List ℕ)) → Ascends (in_sweep_order ys)
 ascends_in_order [] = tt
 ascends_in_order (y ∷ ys) = ascends_in_place y (in_sweep_order ys) (ascends_in_order ys)
 
-times_in_place : (z x : List ℕ) (ys : List (List ℕ)) → times z (in_place x ys) ≡ one z x + times z ys
+times_in_place : (z x : List ℕ) (ys : List (List ℕ)) → times z (in_sweep_place x ys) ≡ one z x + times z ys
 times_in_place z x [] = times-cons z x []
-times_in_place z x (y ∷ ys) = cond_both (is_gt (sweep_cmp x y)) (y ∷ in_place x ys) (x ∷ y ∷ ys) (λ (l : List (List ℕ)). times z l ≡ one z x + times z (y ∷ ys))
-    (λ _. omega (arith, times-cons z y (in_place x ys), times_in_place z x ys, times-cons z y ys))
+times_in_place z x (y ∷ ys) = cond_both (is_gt (sweep_cmp x y)) (y ∷ in_sweep_place x ys) (x ∷ y ∷ ys) (λ (l : List (List ℕ)). times z l ≡ one z x + times z (y ∷ ys))
+    (λ _. omega (arith, times-cons z y (in_sweep_place x ys), times_in_place z x ys, times-cons z y ys))
     (λ _. times-cons z x (y ∷ ys))
 
 times_in_order : (z : List ℕ) (ys : List (List ℕ)) → times z (in_sweep_order ys) ≡ times z ys
@@ -154,9 +154,9 @@ counted_has x (y ∷ ys) (inr h) = omega (arith, times-cons x y ys, counted_has 
 pub to_sweep_order : (names : List (List ℕ)) (x : List ℕ) → Has names x → Has (in_sweep_order names) x
 to_sweep_order names x h = has_counted x (in_sweep_order names) (subst (λ (n : ℕ). 0 < n) (sym (times_in_order x names)) (counted_has x names h))
 
-length_in_place : (name : List ℕ) (names : List (List ℕ)) → length (in_place name names) ≡ suc (length names)
+length_in_place : (name : List ℕ) (names : List (List ℕ)) → length (in_sweep_place name names) ≡ suc (length names)
 length_in_place name [] = refl
-length_in_place name (y ∷ ys) = cond_both (is_gt (sweep_cmp name y)) (y ∷ in_place name ys) (name ∷ y ∷ ys) (λ (l : List (List ℕ)). length l ≡ suc (suc (length ys))) (λ _. ap suc (length_in_place name ys)) (λ _. refl)
+length_in_place name (y ∷ ys) = cond_both (is_gt (sweep_cmp name y)) (y ∷ in_sweep_place name ys) (name ∷ y ∷ ys) (λ (l : List (List ℕ)). length l ≡ suc (suc (length ys))) (λ _. ap suc (length_in_place name ys)) (λ _. refl)
 
 pub length-sweep_order : (names : List (List ℕ)) → length (in_sweep_order names) ≡ length names
 length-sweep_order [] = refl

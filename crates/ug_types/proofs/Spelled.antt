@@ -8,8 +8,8 @@ use Rattle.std.proofs.lemmas.List.{append-nil, take-append-drop, take_all, take_
 use Rattle.std.proofs.lemmas.Option.{same_Some, none-some, cond_some}
 use Rattle.ug_types.specs.declared.reading.Reading.{Reading}
 use Rattle.ug_types.specs.declared.reading.Reading.TheVariants.{Start, U, Us, Usb, RootHub, Bus, Mark, Port}
-use Rattle.ug_types.specs.NodeNames.{IsBus, IsPort, ArePorts, joined, IsDevice, IsNodeName, IsPrefixOfName, StopsAt}
-use Rattle.ug_types.specs.Reading.{after, ends_name, only, first_digit, up_to, with_digit}
+use Rattle.ug_types.specs.NodeNames.{IsBus, IsPort, ArePorts, joined_by_dots, IsDeviceName, IsNodeName, IsPrefixOfName, StopsAt}
+use Rattle.ug_types.specs.Reading.{after, ends_name, only_letter, first_digit, up_to, with_digit}
 
 abbrev then_byte : Option Reading → ℕ → Option Reading
 then_byte None b = None
@@ -107,7 +107,7 @@ record IsBehindBus (text : List ℕ) : Type 0 where
 -- a device and a dot
 record IsBehindPort (text : List ℕ) : Type 0 where
   front : List ℕ
-  device : IsDevice front
+  device : IsDeviceName front
   is : text ≡ front ++ 46 ∷ []
 
 -- what a port number makes a device of
@@ -135,12 +135,12 @@ ports_push : (ports : List ℕ) (n : ℕ) → ArePorts ports → IsPort n → Ar
 ports_push [] n h k = (k, tt)
 ports_push (p ∷ ps) n h k = (h.0, ports_push ps n h.1 k)
 
-pub joined_push : (p : ℕ) (ps : List ℕ) (n : ℕ) → joined p (ps ++ n ∷ []) ≡ joined p ps ++ 46 ∷ decimal n
+pub joined_push : (p : ℕ) (ps : List ℕ) (n : ℕ) → joined_by_dots p (ps ++ n ∷ []) ≡ joined_by_dots p ps ++ 46 ∷ decimal n
 joined_push p [] n = refl
-joined_push p (q ∷ qs) n = ap (λ (t : List ℕ). decimal p ++ 46 ∷ t) (joined_push q qs n) ∙ sym (append_assoc (decimal p) (46 ∷ joined q qs) (46 ∷ decimal n))
+joined_push p (q ∷ qs) n = ap (λ (t : List ℕ). decimal p ++ 46 ∷ t) (joined_push q qs n) ∙ sym (append_assoc (decimal p) (46 ∷ joined_by_dots q qs) (46 ∷ decimal n))
 
 -- a port number behind a stem makes a device
-stem_device : (stem : List ℕ) (n : ℕ) → IsStem stem → IsPort n → IsDevice (stem ++ decimal n)
+stem_device : (stem : List ℕ) (n : ℕ) → IsStem stem → IsPort n → IsDeviceName (stem ++ decimal n)
 stem_device stem n (inl b) k = record {
   bus = b.bus;
   port = n;
@@ -150,8 +150,8 @@ stem_device stem n (inl b) k = record {
   is = ap (λ (t : List ℕ). t ++ decimal n) b.is ∙ append_assoc (decimal b.bus) (45 ∷ []) (decimal n);
 }
 stem_device stem n (inr p) k =
-    let d : IsDevice p.front = p.device in
-    let head : List ℕ = decimal d.bus ++ 45 ∷ joined d.port d.ports in
+    let d : IsDeviceName p.front = p.device in
+    let head : List ℕ = decimal d.bus ++ 45 ∷ joined_by_dots d.port d.ports in
     record {
       bus = d.bus;
       port = d.port;
@@ -160,20 +160,20 @@ stem_device stem n (inr p) k =
       are_ports = (d.are_ports.0, ports_push d.ports n d.are_ports.1 k);
       is = ap (λ (t : List ℕ). t ++ decimal n) (p.is ∙ ap (λ (t : List ℕ). t ++ 46 ∷ []) d.is)
           ∙ append_assoc head (46 ∷ []) (decimal n)
-          ∙ append_assoc (decimal d.bus) (45 ∷ joined d.port d.ports) (46 ∷ decimal n)
+          ∙ append_assoc (decimal d.bus) (45 ∷ joined_by_dots d.port d.ports) (46 ∷ decimal n)
           ∙ ap (λ (t : List ℕ). decimal d.bus ++ 45 ∷ t) (sym (joined_push d.port d.ports n));
     }
 
-device_along : (s t : List ℕ) → s ≡ t → IsDevice t → IsDevice s
+device_along : (s t : List ℕ) → s ≡ t → IsDeviceName t → IsDeviceName s
 device_along s t e d = record { bus = d.bus; port = d.port; ports = d.ports; is_bus = d.is_bus; are_ports = d.are_ports; is = e ∙ d.is }
 
-port_device : (n : ℕ) (t : List ℕ) → HasPort n t → IsDevice t
+port_device : (n : ℕ) (t : List ℕ) → HasPort n t → IsDeviceName t
 port_device n t h = device_along t (h.stem ++ decimal n) h.is (stem_device h.stem n h.is_stem h.is_port)
 
 push_on : (t u : List ℕ) (b : ℕ) → t ≡ u → t ++ b ∷ [] ≡ u ++ b ∷ []
 push_on t u b e = ap (λ (x : List ℕ). x ++ b ∷ []) e
 
-to_letter : (letter : ℕ) (next : Reading) (t u : List ℕ) (b : ℕ) (r : Reading) → t ≡ u → only letter next b ≡ Some r → Reached next (u ++ letter ∷ []) → Reached r (t ++ b ∷ [])
+to_letter : (letter : ℕ) (next : Reading) (t u : List ℕ) (b : ℕ) (r : Reading) → t ≡ u → only_letter letter next b ≡ Some r → Reached next (u ++ letter ∷ []) → Reached r (t ++ b ∷ [])
 to_letter letter next t u b r e h k =
     let p : (nat_eq b letter ≡ true) × (next ≡ r) = cond_some (nat_eq b letter) next r h in
     let f : u ++ letter ∷ [] ≡ t ++ b ∷ [] = sym (push_on t u b e ∙ ap (λ (c : ℕ). u ++ c ∷ []) (eqb-true b letter p.0)) in
@@ -328,17 +328,17 @@ read_port n k = read_number Mark (λ i. Port i) 255 (omega arith)
     (λ i d high fits. cond-false (nat_eq (48 + d) 46) (Some Mark) (option_map Port (with_digit 255 i (48 + d))) (ne_eqb (48 + d) 46 (λ e. omega arith)) ∙ ap (option_map Port) (with_digit_of 255 i d high fits))
     n k.0 k.1
 
-read_joined : (p : ℕ) (ps : List ℕ) → ArePorts (p ∷ ps) → (l : ℕ) × (read (Some Mark) (joined p ps) ≡ Some (Port l))
+read_joined : (p : ℕ) (ps : List ℕ) → ArePorts (p ∷ ps) → (l : ℕ) × (read (Some Mark) (joined_by_dots p ps) ≡ Some (Port l))
 read_joined p [] h = (p, read_port p h.0)
 read_joined p (q ∷ qs) h =
-    let rest : (l : ℕ) × (read (Some Mark) (joined q qs) ≡ Some (Port l)) = read_joined q qs h.1 in
-    (rest.0, read-append (Some Mark) (decimal p) (46 ∷ joined q qs) ∙ ap (λ (s : Option Reading). read s (46 ∷ joined q qs)) (read_port p h.0) ∙ rest.1)
+    let rest : (l : ℕ) × (read (Some Mark) (joined_by_dots q qs) ≡ Some (Port l)) = read_joined q qs h.1 in
+    (rest.0, read-append (Some Mark) (decimal p) (46 ∷ joined_by_dots q qs) ∙ ap (λ (s : Option Reading). read s (46 ∷ joined_by_dots q qs)) (read_port p h.0) ∙ rest.1)
 
 read_name : (t : List ℕ) → IsNodeName t → (s : Reading) × (read (Some Start) t ≡ Some s) × (ends_name s ≡ true)
 read_name t (inl h) = (RootHub h.bus, ap (read (Some Start)) h.is ∙ read_hub_bus h.bus h.is_bus, refl)
 read_name t (inr d) =
-    let last : (l : ℕ) × (read (Some Mark) (joined d.port d.ports) ≡ Some (Port l)) = read_joined d.port d.ports d.are_ports in
-    let behind_bus : List ℕ = 45 ∷ joined d.port d.ports in (
+    let last : (l : ℕ) × (read (Some Mark) (joined_by_dots d.port d.ports) ≡ Some (Port l)) = read_joined d.port d.ports d.are_ports in
+    let behind_bus : List ℕ = 45 ∷ joined_by_dots d.port d.ports in (
       Port last.0,
       ap (read (Some Start)) d.is ∙ read-append (Some Start) (decimal d.bus) behind_bus ∙ ap (λ (s : Option Reading). read s behind_bus) (read_bus d.bus d.is_bus) ∙ last.1,
       refl,

@@ -12,7 +12,8 @@ Fits room (taken.Bytes n) = (0 < n) × (n ≤ room)
 Fits room taken.End = Unit {0}
 Fits room taken.Failed = Unit {0}
 
--- the bytes that came stood at the front of those that were left; at the end there are none; a failure took none
+-- the bytes that came stood at the front of those that were left; at the end there
+-- are none; a failure took none
 abbrev pub Takes : Option (List ℕ) → Option (List ℕ) → List ℕ → Taken → Type 0
 Takes before after buffer (taken.Bytes n) = Consumes before after (take n buffer)
 Takes before after buffer taken.End = Keeps before after × IsAtEnd after
@@ -21,7 +22,8 @@ Takes before after buffer taken.Failed = Keeps before after
 -- all of the bytes were appended, or a front of them where the call failed
 abbrev pub Puts : Option (List ℕ) → Option (List ℕ) → List ℕ → Put → Type 0
 Puts before after bytes put.Done = Appends before after bytes
-Puts before after bytes put.Failed = (front : List ℕ) × (rest : List ℕ) × (bytes ≡ front ++ rest) × Appends before after front
+Puts before after bytes put.Failed =
+    (front : List ℕ) × (rest : List ℕ) × (bytes ≡ front ++ rest) × Appends before after front
 
 -- a count of faults doesn't fall, and rises by at most one
 abbrev pub IsCounted : ℕ → ℕ → Type 0

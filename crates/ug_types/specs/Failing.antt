@@ -1,4 +1,5 @@
--- Which calls of a source or a sink in memory fail: those whose numbers are listed. The first call is number 1.
+-- Which calls of a source or a sink in memory fail: those whose numbers are
+-- listed. The first call is number 1.
 use Rattle.std.specs.Prelude.{◌≡◌, ◌↔◌, ℕ, ◌+◌, ◌-◌, ◌^◌, min, Bool, false, List}
 use Rattle.ug_types.specs.Elements.{Has}
 use Rattle.ug_types.specs.declared.source.Taken.{Taken}
@@ -16,4 +17,6 @@ TakesUnlessListed failing calls result = (result ≡ taken.Failed) ↔ Has faili
 
 -- so does a putting, unless memory was short for it
 abbrev pub PutsUnlessListed : List ℕ → ℕ → Bool → Put → Type 0
-PutsUnlessListed failing calls short result = (Has failing (next_call calls) → result ≡ put.Failed) × (short ≡ false → result ≡ put.Failed → Has failing (next_call calls))
+PutsUnlessListed failing calls short result =
+    (Has failing (next_call calls) → result ≡ put.Failed)
+    × (short ≡ false → result ≡ put.Failed → Has failing (next_call calls))

@@ -13,14 +13,14 @@ abbrev pub before_last_dot : List ℕ → Option (List ℕ)
 before_last_dot [] = None
 before_last_dot (b ∷ bytes) = or_nothing b (before_last_dot bytes)
 
-abbrev pub behind : ℕ → Option (List ℕ) → Option (List ℕ)
-behind b (Some front) = Some (b ∷ front)
-behind b None = None
+abbrev pub with_first : ℕ → Option (List ℕ) → Option (List ℕ)
+with_first b (Some front) = Some (b ∷ front)
+with_first b None = None
 
 -- the text before the first dash
 abbrev pub before_dash : List ℕ → Option (List ℕ)
 before_dash [] = None
-before_dash (b ∷ bytes) = if nat_eq b 45 then Some [] else behind b (before_dash bytes)
+before_dash (b ∷ bytes) = if nat_eq b 45 then Some [] else with_first b (before_dash bytes)
 
 abbrev pub root_of : Option (List ℕ) → Option (List ℕ)
 root_of (Some bus) = Some (codes "usb" ++ bus)

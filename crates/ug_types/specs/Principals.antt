@@ -19,12 +19,14 @@ abbrev pub is_name : List ℕ → Bool
 is_name text = nat_le 1 (length text) && nat_le (length text) 32 && list_all is_name_byte text
 
 abbrev pub principal_named : Bool → List ℕ → Option Named
-principal_named group name = if is_name name then Some (record { group = group; name = name }) else None
+principal_named group name =
+    if is_name name then Some (record { group = group; name = name }) else None
 
 -- `:` stands before the name of a group
 abbrev pub principal_of : List ℕ → Option Named
 principal_of [] = None
-principal_of (b ∷ bytes) = if nat_eq b 58 then principal_named true bytes else principal_named false (b ∷ bytes)
+principal_of (b ∷ bytes) =
+    if nat_eq b 58 then principal_named true bytes else principal_named false (b ∷ bytes)
 
 -- as it is written
 abbrev pub principal_text : Named → List ℕ

@@ -4,8 +4,8 @@ use Rattle.std.specs.Option.{option_map}
 use Rattle.ug_types.specs.declared.reading.Reading.{Reading}
 use Rattle.ug_types.specs.declared.reading.Reading.TheVariants.{Start, U, Us, Usb, RootHub, Bus, Mark, Port}
 
-abbrev pub only : ℕ → Reading → ℕ → Option Reading
-only letter next b = if nat_eq b letter then Some next else None
+abbrev pub only_letter : ℕ → Reading → ℕ → Option Reading
+only_letter letter next b = if nat_eq b letter then Some next else None
 
 -- a number doesn't begin with a zero
 abbrev pub first_digit : ℕ → Option ℕ
@@ -19,8 +19,8 @@ with_digit most n b = if nat_le 48 b && nat_le b 57 then up_to most (n * 10 + (b
 
 abbrev pub after : Reading → ℕ → Option Reading
 after Start b = if nat_eq b 117 then Some U else option_map Bus (first_digit b)
-after U b = only 115 Us b
-after Us b = only 98 Usb b
+after U b = only_letter 115 Us b
+after Us b = only_letter 98 Usb b
 after Usb b = option_map RootHub (first_digit b)
 after (RootHub n) b = option_map RootHub (with_digit 999 n b)
 after (Bus n) b = if nat_eq b 45 then Some Mark else option_map Bus (with_digit 999 n b)

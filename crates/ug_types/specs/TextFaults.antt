@@ -12,7 +12,8 @@ fault_of_kind kind place = record { kind = kind; place = place }
 
 -- the fault of the line of that number
 abbrev pub fault_in_line : {K : Type 0} → (K → ℕ) → ℕ → Fault K → TextFault
-fault_in_line number_of number fault = record { line = number; kind = number_of fault.kind; place = fault.place }
+fault_in_line number_of number fault =
+    record { line = number; kind = number_of fault.kind; place = fault.place }
 
 abbrev pub file_fault_of : {K : Type 0} → (K → ℕ) → ℕ → LineFault K → FileFault
 file_fault_of number_of number (line.Bad fault) = file.Bad (fault_in_line number_of number fault)

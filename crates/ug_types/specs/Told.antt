@@ -15,5 +15,5 @@ given_by gives zero = []
 given_by gives (suc n) = given_by gives n ++ gives n
 
 -- an object that counts its calls tells what they gave, until its count stands at its highest
-abbrev pub told_of : {A : Type 0} → (ℕ → List A) → ℕ → Option (List A)
-told_of gives calls = cond (nat_lt calls (2 ^ 64 - 1)) (Some (given_by gives calls)) None
+abbrev pub told_by_count : {A : Type 0} → (ℕ → List A) → ℕ → Option (List A)
+told_by_count gives calls = cond (nat_lt calls (2 ^ 64 - 1)) (Some (given_by gives calls)) None

@@ -31,11 +31,11 @@ impl Model for NodeName {
 
     ghost Value = { List ℕ };
 
-    ghost use Rattle.ug_types.specs.Padded.{text_of, padded, IsNamed, padded_text};
+    ghost use Rattle.ug_types.specs.Padded.{node_text, padded, HoldsNodeName, padded_text};
 
-    ghost view = { text_of };
+    ghost view = { node_text };
 
-    ghost invariant = { IsNamed };
+    ghost invariant = { HoldsNodeName };
 
     ghost inverse = { padded };
 
@@ -59,8 +59,10 @@ impl NodeName {
         ensures ok { (result ≡ Ok text.now) ↔ (IsNodeName text.now × (length text.now ≤ 31)) }
         ensures same { IfOk result (λ name. name ≡ text.now) }
         ensures empty { (result ≡ Err NameFault.Empty) ↔ (text.now ≡ []) }
-        ensures too_long { (result ≡ Err NameFault.TooLong) ↔ (IsNodeName text.now × (31 < length text.now)) }
-        ensures bad_form { (place : ℕ) → (result ≡ Err (NameFault.BadForm place)) ↔ ((¬ (text.now ≡ [])) × (¬ IsNodeName text.now) × StopsAt text.now place) }
+        ensures too_long { (result ≡ Err NameFault.TooLong)
+            ↔ (IsNodeName text.now × (31 < length text.now)) }
+        ensures bad_form { (place : ℕ) → (result ≡ Err (NameFault.BadForm place))
+            ↔ ((¬ (text.now ≡ [])) × (¬ IsNodeName text.now) × StopsAt text.now place) }
     {
         if text.is_empty() {
             return Err(NameFault::Empty);
@@ -160,7 +162,8 @@ impl Eq for NodeName {
 impl PartialOrd for NodeName {
     ghost partial_cmp = { as_partial_cmp sweep_cmp };
 
-    ghost laws = { Cmp.partial_order_from_agreeing_total sweep_cmp sweep_total (λ a b. refl) sweep_ties };
+    ghost laws = { Cmp.partial_order_from_agreeing_total sweep_cmp sweep_total (λ a b.
+        refl) sweep_ties };
 
     fn partial_cmp(&self, other: &NodeName) -> Option<Ordering> {
         Some(self.cmp(other))

@@ -20,13 +20,13 @@ pub struct Principal {
 
 impl Model for Principal {
     ghost use Rattle.ug_types.specs.Principals.{Named};
-    ghost use Rattle.ug_types.specs.PrincipalBytes.{named_of, with_zeros, IsNamed, padded_principal};
+    ghost use Rattle.ug_types.specs.PrincipalBytes.{named_of, with_zeros, HoldsPrincipal, padded_principal};
 
     ghost Value = { Named };
 
     ghost view = { named_of };
 
-    ghost invariant = { IsNamed };
+    ghost invariant = { HoldsPrincipal };
 
     ghost inverse = { with_zeros };
 

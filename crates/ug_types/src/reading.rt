@@ -1,6 +1,6 @@
 // Node names, read byte by byte.
 ghost use Rattle.std.specs.Prelude.{◌≡◌, MatchOption};
-ghost use Rattle.ug_types.specs.Reading.{after, ends_name, only, first_digit, with_digit};
+ghost use Rattle.ug_types.specs.Reading.{after, ends_name, only_letter, first_digit, with_digit};
 ghost use Rattle.ug_types.specs.NodeNames.{IsNodeName, StopsAt};
 
 /// What the bytes so far are.
@@ -60,7 +60,7 @@ impl Reading {
 }
 
 fn only(letter: u8, next: Reading, byte: u8) -> Option<Reading>
-    ensures { result ≡ only letter next byte }
+    ensures { result ≡ only_letter letter next byte }
 {
     if byte == letter { Some(next) } else { None }
 }
@@ -91,7 +91,8 @@ fn with_digit(most: u16, number: u16, byte: u8) -> Option<u16>
 
 /// Where the text stops being the beginning of a name, or its length where it ends too early; None where it is a name.
 pub fn stop(text: &[u8]) -> Option<usize>
-    ensures { MatchOption result (IsNodeName text.now) (λ place. (¬ IsNodeName text.now) × StopsAt text.now place) }
+    ensures { MatchOption result (IsNodeName text.now) (λ place. (¬ IsNodeName text.now)
+        × StopsAt text.now place) }
 {
     let mut state = Reading::Start;
     for (i, byte) in text.iter().enumerate() {

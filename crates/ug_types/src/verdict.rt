@@ -5,10 +5,6 @@ use crate::principal::Principal;
 #[derive(Clone, Copy, Debug, PartialEq, Eq)]
 pub struct Moment(pub u64);
 
-/// A sysfs file that is held open.
-#[derive(Clone, Copy, Debug, PartialEq, Eq)]
-pub struct Held(pub u64);
-
 /// What is done with a device: usbguard-rules.conf(5), target.
 #[derive(Clone, Copy, Debug, PartialEq, Eq)]
 pub enum Target {

@@ -11,14 +11,14 @@ use Rattle.ug_types.specs.declared.access.Privilege.TheVariants.{Modify, Listen}
 use Rattle.ug_types.specs.declared.access.Privilege.TheVariants as privilege
 use Rattle.ug_lines.proofs.Trimming as trimming
 use Rattle.ug_acl.specs.Grammar.{ArePrivileges}
-use Rattle.ug_acl.specs.Lines.{parts_of, trimmed}
-use Rattle.ug_acl.specs.Pairs.{all_pairs, holds}
+use Rattle.ug_acl.specs.Lines.{comma_parts, trimmed}
+use Rattle.ug_acl.specs.Pairs.{all_pairs, holds_privilege}
 use Rattle.ug_acl.specs.Words.{gives, given_by_word, is_any, IsPrivilegeOf}
 use Rattle.ug_acl.proofs.Members.{any_map, granted}
 use Rattle.ug_acl.proofs.Parts.{parts_found, are_parts}
 use Rattle.ug_acl.proofs.PartsRead.{gives_any}
 use Rattle.ug_users.specs.declared.lists.Listed.{Listed}
-use Rattle.ug_users.specs.Lists.{IsList, given_by, given_by_parts, has_listed, list_read, part_gives_some}
+use Rattle.ug_users.specs.Lists.{IsList, words_give, given_by_parts, lists_privilege, list_read, part_gives_some}
 use Rattle.ug_users.proofs.Members.{both}
 
 module _ (section : Section) where
@@ -48,7 +48,7 @@ module _ (section : Section) where
         ap (λ (v : Bool). v && list_all (part_gives_some section) parts) one ∙ r.1,
       )
 
-  given_same : (parts : List (List ℕ)) → given_by section (map trimmed parts) ≡ given_by_parts section parts
+  given_same : (parts : List (List ℕ)) → words_give section (map trimmed parts) ≡ given_by_parts section parts
   given_same parts =
       let one : (p : Privilege) → list_any (gives section p) (map trimmed parts) ≡ list_any (λ part. gives section p (trimmed part)) parts = λ p. any_map trimmed (gives section p) parts in
       λ i. record { modify = one Modify i; list = one privilege.List i; listen = one Listen i }
@@ -61,40 +61,40 @@ module _ (section : Section) where
       let w = words_are h.parts h.words h.are_privileges in
       ap (λ (parts : List (List ℕ)). decided parts (list_all (part_gives_some section) parts)) (parts_found text h.parts h.are_parts)
       ∙ ap (decided h.parts) w.1
-      ∙ ap (λ (l : Listed). Some l) (sym (given_same h.parts) ∙ ap (given_by section) (sym w.0) ∙ sym h.gives)
+      ∙ ap (λ (l : Listed). Some l) (sym (given_same h.parts) ∙ ap (words_give section) (sym w.0) ∙ sym h.gives)
 
   read_is_list : (text : List ℕ) (listed : Listed) → list_read section text ≡ Some listed → IsList section text listed
-  read_is_list text listed h = by (list_all (part_gives_some section) (parts_of text)) refl h
+  read_is_list text listed h = by (list_all (part_gives_some section) (comma_parts text)) refl h
     where
-      by : (v : Bool) → list_all (part_gives_some section) (parts_of text) ≡ v → decided (parts_of text) v ≡ Some listed → IsList section text listed
+      by : (v : Bool) → list_all (part_gives_some section) (comma_parts text) ≡ v → decided (comma_parts text) v ≡ Some listed → IsList section text listed
       by true e k = record {
-        parts = parts_of text;
-        words = map trimmed (parts_of text);
+        parts = comma_parts text;
+        words = map trimmed (comma_parts text);
         are_parts = are_parts text;
-        are_privileges = are_given (parts_of text) e;
-        gives = sym (same_Some (given_by_parts section (parts_of text)) listed k) ∙ sym (given_same (parts_of text));
+        are_privileges = are_given (comma_parts text) e;
+        gives = sym (same_Some (given_by_parts section (comma_parts text)) listed k) ∙ sym (given_same (comma_parts text));
       }
       by false e k = absurd (none-some listed k)
 
   pub list_law : (text : List ℕ) (listed : Listed) → (list_read section text ≡ Some listed) ↔ IsList section text listed
   list_law text listed = (read_is_list text listed, list_is_read text listed)
 
-  own_word : (p : Privilege) (words : List (List ℕ)) → list_any (gives section p) words ≡ true → holds all_pairs section p ≡ true
+  own_word : (p : Privilege) (words : List (List ℕ)) → list_any (gives section p) words ≡ true → holds_privilege all_pairs section p ≡ true
   own_word p [] h = absurd (false≢true h)
-  own_word p (word ∷ words) h = by (holds all_pairs section p) refl
+  own_word p (word ∷ words) h = by (holds_privilege all_pairs section p) refl
     where
-      none : (ws : List (List ℕ)) → holds all_pairs section p ≡ false → list_any (gives section p) ws ≡ false
+      none : (ws : List (List ℕ)) → holds_privilege all_pairs section p ≡ false → list_any (gives section p) ws ≡ false
       none [] e = refl
       none (w ∷ ws) e = rw e (none ws e)
 
-      by : (v : Bool) → holds all_pairs section p ≡ v → holds all_pairs section p ≡ true
+      by : (v : Bool) → holds_privilege all_pairs section p ≡ v → holds_privilege all_pairs section p ≡ true
       by true e = e
       by false e = absurd (false≢true (sym (none (word ∷ words) e) ∙ h))
 
-  pub own : (text : List ℕ) (listed : Listed) (p : Privilege) → IsList section text listed → IsTrue (has_listed listed p) → Has all_pairs (section, p)
-  own text listed p h e = (granted all_pairs section p).0 (by p (ap (λ (l : Listed). has_listed l p) (sym h.gives) ∙ e))
+  pub own : (text : List ℕ) (listed : Listed) (p : Privilege) → IsList section text listed → IsTrue (lists_privilege listed p) → Has all_pairs (section, p)
+  own text listed p h e = (granted all_pairs section p).0 (by p (ap (λ (l : Listed). lists_privilege l p) (sym h.gives) ∙ e))
     where
-      by : (q : Privilege) → has_listed (given_by section h.words) q ≡ true → holds all_pairs section q ≡ true
+      by : (q : Privilege) → lists_privilege (words_give section h.words) q ≡ true → holds_privilege all_pairs section q ≡ true
       by Modify k = own_word Modify h.words k
       by privilege.List k = own_word privilege.List h.words k
       by Listen k = own_word Listen h.words k

@@ -2,12 +2,12 @@
 use Rattle.std.specs.Prelude.{◌≡◌, ℕ, List, [], ◌∷◌, ◌++◌, codes, decimal, Option, Ok, Err}
 use Rattle.ug_types.specs.declared.text_fault.TextFault.{TextFault}
 use Rattle.ug_acl.specs.Pairs.{Pair}
-use Rattle.ug_acl.specs.Printed.{printed}
+use Rattle.ug_acl.specs.Printed.{grants_text}
 use Rattle.ug_acl.specs.Texts.{access_read}
-use Rattle.ug_console.specs.Statuses.{status_of}
-use Rattle.ug_console.specs.WholeInputs as whole
-use Rattle.ug_console.specs.WholeInputs.{input_limit}
-use Rattle.ug_console.specs.declared.results.Ended.{Ended}
+use Rattle.ug_command_io.specs.Statuses.{status_of}
+use Rattle.ug_command_io.specs.WholeInputs as whole
+use Rattle.ug_command_io.specs.WholeInputs.{input_limit}
+use Rattle.ug_command_io.specs.declared.results.Ended.{Ended}
 use Rattle.ug_users.specs.Asking.{pairs_asked, united}
 use Rattle.ug_users.specs.declared.asked.Asked.{Asked}
 
@@ -21,25 +21,28 @@ bad_access_line fault =
 abbrev pub IsUnited : Asked → List ℕ → List ℕ → Type 0
 IsUnited asked bytes text =
     (granted : List Pair) × (access_read bytes ≡ Ok granted)
-    × (text ≡ printed (united granted (pairs_asked asked)))
+    × (text ≡ grants_text (united granted (pairs_asked asked)))
 
 -- a line of the text is bad, and the first such line is told
-abbrev pub IsRefused : List ℕ → List ℕ → Type 0
-IsRefused bytes text =
+abbrev pub TellsBadAccess : List ℕ → List ℕ → Type 0
+TellsBadAccess bytes text =
     (fault : TextFault) × (access_read bytes ≡ Err fault) × (text ≡ bad_access_line fault)
 
-abbrev pub Tells : Asked → List ℕ → Option (List ℕ) → Option (List ℕ) → Option (List ℕ) → Ended
+abbrev pub TellsAdding : Asked → List ℕ → Option (List ℕ) → Option (List ℕ) → Option (List ℕ)
+    → Ended
     → Type 0
-Tells asked bytes left held0 held result =
-    whole.TellsWhole input_limit (IsUnited asked) IsRefused bytes left held0 held result
+TellsAdding asked bytes left held0 held result =
+    whole.TellsWhole input_limit (IsUnited asked) TellsBadAccess bytes left held0 held result
 
 -- the whole call
-abbrev pub Completes : Asked → Option (List ℕ) → Option (List ℕ) → Option (List ℕ) → Option (List ℕ)
+abbrev pub CompletesAdding : Asked → Option (List ℕ) → Option (List ℕ) → Option (List ℕ)
+    → Option (List ℕ)
     → Ended → Type 0
-Completes asked left0 left held0 held result =
-    whole.Completes input_limit (IsUnited asked) IsRefused left0 left held0 held result
+CompletesAdding asked left0 left held0 held result =
+    whole.CompletesWhole input_limit (IsUnited asked) TellsBadAccess left0 left held0 held result
 
 -- what a status says: all are the bytes of the source and base those of the sink before the call
-abbrev pub Answers : Asked → List ℕ → List ℕ → Option (List ℕ) → Option (List ℕ) → ℕ → Type 0
-Answers asked all base left held status =
-    whole.AnswersWhole status_of input_limit (IsUnited asked) IsRefused all base left held status
+abbrev pub AnswersAdding : Asked → List ℕ → List ℕ → Option (List ℕ) → Option (List ℕ) → ℕ → Type 0
+AnswersAdding asked all base left held status =
+    whole.AnswersWhole status_of input_limit
+    (IsUnited asked) TellsBadAccess all base left held status

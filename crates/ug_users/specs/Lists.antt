@@ -5,22 +5,22 @@ use Rattle.ug_types.specs.declared.access.Section.{Section}
 use Rattle.ug_types.specs.declared.access.Privilege.{Privilege}
 use Rattle.ug_types.specs.declared.access.Privilege.TheVariants.{Modify, Listen}
 use Rattle.ug_types.specs.declared.access.Privilege.TheVariants as privilege
-use Rattle.ug_acl.specs.Grammar.{AreParts, ArePrivileges}
-use Rattle.ug_acl.specs.Lines.{parts_of, trimmed}
+use Rattle.ug_acl.specs.Grammar.{AreCommaParts, ArePrivileges}
+use Rattle.ug_acl.specs.Lines.{comma_parts, trimmed}
 use Rattle.ug_acl.specs.Words.{gives}
 use Rattle.ug_users.specs.declared.lists.Listed.{Listed}
 
 abbrev pub nothing_listed : Listed
 nothing_listed = record { modify = false; list = false; listen = false }
 
-abbrev pub has_listed : Listed → Privilege → Bool
-has_listed listed Modify = listed.modify
-has_listed listed privilege.List = listed.list
-has_listed listed Listen = listed.listen
+abbrev pub lists_privilege : Listed → Privilege → Bool
+lists_privilege listed Modify = listed.modify
+lists_privilege listed privilege.List = listed.list
+lists_privilege listed Listen = listed.listen
 
 -- what some of the words give, as in an access file
-abbrev pub given_by : Section → List (List ℕ) → Listed
-given_by section words = record {
+abbrev pub words_give : Section → List (List ℕ) → Listed
+words_give section words = record {
   modify = list_any (gives section Modify) words;
   list = list_any (gives section privilege.List) words;
   listen = list_any (gives section Listen) words;
@@ -31,9 +31,9 @@ given_by section words = record {
 pub record IsList (section : Section) (text : List ℕ) (listed : Listed) : Type 0 where
   pub parts : List (List ℕ)
   pub words : List (List ℕ)
-  pub are_parts : AreParts text parts
+  pub are_parts : AreCommaParts text parts
   pub are_privileges : ArePrivileges section parts words
-  pub gives : listed ≡ given_by section words
+  pub gives : listed ≡ words_give section words
 
 -- whether a part gives a privilege, with blanks about it
 abbrev pub part_gives : Section → Privilege → List ℕ → Bool
@@ -54,5 +54,5 @@ given_by_parts section parts = record {
 -- what a list gives, where each of its parts gives something
 abbrev pub list_read : Section → List ℕ → Option Listed
 list_read section text =
-    if list_all (part_gives_some section) (parts_of text)
-    then Some (given_by_parts section (parts_of text)) else None
+    if list_all (part_gives_some section) (comma_parts text)
+    then Some (given_by_parts section (comma_parts text)) else None

@@ -2,23 +2,23 @@
 ghost use Rattle.std.specs.Prelude.{◌≡◌, ◌≢◌, ◌≤◌, ℕ, List, Option, Some, length};
 ghost use Rattle.std.specs.Io.KnownBytes.{IsAtEnd};
 ghost use Rattle.ug_types.specs.Ends.{Rose};
-ghost use Rattle.ug_console.specs.Statuses.{status_of};
-ghost use Rattle.ug_console.specs.WholeInputs.{input_limit};
-ghost use Rattle.ug_console.specs.declared.results.Ended.{Ended};
-ghost use Rattle.ug_users.specs.Adding.{Answers, Completes, Tells};
+ghost use Rattle.ug_command_io.specs.Statuses.{status_of};
+ghost use Rattle.ug_command_io.specs.WholeInputs.{input_limit};
+ghost use Rattle.ug_command_io.specs.declared.results.Ended.{Ended};
+ghost use Rattle.ug_users.specs.Adding.{AnswersAdding, CompletesAdding, TellsAdding};
 
 use crate::asked::Asked;
 use crate::fault_line::line_of_bad_access;
 use crate::uniting::unite;
 use std::alloc::Global;
-use ug_console::{Ended, INPUT_LIMIT, read_input, refuse_input, status, write_result};
+use ug_command_io::{Ended, INPUT_LIMIT, read_input, refuse_input, status, write_result};
 use ug_types::{FileFault, Sink, Source};
 
 /// Writes the bytes of an input, whose end was reached, with what is asked for.
 fn write_united<K: Sink>(alloc: Global, asked: &Asked, bytes: &[u8], out: &mut K) -> Ended
     requires { length bytes.now ≤ input_limit }
     ensures told { (left : Option (List ℕ)) → IsAtEnd left
-        → Tells asked.now bytes.now left (K.held out.old) (K.held out.new) result }
+        → TellsAdding asked.now bytes.now left (K.held out.old) (K.held out.new) result }
     ensures not_read { result ≢ Ended.ReadFault }
     ensures cause { result ≡ Ended.WriteFault → Rose (K.faults out.old) (K.faults out.new) }
 {
@@ -39,7 +39,7 @@ fn add_to_input<S: Source, K: Sink>(
     input: &mut S,
     out: &mut K,
 ) -> Ended
-    ensures told { Completes asked.now (S.left input.old) (S.left input.new) (K.held out.old)
+    ensures told { CompletesAdding asked.now (S.left input.old) (S.left input.new) (K.held out.old)
         (K.held out.new) result }
     ensures read { result ≡ Ended.ReadFault → Rose (S.faults input.old) (S.faults input.new) }
     ensures written { result ≡ Ended.WriteFault → Rose (K.faults out.old) (K.faults out.new) }
@@ -58,7 +58,7 @@ fn add_to_input<S: Source, K: Sink>(
 pub fn add_user<S: Source, K: Sink>(alloc: Global, asked: &Asked, input: &mut S, out: &mut K) -> u8
     ensures answers { (all : List ℕ) (base : List ℕ) → S.left input.old ≡ Some all
         → K.held out.old ≡ Some base
-        → Answers asked.now all base (S.left input.new) (K.held out.new) result }
+        → AnswersAdding asked.now all base (S.left input.new) (K.held out.new) result }
     ensures read { result ≡ 4 → Rose (S.faults input.old) (S.faults input.new) }
     ensures written { result ≡ 5 → Rose (K.faults out.old) (K.faults out.new) }
     ensures others { (ended : Ended) × (result ≡ status_of ended) }

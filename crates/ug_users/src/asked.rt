@@ -1,6 +1,6 @@
 // What is asked for.
 ghost use Rattle.std.specs.Prelude.{◌≡◌};
-ghost use Rattle.ug_acl.specs.Pairs.{holds};
+ghost use Rattle.ug_acl.specs.Pairs.{holds_privilege};
 ghost use Rattle.ug_users.specs.Asking.{listed_in, pairs_asked};
 
 use crate::lists::{Listed, is_privilege};
@@ -29,7 +29,7 @@ impl Asked {
 
     /// Whether the privilege is asked for.
     pub fn has(&self, section: Section, privilege: Privilege) -> bool
-        ensures { result ≡ holds (pairs_asked self.now) section privilege }
+        ensures { result ≡ holds_privilege (pairs_asked self.now) section privilege }
     {
         self.in_section(section).has(privilege) && is_privilege(section, privilege)
     }

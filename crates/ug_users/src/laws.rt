@@ -5,7 +5,7 @@ ghost use Rattle.ug_acl.specs.Pairs.{Pair, all_pairs};
 ghost use Rattle.ug_acl.specs.Texts.{access_read};
 ghost use Rattle.ug_users.specs.Adding.{IsUnited};
 ghost use Rattle.ug_users.specs.Asking.{listed_in, pairs_asked, united};
-ghost use Rattle.ug_users.specs.Lists.{IsList, has_listed, list_read};
+ghost use Rattle.ug_users.specs.Lists.{IsList, lists_privilege, list_read};
 
 use crate::asked::Asked;
 use crate::lists::Listed;
@@ -16,7 +16,7 @@ pub fn lists_law()
     ensures is { (section : Section) (text : List ℕ) (listed : Listed)
         → (list_read section text ≡ Some listed) ↔ IsList section text listed }
     ensures own { (section : Section) (text : List ℕ) (listed : Listed) (privilege : Privilege)
-        → IsList section text listed → IsTrue (has_listed listed privilege)
+        → IsList section text listed → IsTrue (lists_privilege listed privilege)
         → Has all_pairs (section, privilege) }
 {}
 
@@ -24,7 +24,7 @@ pub fn lists_law()
 pub fn asked_law()
     ensures { (asked : Asked) (section : Section) (privilege : Privilege)
         → Has (pairs_asked asked) (section, privilege)
-        ↔ (IsTrue (has_listed (listed_in asked section) privilege)
+        ↔ (IsTrue (lists_privilege (listed_in asked section) privilege)
         × Has all_pairs (section, privilege)) }
 {}
 

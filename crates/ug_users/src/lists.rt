@@ -1,8 +1,8 @@
 // Lists of privileges, as the options of add-user have them.
 ghost use Rattle.std.specs.Prelude.{◌≡◌};
 ghost use Rattle.std.specs.List.{list_all, list_any};
-ghost use Rattle.ug_acl.specs.Lines.{parts_of};
-ghost use Rattle.ug_acl.specs.Pairs.{all_pairs, holds};
+ghost use Rattle.ug_acl.specs.Lines.{comma_parts};
+ghost use Rattle.ug_acl.specs.Pairs.{all_pairs, holds_privilege};
 ghost use Rattle.ug_acl.specs.Words.{gives};
 ghost use Rattle.ug_users.specs.Lists as lists;
 ghost use Rattle.ug_users.specs.Lists.{list_read};
@@ -32,7 +32,7 @@ impl Listed {
     }
 
     pub fn has(self, privilege: Privilege) -> bool
-        ensures { result ≡ lists.has_listed self privilege }
+        ensures { result ≡ lists.lists_privilege self privilege }
     {
         match privilege {
             Privilege::Modify => self.modify,
@@ -44,7 +44,7 @@ impl Listed {
 
 /// Whether the section has the privilege at all.
 pub fn is_privilege(section: Section, privilege: Privilege) -> bool
-    ensures { result ≡ holds all_pairs section privilege }
+    ensures { result ≡ holds_privilege all_pairs section privilege }
 {
     Grants::all().has(section, privilege)
 }
@@ -72,14 +72,14 @@ fn part_gives_some(section: Section, part: &[u8]) -> bool
 }
 
 fn each_part_gives(section: Section, word: &[u8]) -> bool
-    ensures { result ≡ list_all (lists.part_gives_some section) (parts_of word.now) }
+    ensures { result ≡ list_all (lists.part_gives_some section) (comma_parts word.now) }
 {
     word.split(|b| *b == b',')
         .all(|part| part_gives_some(section, part))
 }
 
 fn some_part_gives(section: Section, privilege: Privilege, word: &[u8]) -> bool
-    ensures { result ≡ list_any (lists.part_gives section privilege) (parts_of word.now) }
+    ensures { result ≡ list_any (lists.part_gives section privilege) (comma_parts word.now) }
 {
     word.split(|b| *b == b',')
         .any(|part| part_gives(section, privilege, part))

@@ -1,8 +1,8 @@
 // Privileges as the text of an access file.
 ghost use Rattle.std.specs.Prelude.{◌≡◌, ◌||◌, ◌≤◌, ◌+◌, ◌++◌, length};
-ghost use Rattle.ug_acl.specs.Pairs.{holds};
+ghost use Rattle.ug_acl.specs.Pairs.{holds_privilege};
 ghost use Rattle.ug_acl.specs.Printed as texts;
-ghost use Rattle.ug_acl.specs.Printed.{grant_line, held_in, printed};
+ghost use Rattle.ug_acl.specs.Printed.{grant_line, held_in, grants_text};
 ghost use Rattle.ug_users.specs.Asking.{pairs_asked, united};
 
 use crate::asked::Asked;
@@ -12,15 +12,16 @@ use ug_types::{Line, Privilege, Section};
 
 // Whether the privilege was granted or is asked for.
 fn is_wanted(granted: &Grants, asked: &Asked, section: Section, privilege: Privilege) -> bool
-    ensures { result ≡ holds granted.now section privilege
-        || holds (pairs_asked asked.now) section privilege }
+    ensures { result ≡ holds_privilege granted.now section privilege
+        || holds_privilege (pairs_asked asked.now) section privilege }
 {
     granted.has(section, privilege) || asked.has(section, privilege)
 }
 
 // Whether it is among those that are written.
 fn is_united(granted: &Grants, asked: &Asked, section: Section, privilege: Privilege) -> bool
-    ensures { result ≡ holds (united granted.now (pairs_asked asked.now)) section privilege }
+    ensures { result
+        ≡ holds_privilege (united granted.now (pairs_asked asked.now)) section privilege }
 {
     is_wanted(granted, asked, section, privilege) && is_privilege(section, privilege)
 }
@@ -70,9 +71,9 @@ fn push_section(line: &mut Line, section: Section, words: &[u8])
 }
 
 /// The text of an access file with what was granted and what is asked for.
-#[tactic(auto, unfolding(ug_acl::specs::Printed::printed))]
+#[tactic(auto, unfolding(ug_acl::specs::Printed::grants_text))]
 pub fn print_united(granted: &Grants, asked: &Asked) -> Line
-    ensures { result ≡ printed (united granted.now (pairs_asked asked.now)) }
+    ensures { result ≡ grants_text (united granted.now (pairs_asked asked.now)) }
 {
     let mut text = Line::new();
     push_section(

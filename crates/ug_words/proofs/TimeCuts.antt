@@ -13,7 +13,7 @@ use Rattle.ug_words.specs.declared.words.Clock.{Clock}
 use Rattle.ug_words.specs.declared.words.Clock.TheVariants.{Minute, Second}
 use Rattle.ug_words.specs.declared.words.DaySpan.{DaySpan}
 use Rattle.ug_words.specs.WordGrammar.{IsDecimal, NoLeadingZero, IsPart, IsMinute, IsTime, span_with, IsSpan, One, Range, IsPast, Time, Seconds, IsChance, Never, Always, Fraction}
-use Rattle.ug_words.specs.Words.{has_colon_at, with_digit, digits_of, number_of, up_to, part_of, minute_from, minute_of_hours, minute_of, time_at, second_from, second_of_minute, time_of, first_second, last_second, span_from, span_of_begin, span_at, span_by_dash, span_of, seconds_of_time, past_of, zero_point, billionths_of, chance_of}
+use Rattle.ug_words.specs.Words.{has_colon_at, with_decimal_digit, digits_of, decimal_of, number_up_to, part_of, minute_from, minute_of_hours, minute_of, time_at, second_from, second_of_minute, time_of, first_second, last_second, span_from, span_of_begin, span_at, span_by_dash, span_of, seconds_of_time, past_of, zero_point, billionths_of, chance_of}
 use Rattle.ug_words.proofs.Tests.{by_test}
 use Rattle.ug_words.proofs.Digits.{fold-none}
 use Rattle.ug_words.proofs.WordCuts.{same_some, colon_cut}
@@ -33,7 +33,7 @@ record IsStep (m b k : ℕ) : Type 0 where
   is : k ≡ m * 10 + digit
   small : k ≤ 4294967295
 
-step_cut : (m b k : ℕ) → with_digit (Some m) b ≡ Some k → IsStep m b k
+step_cut : (m b k : ℕ) → with_decimal_digit (Some m) b ≡ Some k → IsStep m b k
 step_cut m b k h = elim (by_test (nat_le 48 b && nat_le b 57 && nat_le (m * 10 + (b - 48)) 4294967295) (Some (m * 10 + (b - 48))) None (Some k) h) [
   | inl p ↦
       let e : m * 10 + (b - 48) ≡ k = same_some (m * 10 + (b - 48)) k p.1 in
@@ -41,7 +41,7 @@ step_cut m b k h = elim (by_test (nat_le 48 b && nat_le b 57 && nat_le (m * 10 +
   | inr p ↦ let none : ⊥ = cc in absurd none
 ]
 
-step_reads : (m d : ℕ) → d ≤ 9 → m * 10 + d ≤ 4294967295 → with_digit (Some m) (48 + d) ≡ Some (m * 10 + d)
+step_reads : (m d : ℕ) → d ≤ 9 → m * 10 + d ≤ 4294967295 → with_decimal_digit (Some m) (48 + d) ≡ Some (m * 10 + d)
 step_reads m d h k =
     let same : 48 + d - 48 ≡ d = omega arith in
     let t : (nat_le 48 (48 + d) && nat_le (48 + d) 57 && nat_le (m * 10 + (48 + d - 48)) 4294967295) ≡ true = grind (arith, nat_tests) in
@@ -62,21 +62,21 @@ some_digit m k n b text s r = record {
   is = r.is ∙ ap (λ m. fold onto m r.digits) s.is;
 }
 
-no_digit : (m n b : ℕ) (text : List ℕ) → fold with_digit None text ≡ Some n → Behind m n (b ∷ text)
+no_digit : (m n b : ℕ) (text : List ℕ) → fold with_decimal_digit None text ≡ Some n → Behind m n (b ∷ text)
 no_digit m n b text h =
     let s : None ≡ Some n = sym (fold-none text) ∙ h in
     let none : ⊥ = cc in
     absurd none
 
-digits_behind : (m n : ℕ) (text : List ℕ) → fold with_digit (Some m) text ≡ Some n → Behind m n text
+digits_behind : (m n : ℕ) (text : List ℕ) → fold with_decimal_digit (Some m) text ≡ Some n → Behind m n text
 digits_behind m n [] h = record { digits = []; cut = refl; fit = tt; is = sym (same_some m n h) }
 digits_behind m n (b ∷ text) h =
-    let T : Option ℕ → Type 0 = λ o. with_digit (Some m) b ≡ o → fold with_digit o text ≡ Some n → Behind m n (b ∷ text) in
+    let T : Option ℕ → Type 0 = λ o. with_decimal_digit (Some m) b ≡ o → fold with_decimal_digit o text ≡ Some n → Behind m n (b ∷ text) in
     let f : (o : Option ℕ) → T o = λ o. elim o as T [
       | None ↦ λ e q. no_digit m n b text q
       | Some k ↦ λ e q. some_digit m k n b text (step_cut m b k e) (digits_behind k n text q)
     ] in
-    f (with_digit (Some m) b) refl h
+    f (with_decimal_digit (Some m) b) refl h
 
 decimal_cut : (n : ℕ) (text : List ℕ) → digits_of text ≡ Some n → IsDecimal n text
 decimal_cut n text h =
@@ -88,11 +88,11 @@ fold_grows : (m : ℕ) (digits : List ℕ) → m ≤ fold onto m digits
 fold_grows m [] = omega arith
 fold_grows m (d ∷ digits) = let h : m * 10 + d ≤ fold onto (m * 10 + d) digits = fold_grows (m * 10 + d) digits in omega arith
 
-digits_read : (m : ℕ) (digits : List ℕ) → AllByRecursion IsDigit digits → fold onto m digits ≤ 4294967295 → fold with_digit (Some m) (map (λ d. 48 + d) digits) ≡ Some (fold onto m digits)
+digits_read : (m : ℕ) (digits : List ℕ) → AllByRecursion IsDigit digits → fold onto m digits ≤ 4294967295 → fold with_decimal_digit (Some m) (map (λ d. 48 + d) digits) ≡ Some (fold onto m digits)
 digits_read m [] f h = refl
 digits_read m (d ∷ digits) f h =
     let less : m * 10 + d ≤ fold onto (m * 10 + d) digits = fold_grows (m * 10 + d) digits in
-    ap (λ o. fold with_digit o (map (λ d. 48 + d) digits)) (step_reads m d f.0 (omega arith)) ∙ digits_read (m * 10 + d) digits f.1 h
+    ap (λ o. fold with_decimal_digit o (map (λ d. 48 + d) digits)) (step_reads m d f.0 (omega arith)) ∙ digits_read (m * 10 + d) digits f.1 h
 
 decimal_reads : (n : ℕ) (text : List ℕ) → IsDecimal n text → n ≤ 4294967295 → digits_of text ≡ Some n
 decimal_reads n text d h =
@@ -106,7 +106,7 @@ two_bytes (a ∷ []) h = absurd (omega (arith, h))
 two_bytes (a ∷ b ∷ []) h = (a, b, refl)
 two_bytes (a ∷ b ∷ c ∷ text) h = absurd (omega (arith, h))
 
-up_to_cut : (most n : ℕ) (o : Option ℕ) → up_to most o ≡ Some n → (o ≡ Some n) × (n ≤ most)
+up_to_cut : (most n : ℕ) (o : Option ℕ) → number_up_to most o ≡ Some n → (o ≡ Some n) × (n ≤ most)
 up_to_cut most n None h = let none : ⊥ = cc in absurd none
 up_to_cut most n (Some m) h = elim (by_test (nat_le m most) (Some m) None (Some n) h) [
   | inl p ↦ let e : m ≡ n = same_some m n p.1 in (ap Some e, grind (arith, nat_tests, p.0, e))
@@ -115,7 +115,7 @@ up_to_cut most n (Some m) h = elim (by_test (nat_le m most) (Some m) None (Some 
 
 part_cut : (most n : ℕ) (text : List ℕ) → part_of most text ≡ Some n → IsPart most n text
 unfolding part_of
-part_cut most n text h = elim (by_test (nat_eq (length text) 2) (up_to most (digits_of text)) None (Some n) h) [
+part_cut most n text h = elim (by_test (nat_eq (length text) 2) (number_up_to most (digits_of text)) None (Some n) h) [
   | inl p ↦
       let u = up_to_cut most n (digits_of text) p.1 in
       record { decimal = decimal_cut n text u.0; two = grind (arith, nat_tests, p.0); fits = u.1 }
@@ -136,8 +136,8 @@ part_reads most n text p =
     let fits : nat_le n most ≡ true = grind (arith, nat_tests, p.fits) in
     let long : length d.digits ≡ 2 = sym (length-map d.digits (λ d. 48 + d)) ∙ sym (ap length d.cut) ∙ p.two in
     let small : n ≤ 4294967295 = omega (arith, two_digits n d.digits long d.fit d.is) in
-    ap (λ (b : Bool). if b then up_to most (digits_of text) else None) two
-    ∙ (ap (λ o. up_to most o) (decimal_reads n text p.decimal small)
+    ap (λ (b : Bool). if b then number_up_to most (digits_of text) else None) two
+    ∙ (ap (λ o. number_up_to most o) (decimal_reads n text p.decimal small)
     ∙ ap (λ (b : Bool). if b then Some n else None) fits)
 
 -- ---- times
@@ -335,15 +335,15 @@ past_time_cut : (n : ℕ) (text : List ℕ) (o : Option Clock) → time_of 99 te
 past_time_cut n text None e h = let none : ⊥ = cc in absurd none
 past_time_cut n text (Some time) e h = subst (λ n. IsPast n text) (same_some (first_second time) n h) (Time time text (time_cut 99 time text e))
 
-digits_small : (m n : ℕ) (text : List ℕ) → m ≤ 4294967295 → fold with_digit (Some m) text ≡ Some n → n ≤ 4294967295
+digits_small : (m n : ℕ) (text : List ℕ) → m ≤ 4294967295 → fold with_decimal_digit (Some m) text ≡ Some n → n ≤ 4294967295
 digits_small m n [] l h = omega (arith, same_some m n h)
 digits_small m n (b ∷ text) l h =
-    let T : Option ℕ → Type 0 = λ o. with_digit (Some m) b ≡ o → fold with_digit o text ≡ Some n → n ≤ 4294967295 in
+    let T : Option ℕ → Type 0 = λ o. with_decimal_digit (Some m) b ≡ o → fold with_decimal_digit o text ≡ Some n → n ≤ 4294967295 in
     let f : (o : Option ℕ) → T o = λ o. elim o as T [
       | None ↦ λ e q. let s : None ≡ Some n = sym (fold-none text) ∙ q in let none : ⊥ = cc in absurd none
       | Some k ↦ λ e q. digits_small k n text (let s : IsStep m b k = step_cut m b k e in s.small) q
     ] in
-    f (with_digit (Some m) b) refl h
+    f (with_decimal_digit (Some m) b) refl h
 
 first_plain : (n : ℕ) (text : List ℕ) → nat_eq (length text) 0 ≡ false → nat_eq (get_or text 0 0) 48 ≡ false → IsDecimal n text → NoLeadingZero text
 first_plain n [] l z d = let none : ⊥ = cc in absurd none
@@ -362,8 +362,8 @@ zero_cut (b ∷ c ∷ bytes) z l = absurd (grind (arith, nat_tests, l))
 zero_alone : IsDecimal 0 (48 ∷ [])
 zero_alone = record { digits = 0 ∷ []; cut = refl; fit = (omega arith, tt); is = refl }
 
-number_cut : (n : ℕ) (text : List ℕ) → number_of text ≡ Some n → IsPast n text
-unfolding number_of
+number_cut : (n : ℕ) (text : List ℕ) → decimal_of text ≡ Some n → IsPast n text
+unfolding decimal_of
 number_cut n text h = elim (by_test (nat_eq (length text) 0) None (if nat_eq (get_or text 0 0) 48 then if nat_eq (length text) 1 then Some 0 else None else digits_of text) (Some n) h) [
   | inl p ↦ let none : ⊥ = cc in absurd none
   | inr p ↦ elim (by_test (nat_eq (get_or text 0 0) 48) (if nat_eq (length text) 1 then Some 0 else None) (digits_of text) (Some n) p.1) [
@@ -379,7 +379,7 @@ number_cut n text h = elim (by_test (nat_eq (length text) 0) None (if nat_eq (ge
 
 pub past_cut : (n : ℕ) (text : List ℕ) → past_of text ≡ Some n → IsPast n text
 unfolding past_of
-past_cut n text h = elim (by_test (has_colon_at 2 text) (seconds_of_time (time_of 99 text)) (number_of text) (Some n) h) [
+past_cut n text h = elim (by_test (has_colon_at 2 text) (seconds_of_time (time_of 99 text)) (decimal_of text) (Some n) h) [
   | inl p ↦ past_time_cut n text (time_of 99 text) refl p.1
   | inr p ↦ number_cut n text p.1
 ]
@@ -401,8 +401,8 @@ no_colon n text d = ap (has_colon_at 2) d.cut ∙ by d.digits d.fit
     by (a ∷ b ∷ []) f = refl
     by (a ∷ b ∷ c ∷ digits) f = grind (arith, nat_tests, f.1.1.0)
 
-number_reads : (n : ℕ) (text : List ℕ) → NoLeadingZero text → digits_of text ≡ Some n → number_of text ≡ Some n
-unfolding number_of
+number_reads : (n : ℕ) (text : List ℕ) → NoLeadingZero text → digits_of text ≡ Some n → decimal_of text ≡ Some n
+unfolding decimal_of
 number_reads n [] z h = absurd z
 number_reads n (b ∷ []) z h = by (nat_eq b 48) refl
   where
@@ -419,19 +419,19 @@ number_reads n (b ∷ c ∷ bytes) z h =
 pub past_reads : (n : ℕ) (text : List ℕ) → IsPast n text → past_of text ≡ Some n
 unfolding past_of
 past_reads n text (Time time word t) =
-    ap (λ (b : Bool). if b then seconds_of_time (time_of 99 text) else number_of text) (time_colon 99 time text t) ∙ ap seconds_of_time (time_reads 99 time text t)
+    ap (λ (b : Bool). if b then seconds_of_time (time_of 99 text) else decimal_of text) (time_colon 99 time text t) ∙ ap seconds_of_time (time_reads 99 time text t)
 past_reads n text (Seconds m word d z h) =
-    ap (λ (b : Bool). if b then seconds_of_time (time_of 99 text) else number_of text) (no_colon n text d) ∙ number_reads n text z (decimal_reads n text d h)
+    ap (λ (b : Bool). if b then seconds_of_time (time_of 99 text) else decimal_of text) (no_colon n text d) ∙ number_reads n text z (decimal_reads n text d h)
 
 -- ---- probabilities
 
 ten_times : (n k : ℕ) → (n * 10) * 10 ^ k ≡ n * 10 ^ suc k
 ten_times n k = mul_assoc n 10 (10 ^ k) ∙ ap (λ m. n * m) (sym (pow-succ' 10 k))
 
-zeros_cut : (n m k : ℕ) → fold with_digit (Some n) (replicate k 48) ≡ Some m → m ≡ n * 10 ^ k
+zeros_cut : (n m k : ℕ) → fold with_decimal_digit (Some n) (replicate k 48) ≡ Some m → m ≡ n * 10 ^ k
 zeros_cut n m zero h = omega (arith, same_some n m h)
 zeros_cut n m (suc k) h =
-    let T : Option ℕ → Type 0 = λ o. with_digit (Some n) 48 ≡ o → fold with_digit o (replicate k 48) ≡ Some m → m ≡ n * 10 ^ suc k in
+    let T : Option ℕ → Type 0 = λ o. with_decimal_digit (Some n) 48 ≡ o → fold with_decimal_digit o (replicate k 48) ≡ Some m → m ≡ n * 10 ^ suc k in
     let f : (o : Option ℕ) → T o = λ o. elim o as T [
       | None ↦ λ e q. let s : None ≡ Some m = sym (fold-none (replicate k 48)) ∙ q in let none : ⊥ = cc in absurd none
       | Some p ↦ λ e q.
@@ -439,9 +439,9 @@ zeros_cut n m (suc k) h =
           let same : p ≡ n * 10 = omega (arith, s.cut, s.is) in
           zeros_cut p m k q ∙ ap (λ p. p * 10 ^ k) same ∙ ten_times n k
     ] in
-    f (with_digit (Some n) 48) refl h
+    f (with_decimal_digit (Some n) 48) refl h
 
-fraction_cut : (n : ℕ) (text : List ℕ) (o : Option ℕ) → digits_of text ≡ o → 0 < length text → length text ≤ 9 → fold with_digit o (replicate (9 - length text) 48) ≡ Some n → IsChance n (codes "0." ++ text)
+fraction_cut : (n : ℕ) (text : List ℕ) (o : Option ℕ) → digits_of text ≡ o → 0 < length text → length text ≤ 9 → fold with_decimal_digit o (replicate (9 - length text) 48) ≡ Some n → IsChance n (codes "0." ++ text)
 fraction_cut n text None e s l h =
     let q : None ≡ Some n = sym (fold-none (replicate (9 - length text) 48)) ∙ h in
     let none : ⊥ = cc in
@@ -452,7 +452,7 @@ billionths_cut : (n : ℕ) (text : List ℕ) → billionths_of text ≡ Some n �
 unfolding billionths_of
 billionths_cut n text h = elim (by_test (nat_eq (length text) 0 || nat_lt 9 (length text)) None (digits_of (text ++ replicate (9 - length text) 48)) (Some n) h) [
   | inl p ↦ let none : ⊥ = cc in absurd none
-  | inr p ↦ fraction_cut n text (digits_of text) refl (grind (arith, nat_tests, p.0)) (grind (arith, nat_tests, p.0)) (sym (fold-append with_digit (Some 0) text (replicate (9 - length text) 48)) ∙ p.1)
+  | inr p ↦ fraction_cut n text (digits_of text) refl (grind (arith, nat_tests, p.0)) (grind (arith, nat_tests, p.0)) (sym (fold-append with_decimal_digit (Some 0) text (replicate (9 - length text) 48)) ∙ p.1)
 ]
 
 pub chance_cut : (n : ℕ) (text : List ℕ) → chance_of text ≡ Some n → IsChance n text
@@ -477,13 +477,13 @@ fold_below m (d ∷ digits) f =
     let more : (m * 10 + d + 1) * 10 ^ length digits ≤ ((m + 1) * 10) * 10 ^ length digits = mul-le-mul_right (10 ^ length digits) (omega (arith, f.0)) in
     omega (arith, rest, more, ten_times (m + 1) (length digits))
 
-zeros_read : (n k : ℕ) → n * 10 ^ k ≤ 4294967295 → fold with_digit (Some n) (replicate k 48) ≡ Some (n * 10 ^ k)
+zeros_read : (n k : ℕ) → n * 10 ^ k ≤ 4294967295 → fold with_decimal_digit (Some n) (replicate k 48) ≡ Some (n * 10 ^ k)
 zeros_read n zero h = ap Some (let e : n ≡ n * 10 ^ 0 = omega arith in e)
 zeros_read n (suc k) h =
     let one : 1 ≤ 10 ^ k = one-le-pow k 10 (omega arith) in
     let same : n * 10 ^ suc k ≡ (n * 10 + 0) * 10 ^ k = let e : n * 10 + 0 ≡ n * 10 = omega arith in sym (ten_times n k) ∙ ap (λ m. m * 10 ^ k) (sym e) in
     let less : (n * 10 + 0) * 1 ≤ (n * 10 + 0) * 10 ^ k = mul-le-mul_left (n * 10 + 0) one in
-    ap (λ o. fold with_digit o (replicate k 48)) (step_reads n 0 (omega arith) (omega (arith, less, same, h)))
+    ap (λ o. fold with_decimal_digit o (replicate k 48)) (step_reads n 0 (omega arith) (omega (arith, less, same, h)))
     ∙ zeros_read (n * 10 + 0) k (omega (arith, same, h)) ∙ ap Some (sym same)
 
 billionths_read : (n : ℕ) (text : List ℕ) → IsDecimal n text → 0 < length text → length text ≤ 9 → billionths_of text ≡ Some (n * 10 ^ (9 - length text))
@@ -499,8 +499,8 @@ billionths_read n text d s l =
     let least : n * 1 ≤ n * 10 ^ (9 - length text) = mul-le-mul_left n one in
     let small : n * 10 ^ (9 - length text) ≤ 4294967295 = omega (arith, less, all) in
     ap (λ (b : Bool). if b then None else digits_of (text ++ replicate (9 - length text) 48)) t
-    ∙ (fold-append with_digit (Some 0) text (replicate (9 - length text) 48)
-    ∙ (ap (λ o. fold with_digit o (replicate (9 - length text) 48)) (decimal_reads n text d (omega (arith, least, small)))
+    ∙ (fold-append with_decimal_digit (Some 0) text (replicate (9 - length text) 48)
+    ∙ (ap (λ o. fold with_decimal_digit o (replicate (9 - length text) 48)) (decimal_reads n text d (omega (arith, least, small)))
     ∙ zeros_read n (9 - length text) small))
 
 fraction_reads : (n : ℕ) (text : List ℕ) → 0 < length text → billionths_of text ≡ Some n → chance_of (codes "0." ++ text) ≡ Some n

@@ -39,17 +39,24 @@ id_with vendor product = record { vendor = vendor; product = product }
 -- `*:*`, `vvvv:*` or `vvvv:pppp`
 pub data IsId : Id → List ℕ → Type 0 where
   Any : IsId (id_with None None) (codes "*:*")
-  OfVendor : (v : ℕ) (vendor : List ℕ) → IsFour v vendor → IsId (id_with (Some v) None) (vendor ++ codes ":*")
-  Exact : (v p : ℕ) (vendor product : List ℕ) → IsFour v vendor → IsFour p product → IsId (id_with (Some v) (Some p)) (vendor ++ (codes ":" ++ product))
+  OfVendor : (v : ℕ) (vendor : List ℕ) → IsFour v vendor
+      → IsId (id_with (Some v) None) (vendor ++ codes ":*")
+  Exact : (v p : ℕ) (vendor product : List ℕ) → IsFour v vendor → IsFour p product
+      → IsId (id_with (Some v) (Some p)) (vendor ++ (codes ":" ++ product))
 
 abbrev pub interface_with : ℕ → Option ℕ → Option ℕ → Iface
-interface_with class subclass protocol = record { class = class; subclass = subclass; protocol = protocol }
+interface_with class subclass protocol =
+    record { class = class; subclass = subclass; protocol = protocol }
 
 -- `cc:*:*`, `cc:ss:*` or `cc:ss:pp`
 pub data IsInterface : Iface → List ℕ → Type 0 where
-  OfClass : (c : ℕ) (class : List ℕ) → IsTwo c class → IsInterface (interface_with c None None) (class ++ codes ":*:*")
-  OfSubclass : (c s : ℕ) (class subclass : List ℕ) → IsTwo c class → IsTwo s subclass → IsInterface (interface_with c (Some s) None) (class ++ (codes ":" ++ (subclass ++ codes ":*")))
-  OfProtocol : (c s p : ℕ) (class subclass protocol : List ℕ) → IsTwo c class → IsTwo s subclass → IsTwo p protocol → IsInterface (interface_with c (Some s) (Some p)) (class ++ (codes ":" ++ (subclass ++ (codes ":" ++ protocol))))
+  OfClass : (c : ℕ) (class : List ℕ) → IsTwo c class
+      → IsInterface (interface_with c None None) (class ++ codes ":*:*")
+  OfSubclass : (c s : ℕ) (class subclass : List ℕ) → IsTwo c class → IsTwo s subclass → IsInterface
+      (interface_with c (Some s) None) (class ++ (codes ":" ++ (subclass ++ codes ":*")))
+  OfProtocol : (c s p : ℕ) (class subclass protocol : List ℕ) → IsTwo c class → IsTwo s subclass
+      → IsTwo p protocol → IsInterface (interface_with c (Some s) (Some p)) (class
+      ++ (codes ":" ++ (subclass ++ (codes ":" ++ protocol))))
 
 -- ---- decimal numbers
 
@@ -104,15 +111,19 @@ IsTime most (Second n) text = IsSecond most n text
 abbrev pub span_with : ℕ → ℕ → DaySpan
 span_with begin end = record { begin = begin; end = end }
 
--- one time, which is each second of its minute or that second alone, or two times with a dash between
+-- one time, which is each second of its minute or that second alone, or
+-- two times with a dash between
 pub data IsSpan : DaySpan → List ℕ → Type 0 where
-  One : (time : Clock) (text : List ℕ) → IsTime 23 time text → IsSpan (span_with (first_second time) (last_second time)) text
-  Range : (begin end : Clock) (front back : List ℕ) → IsTime 23 begin front → IsTime 23 end back → IsSpan (span_with (first_second begin) (first_second end)) (front ++ (codes "-" ++ back))
+  One : (time : Clock) (text : List ℕ) → IsTime 23 time text
+      → IsSpan (span_with (first_second time) (last_second time)) text
+  Range : (begin end : Clock) (front back : List ℕ) → IsTime 23 begin front → IsTime 23 end back
+      → IsSpan (span_with (first_second begin) (first_second end)) (front ++ (codes "-" ++ back))
 
 -- a time with hours up to 99, or a number of seconds without a leading zero
 pub data IsPast : ℕ → List ℕ → Type 0 where
   Time : (time : Clock) (text : List ℕ) → IsTime 99 time text → IsPast (first_second time) text
-  Seconds : (n : ℕ) (text : List ℕ) → IsDecimal n text → NoLeadingZero text → n ≤ 4294967295 → IsPast n text
+  Seconds : (n : ℕ) (text : List ℕ) → IsDecimal n text → NoLeadingZero text → n ≤ 4294967295
+      → IsPast n text
 
 -- ---- probabilities
 
@@ -120,4 +131,5 @@ pub data IsPast : ℕ → List ℕ → Type 0 where
 pub data IsChance : ℕ → List ℕ → Type 0 where
   Never : IsChance 0 (codes "0")
   Always : IsChance 1000000000 (codes "1")
-  Fraction : (n : ℕ) (text : List ℕ) → IsDecimal n text → 0 < length text → length text ≤ 9 → IsChance (n * 10 ^ (9 - length text)) (codes "0." ++ text)
+  Fraction : (n : ℕ) (text : List ℕ) → IsDecimal n text → 0 < length text → length text ≤ 9
+      → IsChance (n * 10 ^ (9 - length text)) (codes "0." ++ text)

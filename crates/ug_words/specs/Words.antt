@@ -61,51 +61,58 @@ id_of word =
 
 abbrev pub interface_from : ℕ → ℕ → Option ℕ → Option Iface
 interface_from class subclass None = None
-interface_from class subclass (Some protocol) = Some (record { class = class; subclass = Some subclass; protocol = Some protocol })
+interface_from class subclass (Some protocol) =
+    Some (record { class = class; subclass = Some subclass; protocol = Some protocol })
 
 abbrev pub interface_of_subclass : ℕ → Option ℕ → List ℕ → Option Iface
 interface_of_subclass class None text = None
 interface_of_subclass class (Some subclass) text =
-    if pointwise nat_eq text star then Some (record { class = class; subclass = Some subclass; protocol = None })
+    if pointwise nat_eq text star
+    then Some (record { class = class; subclass = Some subclass; protocol = None })
     else interface_from class subclass (two_of text)
 
 abbrev pub interface_of_class : Option ℕ → List ℕ → Option Iface
 interface_of_class None text = None
 interface_of_class (Some class) text =
-    if pointwise nat_eq text two_stars then Some (record { class = class; subclass = None; protocol = None })
-    else if has_colon_at 2 text then interface_of_subclass class (two_of (take 2 text)) (drop 3 text)
+    if pointwise nat_eq text two_stars
+    then Some (record { class = class; subclass = None; protocol = None })
+    else if has_colon_at 2 text
+    then interface_of_subclass class (two_of (take 2 text)) (drop 3 text)
     else None
 
 -- `cc:ss:pp`, `cc:ss:*` or `cc:*:*`
 unfoldable pub interface_of : List ℕ → Option Iface
-interface_of word = if has_colon_at 2 word then interface_of_class (two_of (take 2 word)) (drop 3 word) else None
+interface_of word =
+    if has_colon_at 2 word then interface_of_class (two_of (take 2 word)) (drop 3 word) else None
 
 -- ---- decimal numbers
 
 -- one more decimal digit, up to 2^32 - 1
-abbrev pub with_digit : Option ℕ → ℕ → Option ℕ
-with_digit None b = None
-with_digit (Some n) b = if nat_le 48 b && nat_le b 57 && nat_le (n * 10 + (b - 48)) 4294967295 then Some (n * 10 + (b - 48)) else None
+abbrev pub with_decimal_digit : Option ℕ → ℕ → Option ℕ
+with_decimal_digit None b = None
+with_decimal_digit (Some n) b =
+    if nat_le 48 b && nat_le b 57 && nat_le (n * 10 + (b - 48)) 4294967295
+    then Some (n * 10 + (b - 48)) else None
 
 abbrev pub digits_of : List ℕ → Option ℕ
-digits_of digits = fold with_digit (Some 0) digits
+digits_of digits = fold with_decimal_digit (Some 0) digits
 
 -- a decimal number without a sign or a leading zero, up to 2^32 - 1
-unfoldable pub number_of : List ℕ → Option ℕ
-number_of text =
+unfoldable pub decimal_of : List ℕ → Option ℕ
+decimal_of text =
     if nat_eq (length text) 0 then None
     else if nat_eq (get_or text 0 0) 48 then if nat_eq (length text) 1 then Some 0 else None
     else digits_of text
 
 -- ---- times
 
-abbrev pub up_to : ℕ → Option ℕ → Option ℕ
-up_to most None = None
-up_to most (Some n) = if nat_le n most then Some n else None
+abbrev pub number_up_to : ℕ → Option ℕ → Option ℕ
+number_up_to most None = None
+number_up_to most (Some n) = if nat_le n most then Some n else None
 
 -- two decimal digits, up to a number
 unfoldable pub part_of : ℕ → List ℕ → Option ℕ
-part_of most text = if nat_eq (length text) 2 then up_to most (digits_of text) else None
+part_of most text = if nat_eq (length text) 2 then number_up_to most (digits_of text) else None
 
 abbrev pub minute_from : ℕ → Option ℕ → Option ℕ
 minute_from hours None = None
@@ -117,7 +124,8 @@ minute_of_hours (Some hours) text = minute_from hours (part_of 59 text)
 
 -- `HH:MM` as seconds
 unfoldable pub minute_of : ℕ → List ℕ → Option ℕ
-minute_of most text = if has_colon_at 2 text then minute_of_hours (part_of most (take 2 text)) (drop 3 text) else None
+minute_of most text =
+    if has_colon_at 2 text then minute_of_hours (part_of most (take 2 text)) (drop 3 text) else None
 
 abbrev pub time_at : Option ℕ → Option Clock
 time_at None = None
@@ -171,7 +179,7 @@ seconds_of_time (Some time) = Some (first_second time)
 
 -- a time with hours up to 99, or a number of seconds
 unfoldable pub past_of : List ℕ → Option ℕ
-past_of text = if has_colon_at 2 text then seconds_of_time (time_of 99 text) else number_of text
+past_of text = if has_colon_at 2 text then seconds_of_time (time_of 99 text) else decimal_of text
 
 -- ---- probabilities
 

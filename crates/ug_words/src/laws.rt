@@ -2,7 +2,7 @@
 ghost use Rattle.std.specs.Prelude.{◌≡◌, ◌↔◌, ℕ, ◌<◌, ◌^◌, List, Some, codes, decimal, true};
 ghost use Rattle.ug_words.specs.declared.words.Clock.{Clock};
 ghost use Rattle.ug_words.specs.declared.words.DaySpan.{DaySpan};
-ghost use Rattle.ug_hex.specs.Digits.{hex_four, hex_two};
+ghost use Rattle.ug_numerals.specs.Digits.{hex_four, hex_two};
 ghost use Rattle.ug_types.specs.Targets.{target_of};
 ghost use Rattle.ug_types.specs.declared.rule.Op.TheVariants as operator;
 ghost use Rattle.ug_types.specs.declared.verdict.Target.TheVariants as target;
@@ -10,7 +10,7 @@ ghost use Rattle.ug_words.specs.Keywords.{IsSpelled, attribute_of, condition_of,
 ghost use Rattle.ug_words.specs.declared.keywords.Attr.TheVariants as attr;
 ghost use Rattle.ug_words.specs.declared.keywords.CondName.TheVariants as name;
 ghost use Rattle.ug_words.specs.WordGrammar.{IsChance, IsId, IsInterface, IsPast, IsSpan, IsTime};
-ghost use Rattle.ug_words.specs.Words.{chance_of, four_of, id_of, interface_of, number_of, past_of, span_of, time_of, two_of};
+ghost use Rattle.ug_words.specs.Words.{chance_of, four_of, id_of, interface_of, decimal_of, past_of, span_of, time_of, two_of};
 
 use ug_types::{Id, Iface};
 
@@ -18,9 +18,12 @@ use ug_types::{Id, Iface};
 /// parts stand as usbguard-rules.conf(5) writes them.
 pub fn words_law()
     ensures ids { (id : Id) (word : List ℕ) → (id_of word ≡ Some id) ↔ IsId id word }
-    ensures interfaces { (iface : Iface) (word : List ℕ) → (interface_of word ≡ Some iface) ↔ IsInterface iface word }
-    ensures times { (most : ℕ) (time : Clock) (word : List ℕ) → (time_of most word ≡ Some time) ↔ IsTime most time word }
-    ensures spans { (span : DaySpan) (word : List ℕ) → (span_of word ≡ Some span) ↔ IsSpan span word }
+    ensures interfaces { (iface : Iface) (word : List ℕ) → (interface_of word ≡ Some iface)
+        ↔ IsInterface iface word }
+    ensures times { (most : ℕ) (time : Clock) (word : List ℕ) → (time_of most word ≡ Some time)
+        ↔ IsTime most time word }
+    ensures spans { (span : DaySpan) (word : List ℕ) → (span_of word ≡ Some span)
+        ↔ IsSpan span word }
     ensures pasts { (n : ℕ) (word : List ℕ) → (past_of word ≡ Some n) ↔ IsPast n word }
     ensures probabilities { (n : ℕ) (word : List ℕ) → (chance_of word ≡ Some n) ↔ IsChance n word }
 {}
@@ -29,7 +32,7 @@ pub fn words_law()
 pub fn digits_law()
     ensures two { (n : ℕ) → n < 2 ^ 8 → two_of (hex_two n) ≡ Some n }
     ensures four { (n : ℕ) → n < 2 ^ 16 → four_of (hex_four n) ≡ Some n }
-    ensures number { (n : ℕ) → n < 2 ^ 32 → number_of (decimal n) ≡ Some n }
+    ensures number { (n : ℕ) → n < 2 ^ 32 → decimal_of (decimal n) ≡ Some n }
 {}
 
 /// Each operator has one word.

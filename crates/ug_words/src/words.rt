@@ -1,7 +1,7 @@
 // Numbers and times in the words of a rule.
 ghost use Rattle.std.specs.Prelude.{◌≡◌, ◌≤◌, nat_eq, Some, IfSome};
 ghost use Rattle.std.specs.List.{position};
-ghost use Rattle.ug_words.specs.Words.{two_of, four_of, has_colon_at, id_of, id_of_vendor, interface_of, interface_of_class, interface_of_subclass, with_digit, digits_of, number_of, part_of, minute_of, time_of, first_second, last_second, span_of, past_of, billionths_of, chance_of};
+ghost use Rattle.ug_words.specs.Words.{two_of, four_of, has_colon_at, id_of, id_of_vendor, interface_of, interface_of_class, interface_of_subclass, with_decimal_digit, digits_of, decimal_of, part_of, minute_of, time_of, first_second, last_second, span_of, past_of, billionths_of, chance_of};
 
 use hex::FromHex;
 use ug_types::{Id, Iface};
@@ -148,7 +148,7 @@ pub fn interface(word: &[u8]) -> Option<Iface>
 }
 
 fn digit_onto(number: u32, byte: u8) -> Option<u32>
-    ensures { result ≡ with_digit (Some number) byte }
+    ensures { result ≡ with_decimal_digit (Some number) byte }
 {
     if byte < b'0' {
         return None;
@@ -177,9 +177,9 @@ fn digits(digits: &[u8]) -> Option<u32>
 }
 
 /// A decimal number without a sign or a leading zero, up to 4,294,967,295.
-#[tactic(auto, unfolding(crate::specs::Words::number_of))]
+#[tactic(auto, unfolding(crate::specs::Words::decimal_of))]
 fn number(text: &[u8]) -> Option<u32>
-    ensures { result ≡ number_of text.now }
+    ensures { result ≡ decimal_of text.now }
 {
     if text.is_empty() {
         return None;

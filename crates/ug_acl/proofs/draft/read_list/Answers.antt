@@ -1,7 +1,7 @@
 use Rattle.std.proofs.Common.{◌≡◌, ◌+◌, ◌<◌, [], length, drop, map, slice_index_or, Bor, sym, ap, ◌∙◌, arith, List, ℕ}
 use Rattle.std.proofs.lemmas.List.{drop_all}
 use Rattle.ug_acl.specs.Grammar.{width_of}
-use Rattle.ug_acl.specs.Lines.{parts_of, parts_read}
+use Rattle.ug_acl.specs.Lines.{comma_parts, parts_read}
 use Rattle.ug_acl.proofs.Parts.{parts_width}
 use Rattle.ug_acl.proofs.PartSteps.{with_held, nothing_before, goes_on, stops, ends, next_slice}
 use Rattle.ug_acl.proofs.draft.read_list.Goals as goal
@@ -9,7 +9,7 @@ use Rattle.ug_acl.proofs.draft.read_list.Goals as goal
 pub loop-part-init : goal.loop-part-init
 loop-part-init c =
     let slices : List (Bor (List ℕ)) = c.as_slice-slices.result.now in
-    let same : map (λ part. part.now) slices ≡ parts_of c.args.text.now = ap (map (λ part. part.now)) c.as_slice-slices.ensures.value ∙ c.in-Ok.ensures in record {
+    let same : map (λ part. part.now) slices ≡ comma_parts c.args.text.now = ap (map (λ part. part.now)) c.as_slice-slices.ensures.value ∙ c.in-Ok.ensures in record {
       here = ap (λ p. with_held p (parts_read c.args.section c.args.place (map (λ part. part.now) slices))) c.none-privileges.ensures
           ∙ nothing_before (parts_read c.args.section c.args.place (map (λ part. part.now) slices))
           ∙ ap (parts_read c.args.section c.args.place) same;

@@ -4,10 +4,10 @@ use Rattle.std.proofs.Math.Seq.{take-append_seam}
 use Rattle.std.proofs.KnownBytes.{Consumes-nil, Consumes-trans, Consumes-kept, Keeps-refl, Keeps-trans}
 use Rattle.std.specs.Io.KnownBytes.{Consumes}
 use Rattle.ug_proto.specs.declared.reply.Reply.{Reply}
-use Rattle.ug_client.specs.Answers.{Answers, IsAwaiting}
-use Rattle.ug_types.specs.declared.link_call.Receipt.TheVariants as receipt
+use Rattle.ug_client.specs.Answers.{AnswersReply, IsAwaiting}
+use Rattle.ug_links.specs.declared.link_call.Receipt.TheVariants as receipt
 use Rattle.ug_client.specs.Awaiting.{Ended, answer_limit}
-use Rattle.ug_client.specs.Calls.{GoesOn}
+use Rattle.ug_client.specs.Calls.{GoesOnReceiving}
 use Rattle.ug_client.specs.ReadSoFar.{IsReadSoFar}
 use Rattle.ug_client.proofs.Calls.{no_piece, none_yet, one_piece}
 use Rattle.ug_client.proofs.Ending.{empty_awaits}
@@ -22,7 +22,7 @@ pieces-init g c =
     let left = g.L.Link.left c.args.link.now in
     let told = g.L.Link.told c.args.link.now in
     record {
-      receiving = subst (λ (b : List ℕ). GoesOn IsAwaiting 65536 [] told told b) (sym c.requires) (none_yet IsAwaiting 65536 [] told);
+      receiving = subst (λ (b : List ℕ). GoesOnReceiving IsAwaiting 65536 [] told told b) (sym c.requires) (none_yet IsAwaiting 65536 [] told);
       source = subst (λ (b : List ℕ). Consumes left left b) (sym c.requires) (Consumes-nil left);
       sent = Keeps-refl (g.L.Link.sent c.args.link.now);
       awaiting = subst IsAwaiting (sym c.requires) empty_awaits;
@@ -124,9 +124,9 @@ pieces-preserved g c =
     ∙ ap (λ (b : List ℕ). c.pieces.kept.items ++ b) (take-append-le c.in-Bytes.n c.receive.new.into _ (omega (arith, c.in-Bytes.ensures.size))) in
     let told0 = g.L.Link.told c.args.link.now in
     let left0 = g.L.Link.left c.args.link.now in
-    let answered : Answers c.deref.result.now (Ok None) = subst (λ (o : Option (Reply × ℕ)). Answers c.deref.result.now (Ok o)) c.in-Ok-None.field-0-is c.in-Ok-None.ensures.answers in
+    let answered : AnswersReply c.deref.result.now (Ok None) = subst (λ (o : Option (Reply × ℕ)). AnswersReply c.deref.result.now (Ok o)) c.in-Ok-None.field-0-is c.in-Ok-None.ensures.answers in
     record {
-      receiving = subst (λ (b : List ℕ). GoesOn IsAwaiting 65536 [] told0 (g.L.Link.told c.receive.new.self) b) (sym e) (received_on (g.L.Link.told c.args.link.now) (g.L.Link.told c.pieces.link) (g.L.Link.told c.receive.new.self) (g.L.Link.left c.args.link.now) (g.L.Link.left c.pieces.link) (g.L.Link.left c.receive.new.self) c.pieces.kept.items i.receiving i.source i.awaiting piece short within c.in-Bytes.ensures.told c.in-Bytes.ensures.bytes);
+      receiving = subst (λ (b : List ℕ). GoesOnReceiving IsAwaiting 65536 [] told0 (g.L.Link.told c.receive.new.self) b) (sym e) (received_on (g.L.Link.told c.args.link.now) (g.L.Link.told c.pieces.link) (g.L.Link.told c.receive.new.self) (g.L.Link.left c.args.link.now) (g.L.Link.left c.pieces.link) (g.L.Link.left c.receive.new.self) c.pieces.kept.items i.receiving i.source i.awaiting piece short within c.in-Bytes.ensures.told c.in-Bytes.ensures.bytes);
       source = subst (λ (b : List ℕ). Consumes left0 (g.L.Link.left c.receive.new.self) b) (sym e) (taken_on (g.L.Link.told c.args.link.now) (g.L.Link.told c.pieces.link) (g.L.Link.told c.receive.new.self) (g.L.Link.left c.args.link.now) (g.L.Link.left c.pieces.link) (g.L.Link.left c.receive.new.self) c.pieces.kept.items i.receiving i.source i.awaiting piece short within c.in-Bytes.ensures.told c.in-Bytes.ensures.bytes);
       sent = Keeps-trans (g.L.Link.sent c.args.link.now) (g.L.Link.sent c.pieces.link) (g.L.Link.sent c.receive.new.self) i.sent c.in-Bytes.ensures.sent;
       awaiting = subst IsAwaiting c.deref.ensures.value answered;

@@ -1,6 +1,6 @@
 use Rattle.std.proofs.Common.{refl}
-use Rattle.ug_types.specs.declared.link.Dialled.TheVariants as dialled
-use Rattle.ug_types.specs.declared.link_call.LinkCall.TheVariants as call
+use Rattle.ug_links.specs.declared.link.Dialled.TheVariants as dialled
+use Rattle.ug_links.specs.declared.link_call.LinkCall.TheVariants as call
 use Rattle.ug_client.specs.Calls.{Undialled}
 use Rattle.ug_client.proofs.Calls.{told_one}
 use Rattle.ug_client.proofs.send.send_request.Goals as goal

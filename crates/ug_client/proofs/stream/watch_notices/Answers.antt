@@ -1,6 +1,6 @@
 use Rattle.std.proofs.Common.{ℕ, List, take, arith, subst, length-take}
 use Rattle.std.proofs.KnownBytes.{Keeps-refl, Keeps-trans}
-use Rattle.ug_client.specs.Watching.{EndsShowing, Shows}
+use Rattle.ug_client.specs.Watching.{EndsShowing, ShowsNotices}
 use Rattle.ug_client.proofs.Watched.{first_ends, first_watching, piece_ends, piece_watching, piece_lost, smaller, grown, watched_to_end, watched_to_failure}
 use Rattle.ug_client.proofs.stream.watch_notices.Goals as goal
 
@@ -40,7 +40,7 @@ pieces-preserved g c =
     record {
       watching = piece_watching c.args.kept.now.items (g.L.Link.told c.args.link.now) (g.L.Link.told c.pieces.link) (g.L.Link.told c.receive.new.self) (g.L.Link.left c.args.link.now) (g.L.Link.left c.pieces.link) (g.L.Link.left c.receive.new.self) c.args.most (g.K.Sink.held c.args.out.now) c.pieces.kept.items c.pieces.room (g.K.Sink.held c.pieces.out) c.pieces.invariant.watching c.pieces.invariant.begun c.pieces.invariant.room
           piece (omega (arith, length-take c.in-Bytes.n c.receive.new.into, c.in-Bytes.ensures.size, length-take {A = ℕ})) c.in-Bytes.ensures.told c.in-Bytes.ensures.bytes k.kept.items k.room (g.K.Sink.held k.out)
-          (subst (λ (b : List ℕ). Shows b c.pieces.room (g.K.Sink.held c.pieces.out) k.kept.items k.room (g.K.Sink.held k.out)) e s.shows.0);
+          (subst (λ (b : List ℕ). ShowsNotices b c.pieces.room (g.K.Sink.held c.pieces.out) k.kept.items k.room (g.K.Sink.held k.out)) e s.shows.0);
       begun = s.shows.1;
       room = s.shows.2;
       sent = Keeps-trans (g.L.Link.sent c.args.link.now) (g.L.Link.sent c.pieces.link) (g.L.Link.sent c.receive.new.self) c.pieces.invariant.sent c.in-Bytes.ensures.sent;
@@ -61,6 +61,6 @@ pieces-smaller g c =
     let s = c.in-None-show_kept.ensures in
     let k = c.show_kept-in-Bytes.new in
     let d = smaller c.pieces.kept.items piece c.pieces.room (g.K.Sink.held c.pieces.out) k.kept.items k.room (g.K.Sink.held k.out)
-    (subst (λ (b : List ℕ). Shows b c.pieces.room (g.K.Sink.held c.pieces.out) k.kept.items k.room (g.K.Sink.held k.out)) e s.shows.0)
+    (subst (λ (b : List ℕ). ShowsNotices b c.pieces.room (g.K.Sink.held c.pieces.out) k.kept.items k.room (g.K.Sink.held k.out)) e s.shows.0)
     (omega (arith, length-take c.in-Bytes.n c.receive.new.into, c.in-Bytes.ensures.size)) s.shows.2 s.shows.1.short c.pieces.invariant.begun.short in
     omega (arith, d)

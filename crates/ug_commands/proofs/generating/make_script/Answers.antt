@@ -1,13 +1,13 @@
 use Rattle.std.proofs.Common.{◌≡◌, ℕ, ◌+◌, ◌-◌, ◌++◌, refl, sym, ap, subst, ◌∙◌, arith}
 use Rattle.ug_types.specs.Ends.{Puts}
 use Rattle.ug_types.specs.declared.sink.Put.TheVariants.{Done, Failed}
-use Rattle.ug_commands.specs.GeneratedScripts.{events_text, generated_script, line_before, number_behind, opening, sweep_line}
+use Rattle.ug_commands.specs.GeneratedScripts.{generated_events, generated_script, line_before, number_behind, opening_lines, sweep_line}
 use Rattle.ug_commands.proofs.Events.{event_cut, event_put, next_number}
 use Rattle.ug_commands.proofs.Puts.{Leads, cut-first, leads-end, leads-first}
 use Rattle.ug_commands.proofs.generating.make_script.Goals as goal
 
 pub returns-in-Failed-clause-put : goal.returns-in-Failed-clause-put
-returns-in-Failed-clause-put g c = cut-first (g.K.Sink.held c.args.out.now) (g.K.Sink.held c.put_opening.new.out) opening (events_text c.args.start 0 c.args.events) opening refl c.in-Failed.ensures.put
+returns-in-Failed-clause-put g c = cut-first (g.K.Sink.held c.args.out.now) (g.K.Sink.held c.put_opening.new.out) opening_lines (generated_events c.args.start 0 c.args.events) opening_lines refl c.in-Failed.ensures.put
 
 pub loop-event-init : goal.loop-event-init
 loop-event-init g c =
@@ -15,8 +15,8 @@ loop-event-init g c =
     record {
       number = refl;
       below = c.ranges.start.fits;
-      leads = subst (λ (n : ℕ). Leads (g.K.Sink.held c.args.out.now) (g.K.Sink.held c.put_opening.new.out) (events_text c.args.start 0 n) (generated_script c.args.events c.args.start)) all
-          (leads-first (g.K.Sink.held c.args.out.now) (g.K.Sink.held c.put_opening.new.out) opening (events_text c.args.start 0 c.args.events) opening refl c.in_default.ensures.put);
+      leads = subst (λ (n : ℕ). Leads (g.K.Sink.held c.args.out.now) (g.K.Sink.held c.put_opening.new.out) (generated_events c.args.start 0 n) (generated_script c.args.events c.args.start)) all
+          (leads-first (g.K.Sink.held c.args.out.now) (g.K.Sink.held c.put_opening.new.out) opening_lines (generated_events c.args.start 0 c.args.events) opening_lines refl c.in_default.ensures.put);
       counted = c.put_opening.ensures.counted;
     }
 
@@ -39,5 +39,5 @@ loop-event-preserved g c = record {
 pub returns-clause-put : goal.returns-clause-put
 returns-clause-put g c =
     let none : c.args.events - c.loop-event.event ≡ 0 = omega (arith, c.loop-event-test.false) in
-    leads-end (g.K.Sink.held c.args.out.now) (g.K.Sink.held c.loop-event.out) (events_text c.args.start c.loop-event.event (c.args.events - c.loop-event.event)) (generated_script c.args.events c.args.start)
-    (ap (events_text c.args.start c.loop-event.event) none) c.loop-event.invariant.leads
+    leads-end (g.K.Sink.held c.args.out.now) (g.K.Sink.held c.loop-event.out) (generated_events c.args.start c.loop-event.event (c.args.events - c.loop-event.event)) (generated_script c.args.events c.args.start)
+    (ap (generated_events c.args.start c.loop-event.event) none) c.loop-event.invariant.leads

@@ -1,11 +1,11 @@
 use Rattle.std.proofs.Common.{◌≡◌, length}
-use Rattle.ug_conf.specs.Names.{words_of, all_named}
+use Rattle.ug_conf.specs.Names.{words_between, all_named}
 use Rattle.ug_conf.proofs.Words.{behind, IsBare}
 use Rattle.ug_conf.proofs.names.named.Given as goal
 
 abbrev pub invariant-loop-rest : goal.invariant-loop-rest
 invariant-loop-rest l = record {
-  here : behind l.names (all_named l.group (words_of l.rest)) ≡ all_named l.group (words_of l.fn.text);
+  here : behind l.names (all_named l.group (words_between l.rest)) ≡ all_named l.group (words_between l.fn.text);
   bare : IsBare l.rest;
 }
 

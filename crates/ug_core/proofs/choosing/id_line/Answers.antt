@@ -1,7 +1,7 @@
 use Rattle.std.proofs.Common.{◌≡◌, sym, subst, arith}
 use Rattle.std.specs.Prelude.{decimal}
 use Rattle.ug_lines.specs.Splitting.{IsLine}
-use Rattle.ug_rules.proofs.RowLines.{decimal_line}
+use Rattle.ug_ruleset.proofs.RowLines.{decimal_line}
 use Rattle.ug_core.proofs.choosing.id_line.Goals as goal
 
 pub returns-clause-whole : goal.returns-clause-whole

@@ -3,7 +3,7 @@ use Rattle.ug_lines.specs.Splitting.{AreLines}
 use Rattle.ug_table.specs.Order.{StandInOrder}
 use Rattle.ug_table.specs.declared.standing.Standing.{Standing}
 use Rattle.ug_core.specs.DeviceRows.{IsFirstFrom}
-use Rattle.ug_rules.proofs.RowLines.{lines_more}
+use Rattle.ug_ruleset.proofs.RowLines.{lines_more}
 use Rattle.ug_core.proofs.RowWalk.{rows_all, rows_more, rows_none}
 use Rattle.ug_core.proofs.device_list.list_devices.Goals as goal
 

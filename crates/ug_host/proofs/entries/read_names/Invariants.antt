@@ -1,5 +1,5 @@
-use Rattle.ug_host.specs.Names.{AreNames}
+use Rattle.ug_host.specs.Names.{AreFewNames}
 use Rattle.ug_host.proofs.entries.read_names.Given as goal
 
 abbrev pub invariant-loop-entry : goal.invariant-loop-entry
-invariant-loop-entry g l = AreNames l.names
+invariant-loop-entry g l = AreFewNames l.names

@@ -4,7 +4,7 @@ use Rattle.std.proofs.lemmas.List.{at_drop_all, at_drop_more, take_more}
 use Rattle.ug_cond.specs.Words.{behind}
 use Rattle.ug_policy.specs.declared.entry.RuleEntry.{RuleEntry}
 use Rattle.ug_policy.specs.Deciding.{decides, rule_takes, seen}
-use Rattle.ug_policy.specs.Matching.{noted}
+use Rattle.ug_policy.specs.Matching.{rule_noted}
 use Rattle.ug_policy.proofs.Walking.{IsWalked, WalksFrom, candidates_walk, decides_at, none_decides, skip, step_over, walked, walked_last}
 use Rattle.ug_policy.proofs.judging.judge_by.Goals as goal
 
@@ -46,7 +46,7 @@ loop-i-preserved g c =
     let value : c.evaluate.result ≡ decides dev ctx records e stream = c.evaluate.ensures.value ∙ ap (λ (v : RuleEntry). decides dev ctx records v stream) read in
     let words : next ≡ behind (rule_takes dev e) stream = c.evaluate.ensures.words ∙ ap (λ (v : RuleEntry). behind (rule_takes dev v) stream) read in
     let later : decides dev ctx records e stream ≡ false = sym value ∙ c.if-evaluate.false in
-    let entry : c.evaluate.new.entry ≡ seen dev ctx.moment e = c.evaluate.ensures.entry ∙ cond-false c.evaluate.result (noted ctx.moment (get_or now p e)) (seen dev ctx.moment (get_or now p e)) c.if-evaluate.false ∙ ap (seen dev ctx.moment) read in
+    let entry : c.evaluate.new.entry ≡ seen dev ctx.moment e = c.evaluate.ensures.entry ∙ cond-false c.evaluate.result (rule_noted ctx.moment (get_or now p e)) (seen dev ctx.moment (get_or now p e)) c.if-evaluate.false ∙ ap (seen dev ctx.moment) read in
     let at = step_over dev ctx records es now start stream next p e c.evaluate.new.entry walks.1 here (sym read) later entry words in
     let reached : suc p ≡ walked 0 (take (i + 1) ps) = sym (ap (λ (v : List ℕ). walked 0 v) (take_more ps i 0 c.loop-i-test.true) ∙ walked_last 0 (take i ps) p) in
     record {
@@ -77,7 +77,7 @@ returns-then-evaluate-clause-judged g c =
     let value : c.evaluate.result ≡ decides dev ctx records e stream = c.evaluate.ensures.value ∙ ap (λ (v : RuleEntry). decides dev ctx records v stream) read in
     let words : next ≡ behind (rule_takes dev e) stream = c.evaluate.ensures.words ∙ ap (λ (v : RuleEntry). behind (rule_takes dev v) stream) read in
     let deciding : decides dev ctx records e stream ≡ true = sym value ∙ c.if-evaluate.true in
-    let entry : c.evaluate.new.entry ≡ noted ctx.moment e = c.evaluate.ensures.entry ∙ cond-true c.evaluate.result (noted ctx.moment (get_or now p e)) (seen dev ctx.moment (get_or now p e)) c.if-evaluate.true ∙ ap (noted ctx.moment) read in
+    let entry : c.evaluate.new.entry ≡ rule_noted ctx.moment e = c.evaluate.ensures.entry ∙ cond-true c.evaluate.result (rule_noted ctx.moment (get_or now p e)) (seen dev ctx.moment (get_or now p e)) c.if-evaluate.true ∙ ap (rule_noted ctx.moment) read in
     decides_at dev ctx records c.args.implicit es now start stream next p e c.evaluate.new.entry walks.1 here (sym read) deciding entry words
 
 pub returns-clause-judged : goal.returns-clause-judged

@@ -3,7 +3,7 @@ use Rattle.ug_core.specs.Durable.{WritesEvent}
 use Rattle.ug_core.specs.Event.{DaemonState, daemon_of}
 use Rattle.ug_core.specs.declared.daemon.Event as daemon
 use Rattle.ug_core.specs.declared.storing.Stored.{Stored}
-use Rattle.ug_rules.specs.RuleFile.{IsSaveable}
+use Rattle.ug_ruleset.specs.RuleFile.{IsSaveable}
 use Rattle.ug_store.specs.Scripted.{DiskWorld}
 use Rattle.ug_sysfs.specs.World.{World}
 use Rattle.ug_script.specs.Replay.{Played}

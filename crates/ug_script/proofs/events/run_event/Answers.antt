@@ -1,6 +1,6 @@
 use Rattle.std.proofs.Common.{subst}
 use Rattle.ug_store.specs.Scripted.{DiskWorld}
-use Rattle.ug_console.specs.Runs.{Steps}
+use Rattle.ug_command_io.specs.Runs.{Steps}
 use Rattle.ug_core.specs.Event.{daemon_of}
 use Rattle.ug_core.specs.Stops.{IsReadable}
 use Rattle.ug_script.specs.Journal.{happened_from}

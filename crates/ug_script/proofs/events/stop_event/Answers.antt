@@ -1,5 +1,5 @@
 use Rattle.std.proofs.Common.{ℕ, List, Some, refl, subst, ◌∙◌}
-use Rattle.ug_console.specs.Runs.{Closes}
+use Rattle.ug_command_io.specs.Runs.{Closes}
 use Rattle.ug_core.specs.Event.{daemon_of}
 use Rattle.ug_sysfs.specs.World.{over}
 use Rattle.ug_script.specs.Replay.{Played}

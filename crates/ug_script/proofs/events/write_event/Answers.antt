@@ -1,7 +1,7 @@
 use Rattle.std.proofs.Common.{rules, ◌≡◌, ℕ, List, Option, Some, ◌∙◌, ap, subst}
 use Rattle.ug_audit.specs.declared.entry.Entry.{Entry}
 use Rattle.ug_core.specs.Event.{daemon_of}
-use Rattle.ug_console.specs.Runs.{Closes}
+use Rattle.ug_command_io.specs.Runs.{Closes}
 use Rattle.ug_proto.specs.declared.reply.Reply.{Reply}
 use Rattle.ug_store.specs.Scripted.{DiskWorld}
 use Rattle.ug_sysfs.specs.World.{over}

@@ -1,6 +1,6 @@
 use Rattle.ug_lines.specs.Lines.{lines_of}
 use Rattle.std.proofs.Common.{[], None}
-use Rattle.ug_console.specs.Fold.{Going, plays, whole_text}
+use Rattle.ug_command_io.specs.Fold.{Going, plays, whole_text}
 use Rattle.ug_script.specs.Generating.{generate_end, generate_step, generator_state}
 use Rattle.ug_script.proofs.Skimmed.{faults_alone, first_policy}
 use Rattle.ug_script.proofs.generator.generate_policy.Goals as goal

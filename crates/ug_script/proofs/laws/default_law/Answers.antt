@@ -1,6 +1,6 @@
 use Rattle.std.proofs.Common.{refl}
 use Rattle.ug_types.specs.Names.{parent_of, depth_of}
-use Rattle.ug_descr.specs.Reading.{read_from, decoded}
+use Rattle.ug_descr.specs.Reading.{configs_from, decoded}
 use Rattle.ug_match.specs.Queries.{query_matches}
 use Rattle.ug_record.specs.Records.{judged_of}
 use Rattle.ug_node.specs.Files.{reading, reading_own, reading_parent}
@@ -15,17 +15,17 @@ use Rattle.ug_core.specs.Event.{handling, trying}
 use Rattle.ug_script.proofs.laws.default_law.Goals as goal
 
 pub returns-clause-written : goal.returns-clause-written
-unfolding query_matches parent_of depth_of read_from decoded judged_of reading reading_own reading_parent binding binding_under holding once treating bringing writing admitting entering settling sweeping asking trying handling valuing defaults
+unfolding query_matches parent_of depth_of configs_from decoded judged_of reading reading_own reading_parent binding binding_under holding once treating bringing writing admitting entering settling sweeping asking trying handling valuing defaults
 returns-clause-written c = refl
 
 pub returns-clause-born_off : goal.returns-clause-born_off
-unfolding query_matches parent_of depth_of read_from decoded judged_of reading reading_own reading_parent binding binding_under holding once treating bringing writing admitting entering settling sweeping asking trying handling valuing defaults
+unfolding query_matches parent_of depth_of configs_from decoded judged_of reading reading_own reading_parent binding binding_under holding once treating bringing writing admitting entering settling sweeping asking trying handling valuing defaults
 returns-clause-born_off c = refl
 
 pub returns-clause-failed : goal.returns-clause-failed
-unfolding query_matches parent_of depth_of read_from decoded judged_of reading reading_own reading_parent binding binding_under holding once treating bringing writing admitting entering settling sweeping asking trying handling valuing defaults
+unfolding query_matches parent_of depth_of configs_from decoded judged_of reading reading_own reading_parent binding binding_under holding once treating bringing writing admitting entering settling sweeping asking trying handling valuing defaults
 returns-clause-failed c = refl
 
 pub returns-clause-born_on : goal.returns-clause-born_on
-unfolding query_matches parent_of depth_of read_from decoded judged_of reading reading_own reading_parent binding binding_under holding once treating bringing writing admitting entering settling sweeping asking trying handling valuing defaults
+unfolding query_matches parent_of depth_of configs_from decoded judged_of reading reading_own reading_parent binding binding_under holding once treating bringing writing admitting entering settling sweeping asking trying handling valuing defaults
 returns-clause-born_on c = refl

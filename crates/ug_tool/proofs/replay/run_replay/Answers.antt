@@ -1,6 +1,6 @@
 use Rattle.std.proofs.Common.{◌≡◌, Bool, None, true, false, refl}
 use Rattle.ug_arguments.specs.declared.command.Command.TheVariants as command
-use Rattle.ug_console.specs.Fold.{of_first}
+use Rattle.ug_command_io.specs.Fold.{of_first}
 use Rattle.ug_script.specs.Replay.{script_step, script_end}
 use Rattle.ug_script.specs.Summing.{no_totals, summary_end, summary_step}
 use Rattle.ug_sysfs.specs.Sound.{new_sound}

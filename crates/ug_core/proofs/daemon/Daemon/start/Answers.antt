@@ -1,7 +1,7 @@
 use Rattle.std.proofs.Common.{Option, Ok, subst}
 use Rattle.ug_store.specs.Store.{seen_by}
 use Rattle.ug_core.specs.Event.{daemon_of}
-use Rattle.ug_types.specs.declared.control.Write.{Write}
+use Rattle.ug_kernel.specs.declared.control.Write.{Write}
 use Rattle.ug_core.specs.Policy.{clock_of}
 use Rattle.ug_core.specs.Settings.{classes_of}
 use Rattle.ug_core.specs.Starting.{Outset, StartsFrom}

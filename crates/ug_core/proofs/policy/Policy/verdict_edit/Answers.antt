@@ -3,7 +3,7 @@ use Rattle.ug_rule.proofs.RuleCuts.{says_line}
 use Rattle.ug_print.specs.Words.{rule_text}
 use Rattle.ug_print.proofs.Printed.{printed}
 use Rattle.ug_types.specs.declared.rule.Rule.{Rule}
-use Rattle.ug_rules.specs.RuleEdits.{IsButForTarget}
+use Rattle.ug_ruleset.specs.RuleEdits.{IsButForTarget}
 use Rattle.ug_core.proofs.policy.Policy.verdict_edit.Goals as goal
 
 pub returns-in-Some-clause-reads : goal.returns-in-Some-clause-reads

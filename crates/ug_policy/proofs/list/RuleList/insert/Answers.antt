@@ -22,7 +22,7 @@ invariant_of-self c =
     let put : queries c.put_rule.new.entries.items ≡ insert (queries es) place c.args.rule.query = ap (λ (v : List RuleEntry). queries v) c.put_rule.ensures.entries ∙ sym (insert_map (λ (e : RuleEntry). e.rule.query) es place entry) in
     record {
       numbered = subst (λ (v : List RuleEntry). IsNumbered v (next + 1)) (sym c.put_rule.ensures.entries) (numbered_insert es next place entry c.self.invariant.numbered refl within few);
-      stands = subst (λ (v : List Query). places.StandsFor c.insert.new.self v) (sym put) (c.insert.ensures.stands (queries es) c.self.invariant.stands);
+      stands = subst (λ (v : List Query). places.StandsForQueries c.insert.new.self v) (sym put) (c.insert.ensures.stands (queries es) c.self.invariant.stands);
     }
 
 pub returns-clause-history : goal.returns-clause-history

@@ -30,7 +30,7 @@ invariant_of-self g c =
     record {
       numbered = subst (λ (v : List RuleEntry). IsNumbered v c.self.inside.next_id) (sym now)
           (numbered_found dev ctx.moment found c.self.inside.next_id (subst (λ (v : List RuleEntry). IsNumbered v c.self.inside.next_id) (sym whole) c.self.invariant.numbered));
-      stands = subst (λ (v : List Query). places.StandsFor c.self.inside.index v) (sym same) c.self.invariant.stands;
+      stands = subst (λ (v : List Query). places.StandsForQueries c.self.inside.index v) (sym same) c.self.invariant.stands;
     }
 
 pub returns-clause-rule : goal.returns-clause-rule

@@ -16,7 +16,7 @@ invariant_of-self c =
     let taken : queries c.remove_rule.new.entries.items ≡ remove (queries es) c.in-Ok.place = ap (λ (v : List RuleEntry). queries v) c.in-Ok.ensures.place ∙ sym (remove_map (λ (e : RuleEntry). e.rule.query) es c.in-Ok.place) in
     record {
       numbered = subst (λ (v : List RuleEntry). IsNumbered v next) (sym c.remove_rule.ensures.entries) (numbered_removed c.args.id next es c.self.invariant.numbered);
-      stands = subst (λ (v : List Query). places.StandsFor c.remove.new.self v) (sym taken) (c.remove.ensures.stands (queries es) c.self.invariant.stands);
+      stands = subst (λ (v : List Query). places.StandsForQueries c.remove.new.self v) (sym taken) (c.remove.ensures.stands (queries es) c.self.invariant.stands);
     }
 
 pub returns-in-Ok-clause-history : goal.returns-in-Ok-clause-history

@@ -23,7 +23,7 @@ invariant_of-self c =
     let same : queries (take c.self.inside.entries.len (ys ++ drop (length ys) es)) ≡ queries es = ap (λ (v : List RuleEntry). queries v) now ∙ queries_retargeted c.args.id c.args.target es in
     record {
       numbered = subst (λ (v : List RuleEntry). IsNumbered v c.self.inside.next_id) (sym now) (numbered_retargeted c.args.id c.args.target es c.self.inside.next_id c.self.invariant.numbered);
-      stands = subst (λ (v : List Query). places.StandsFor c.self.inside.index v) (sym same) c.self.invariant.stands;
+      stands = subst (λ (v : List Query). places.StandsForQueries c.self.inside.index v) (sym same) c.self.invariant.stands;
     }
 
 pub returns-clause-err : goal.returns-clause-err

@@ -1,5 +1,5 @@
 use Rattle.std.proofs.Common.{subst, sym, Some}
-use Rattle.ug_console.specs.Runs.{Steps}
+use Rattle.ug_command_io.specs.Runs.{Steps}
 use Rattle.ug_core.specs.Event.{daemon_of}
 use Rattle.ug_script.specs.declared.progress.Phase.{Phase}
 use Rattle.ug_script.specs.declared.step.Step.TheVariants.{Event}

@@ -1,5 +1,0 @@
-use Rattle.ug_decimals.proofs.Numerals.{decimal_law}
-use Rattle.ug_decimals.proofs.laws.decimals_law.Goals as goal
-
-pub returns : goal.returns
-returns c = decimal_law

@@ -1,0 +1,6 @@
+// Why an order is refused.
+#![tactic(auto)]
+
+mod refusal;
+
+pub use refusal::Refusal;

@@ -1,5 +1,0 @@
-use Rattle.ug_rules.proofs.Readable.{well_all}
-use Rattle.ug_rules.proofs.kept_rules.KeptRules.rows.Goals as goal
-
-pub returns-clause-one_line : goal.returns-clause-one_line
-returns-clause-one_line c = c.list_rules.ensures.one_line (well_all c.self.inside.list.entries c.self.invariant.0)

@@ -1,0 +1,295 @@
+// The rules in order, each of which reads again from the text that is saved of it.
+ghost use Rattle.std.specs.Prelude.{◌≡◌, ◌<◌, ◌+◌, ◌-◌, ◌^◌, All, Err, IfOk, IfSome, IsTrue, None, Ok, OnOk, Some, if◌then◌else◌};
+ghost use Rattle.ug_lines.specs.Splitting.{AreLines};
+ghost use Rattle.ug_policy.specs.Deciding.{Judges};
+ghost use Rattle.ug_policy.specs.Edits.{inserted, new_entry, removed, retargeted};
+ghost use Rattle.ug_print.specs.Generated.{generated_of};
+ghost use Rattle.ug_rule.specs.Files.{file_read};
+ghost use Rattle.ug_types.specs.declared.verdict.Target.{Target};
+ghost use Rattle.ug_ruleset.specs.RuleEdits.{CanEdit, EditReads, HasRoomFor, IsButForTarget, changes_file, edited_by, if_room_for, next_after};
+ghost use Rattle.ug_ruleset.specs.RuleFile.{FitsFile, IsSaveable, ReadsBack, permanent_rules, permanent_text};
+ghost use Rattle.ug_policy.specs.Rules.{rules_in};
+ghost use Rattle.ug_ruleset.specs.RulePlaces.{has_permanent, has_rule, if_few, place_refusal, if_taken, made_rule};
+ghost use Rattle.ug_ruleset.specs.RuleRows.{rule_rows};
+
+use crate::edit::Edit;
+use crate::file_text::file_text;
+use crate::rule_list::list_rules;
+use rand_core::Rng;
+use std::alloc::Global;
+use std::marker::Model;
+use ug_cond::{Allowed, Context};
+use ug_policy::{Mark, RuleEntry, RuleList};
+use ug_print::{RulesTextFault, is_made_of};
+use ug_refusal::Refusal;
+use ug_types::{After, Cause, DeviceRecord, List, NoMemory, Rule, Target, Text};
+
+/// Rules, each of which reads again from its canonical text. A rule file has room for the permanent ones.
+#[derive(Drop)]
+pub struct KeptRules {
+    list: RuleList,
+}
+
+impl Model for KeptRules {
+    ghost use Rattle.std.specs.Prelude.{All};
+    ghost use Rattle.ug_policy.specs.Rules.{Rules, rules_in};
+    ghost use Rattle.ug_ruleset.specs.RuleFile.{IsSaveable, ReadsBack};
+
+    ghost Value = { Rules };
+
+    ghost view = { λ r. r.list };
+
+    ghost invariant = { λ r. All ReadsBack (rules_in r.list.entries) × IsSaveable r.list.entries };
+}
+
+fn find_made(rules: &[RuleEntry], device: &DeviceRecord, with_port: bool) -> Option<u64>
+    ensures { result ≡ made_rule device.now with_port rules.now }
+{
+    match rules.iter().find(|entry| entry.mark.is_permanent()
+        && is_made_of(&entry.rule, device, with_port))
+    {
+        Some(entry) => Some(entry.id),
+        None => None,
+    }
+}
+
+impl KeptRules {
+    pub fn new(list: RuleList) -> KeptRules
+        requires readable { All ReadsBack (rules_in list.entries) }
+        requires saves { IsSaveable list.entries }
+        ensures { result ≡ list }
+    {
+        KeptRules { list }
+    }
+
+    /// The rows of a list of the rules. None has a newline.
+    pub fn rows(&self, alloc: Global) -> Result<List<Text>, NoMemory>
+        ensures rows { IfOk result (λ rows. rows ≡ rule_rows self.now.entries) }
+        ensures one_line { IfOk result (λ rows. AreLines rows) }
+    {
+        list_rules(alloc, &self.list)
+    }
+
+    /// The id that the next rule gets.
+    pub fn next_id(&self) -> u64
+        ensures { result ≡ self.now.next }
+    {
+        self.list.next_id()
+    }
+
+    /// Whether a rule has the id.
+    pub fn has_rule(&self, id: u64) -> bool
+        ensures { result ≡ has_rule id self.now.entries }
+    {
+        let rules = self.list.as_slice();
+        rules.iter().any(|entry| entry.id == id)
+    }
+
+    // Whether a permanent rule has the id.
+    fn has_permanent(&self, id: u64) -> bool
+        ensures { result ≡ has_permanent id self.now.entries }
+    {
+        let rules = self.list.as_slice();
+        rules
+            .iter()
+            .any(|entry| entry.id == id && entry.mark.is_permanent())
+    }
+
+    fn has_place(&self, after: After) -> Option<Refusal>
+        ensures { result ≡ place_refusal after self.now.entries }
+    {
+        match after {
+            After::End => None,
+            After::Front => None,
+            After::Rule(id) if self.has_rule(id) => None,
+            After::Rule(id) => Some(Refusal::NoRule { id }),
+        }
+    }
+
+    /// Why the list has no room for one rule more.
+    fn refuse_more(&self) -> Option<Refusal>
+        ensures { result ≡ if_few self.now.entries }
+    {
+        if self.list.len() < 65_536 {
+            None
+        } else {
+            Some(Refusal::RulesFull)
+        }
+    }
+
+    /// Why no rule is put behind that place.
+    pub fn refuse_rule(&self, after: After) -> Option<Refusal>
+        ensures { result ≡ if_taken after self.now.entries }
+    {
+        match self.has_place(after) {
+            Some(refusal) => Some(refusal),
+            None => self.refuse_more(),
+        }
+    }
+
+    /// Why the list has no room for the edit.
+    pub fn refuse_edit(&self, edit: &Edit) -> Option<Refusal>
+        ensures { result ≡ if_room_for edit.now self.now.entries }
+    {
+        match edit {
+            Edit::Insert { .. } => self.refuse_more(),
+            Edit::Remove { .. } => None,
+            Edit::Retarget { .. } => None,
+        }
+    }
+
+    /// The id of the first permanent rule that is the device's generated rule but for its target. It takes no memory.
+    #[tactic(auto, using(crate::proofs::MadeRules::alone_if))]
+    pub fn made_rule(&self, device: &DeviceRecord, with_port: bool) -> Option<u64>
+        ensures made { result ≡ made_rule device.now with_port self.now.entries }
+        ensures alone { IfSome result (λ id. (target : Target)
+            → IsButForTarget id (generated_of device.now target with_port) self.now.entries) }
+    {
+        // No two rules have one id.
+        let _next = self.list.next_id();
+        find_made(self.list.as_slice(), device, with_port)
+    }
+
+    /// Makes room for one rule more. A refusal changes nothing.
+    pub fn reserve(&mut self) -> Result<(), NoMemory>
+        ensures entries { self.new.entries ≡ self.old.entries }
+        ensures next { self.new.next ≡ self.old.next }
+        ensures ok { OnOk result (0 < self.new.spare) }
+    {
+        self.list.reserve()
+    }
+
+    /// Whether the edit changes permanent rules.
+    fn changes_file(&self, edit: &Edit) -> bool
+        ensures { result ≡ changes_file edit.now self.now.entries }
+    {
+        match edit {
+            Edit::Insert { mark, .. } => mark.is_permanent(),
+            Edit::Remove { id } => self.has_permanent(*id),
+            Edit::Retarget { .. } => true,
+        }
+    }
+
+    fn insert(&mut self, after: After, rule: Rule, mark: Mark)
+        requires can { CanEdit (Edit.Insert after rule mark) self.old.entries }
+        requires reads { ReadsBack rule }
+        requires saves { IsSaveable
+            (inserted after (new_entry self.old.next rule mark) self.old.entries) }
+        requires spare { 0 < self.old.spare }
+        requires id { self.old.next < 2 ^ 64 - 1 }
+        ensures entries { self.new.entries
+            ≡ inserted after (new_entry self.old.next rule mark) self.old.entries }
+        ensures next { self.new.next ≡ self.old.next + 1 }
+    {
+        let _id = self.list.insert(after, rule, mark);
+    }
+
+    fn remove(&mut self, id: u64)
+        requires { IsSaveable (removed id self.old.entries) }
+        ensures entries { self.new.entries ≡ removed id self.old.entries }
+        ensures next { self.new.next ≡ self.old.next }
+    {
+        let _was_there = self.list.remove(id);
+    }
+
+    // Which differs from that rule in its target at most.
+    fn retarget(&mut self, id: u64, rule: &Rule)
+        requires reads { EditReads (Edit.Retarget id rule.now) self.old.entries }
+        requires saves { IsSaveable (retargeted id rule.now.target self.old.entries) }
+        ensures entries { self.new.entries ≡ retargeted id rule.now.target self.old.entries }
+        ensures next { self.new.next ≡ self.old.next }
+    {
+        let _was_there = self.list.set_target(id, rule.target);
+    }
+
+    /// Does the edit. A rule that is put there needs room, which `reserve` makes.
+    pub fn edit(&mut self, edit: Edit)
+        requires can { CanEdit edit self.old.entries }
+        requires reads { EditReads edit self.old.entries }
+        requires saves { IsSaveable (edited_by edit self.old.next self.old.entries) }
+        requires room { HasRoomFor edit self.old.spare }
+        requires id { self.old.next < 2 ^ 64 - 1 }
+        ensures entries { self.new.entries ≡ edited_by edit self.old.next self.old.entries }
+        ensures next { self.new.next ≡ next_after edit self.old.next }
+    {
+        match edit {
+            Edit::Insert { after, rule, mark } => self.insert(after, rule, mark),
+            Edit::Remove { id } => self.remove(id),
+            Edit::Retarget { id, rule } => self.retarget(id, &rule),
+        }
+    }
+
+    /// The text of a rule file with the permanent rules, which reads as them again.
+    pub fn text(&self, alloc: Global) -> Result<Text, NoMemory>
+        ensures text { IfOk result (λ text. text ≡ permanent_text self.now.entries) }
+        ensures reads { IfOk result (λ text. file_read text
+            ≡ Ok (permanent_rules self.now.entries)) }
+    {
+        match file_text(alloc, &self.list, None) {
+            Ok(text) => Ok(text),
+            Err(_) => Err(NoMemory),
+        }
+    }
+
+    /// The same once the edit is done. Where it can be done, its rules can be saved.
+    pub fn text_after(&self, alloc: Global, edit: &Edit) -> Result<Text, RulesTextFault>
+        requires { EditReads edit.now self.now.entries }
+        ensures text { IfOk result (λ text. text
+            ≡ permanent_text (edited_by edit.now self.now.next self.now.entries)) }
+        ensures reads { IfOk result (λ text. file_read text
+            ≡ Ok (permanent_rules (edited_by edit.now self.now.next self.now.entries))) }
+        ensures fits { OnOk result (FitsFile (edited_by edit.now self.now.next self.now.entries)) }
+        ensures saves { CanEdit edit.now self.now.entries
+            → OnOk result (IsSaveable (edited_by edit.now self.now.next self.now.entries)) }
+        ensures too_long { result ≡ Err RulesTextFault.TooLong
+            → FitsFile (edited_by edit.now self.now.next self.now.entries) → ⊥ }
+    {
+        // No two rules have one id, and there are no more than a list takes.
+        let _next = self.list.next_id();
+        let _count = self.list.len();
+        file_text(alloc, &self.list, Some(edit))
+    }
+
+    /// The permanent rules read again from the text that is saved of them, for which a rule file has room.
+    pub fn stay_saveable(&self)
+        ensures { IsSaveable self.now.entries }
+    {
+        let _rules = self.list.as_slice();
+    }
+
+    /// The same, where the edit changes permanent rules.
+    pub fn text_if_saved(&self, alloc: Global, edit: &Edit) -> Result<Option<Text>, RulesTextFault>
+        requires { EditReads edit.now self.now.entries }
+        ensures text { IfOk result (λ text. text ≡ (if changes_file edit.now self.now.entries
+            then Some (permanent_text (edited_by edit.now self.now.next self.now.entries)) else
+            None)) }
+        ensures fits { OnOk result (FitsFile (edited_by edit.now self.now.next self.now.entries)) }
+        ensures saves { CanEdit edit.now self.now.entries
+            → OnOk result (IsSaveable (edited_by edit.now self.now.next self.now.entries)) }
+        ensures too_long { result ≡ Err RulesTextFault.TooLong
+            → IsTrue (changes_file edit.now self.now.entries)
+            × (FitsFile (edited_by edit.now self.now.next self.now.entries) → ⊥) }
+    {
+        if !self.changes_file(edit) {
+            self.stay_saveable();
+            return Ok(None);
+        }
+        Ok(Some(self.text_after(alloc, edit)?))
+    }
+
+    /// As `RuleList::judge` does.
+    pub fn judge<A: Allowed, R: Rng>(
+        &mut self,
+        dev: &DeviceRecord,
+        ctx: &Context,
+        allowed: &A,
+        implicit: Target,
+        rng: &mut R,
+    ) -> (Target, Cause)
+        ensures judged { Judges dev.now ctx.now (A.records allowed.now) implicit self.old.entries
+            (R.stream rng.old) result self.new.entries (R.stream rng.new) }
+        ensures next { self.new.next ≡ self.old.next }
+    {
+        self.list.judge(dev, ctx, allowed, implicit, rng)
+    }
+}
