@@ -5,7 +5,6 @@ use crate::file::{
     Content, FileFault, join, open_to_write, read_file, read_first, read_number, word_of,
     write_byte,
 };
-use crate::hubs::Hubs;
 use crate::names::list_devices;
 use crate::port::read_connect_type;
 use std::alloc::Global;
@@ -18,7 +17,6 @@ use ug_types::NodeName;
 #[derive(Drop)]
 struct OpenControl<F> {
     file: F,
-    name: NodeName,
     devnum_path: String,
     devnum: u32,
 }
@@ -30,7 +28,6 @@ pub struct Folder<R: Files> {
     root: String,
     open: BTreeMap<u64, OpenControl<R::File>>,
     next: u64,
-    hubs: Hubs,
 }
 
 impl<R: Files + AllocGlobal + Clone + Drop> Folder<R> {
@@ -40,7 +37,6 @@ impl<R: Files + AllocGlobal + Clone + Drop> Folder<R> {
             root,
             open: BTreeMap::new(alloc),
             next: 0,
-            hubs: Hubs::new(alloc),
         }
     }
 
@@ -89,7 +85,6 @@ impl<R: Files + AllocGlobal + Clone + Drop> Folder<R> {
         let (file, devnum) = self.open_numbered(alloc, name, control, devnum_path.as_str())?;
         Ok(OpenControl {
             file,
-            name: *name,
             devnum_path,
             devnum,
         })
@@ -135,38 +130,16 @@ impl<R: Files + AllocGlobal + Clone + Drop> Folder<R> {
 
     pub fn open_control(&mut self, alloc: Global, name: &NodeName, control: Control) -> Opened {
         match self.open(alloc, name, control) {
-            Ok(file) => {
-                let opened = self.hold(file);
-                if let (Opened::Token(held), Control::Authorized) = (opened, control) {
-                    self.hubs.hold(name, held.0);
-                }
-                opened
-            }
+            Ok(file) => self.hold(file),
             Err(FileFault::Missing) => Opened::Absent,
             Err(FileFault::Failed) => Opened::Failed,
             Err(FileFault::Memory) => Opened::Memory,
         }
     }
 
-    /// Reads a file by its device's name, unless it was read of a hub that its control tells to be there still.
+    /// Reads a file by its device's name.
     pub fn read(&mut self, alloc: Global, name: &NodeName, attr: Attr) -> ReadOut {
-        if let Some(answer) = self.read_kept(alloc, name, attr) {
-            return answer;
-        }
-        let answer = read_out_of(self.read_attr(alloc, name, attr));
-        if let ReadOut::Bytes(text) = &answer {
-            self.hubs.keep(alloc, name, attr, text.bytes());
-        }
-        answer
-    }
-
-    fn read_kept(&mut self, alloc: Global, name: &NodeName, attr: Attr) -> Option<ReadOut> {
-        let held = self.hubs.held(name, attr)?;
-        match self.probe(Held(held)) {
-            Probe::Alive(_) => self.hubs.text(alloc, name, attr),
-            Probe::Gone => None,
-            Probe::Failed => Some(ReadOut::Failed),
-        }
+        read_out_of(self.read_attr(alloc, name, attr))
     }
 
     pub fn probe(&mut self, held: Held) -> Probe {
@@ -184,9 +157,7 @@ impl<R: Files + AllocGlobal + Clone + Drop> Folder<R> {
     }
 
     pub fn close(&mut self, held: Held) {
-        if let Some(control) = self.open.remove(&held.0) {
-            self.hubs.release(&control.name, held.0);
-        }
+        let _closed = self.open.remove(&held.0);
     }
 }
 

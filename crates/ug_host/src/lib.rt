@@ -10,7 +10,6 @@ mod entries;
 mod file;
 mod folder;
 mod fresh;
-mod hubs;
 mod linked;
 mod listener;
 mod listening;

@@ -18,7 +18,6 @@ mod host_devices;
 #[cfg(test)]
 mod host_files;
 #[cfg(test)]
-mod host_hubs;
 #[cfg(test)]
 mod host_journal;
 #[cfg(test)]
