@@ -7,6 +7,7 @@ pub mod KeptRules
 pub mod Phases
 pub mod Halts
 pub mod EventSteps
+pub mod Recordings
 pub mod Starts
 pub mod Restarts
 pub mod OrdersPlayed
@@ -22,9 +23,10 @@ pub mod Journals
 pub mod Carrying
 pub mod Filed
 mod FirstStop
-mod WholeLines
-mod Counted
-mod Summed
+pub mod WholeLines
+pub mod Counted
+pub mod EntryCounts
+pub mod Summed
 pub mod LineCuts
 pub mod LineTables
 pub mod HexWords

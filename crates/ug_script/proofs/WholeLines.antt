@@ -16,6 +16,7 @@ use Rattle.ug_script.specs.declared.step.Step.{Step}
 use Rattle.ug_script.specs.declared.step.Step.TheVariants as step
 use Rattle.ug_script.specs.Grammar.{step_of_line}
 use Rattle.ug_script.specs.Script.{Script, can_start, daemon_in, disk_in, fresh, takes_setup}
+use Rattle.ug_script.specs.Recording.{begun_text}
 use Rattle.ug_script.specs.Setup.{SetupState, one_line_more, rules_from}
 use Rattle.ug_script.specs.Replay.{EventOutcome, Played, bad, begun_disk, came_of, event_by, event_from, finished, first_line, header, in_script, line_added, lines_text, outcome_of, outcome_text, quiet, quoted, reply_lines, restarted, script_step, stop_in, stopped_line, stopped_of, taken, taken_if, terminated}
 
@@ -40,7 +41,7 @@ reply_whole : (reply : Option Reply) → IsWhole (reply_lines reply)
 reply_whole None = none_whole
 reply_whole (Some reply) = each_whole quoted (λ line. line_whole (62 ∷ 32 ∷ line)) (lines_of (reply_text reply))
 
-outcome_whole : (outcome : EventOutcome) → IsWhole (outcome_text outcome)
+pub outcome_whole : (outcome : EventOutcome) → IsWhole (outcome_text outcome)
 outcome_whole outcome = both_whole (lines_text outcome.entries) (reply_lines outcome.reply) (each_whole terminated (λ entry. line_whole (entry_line entry)) outcome.entries) (reply_whole outcome.reply)
 
 abbrev pub WritesWhole : {M : Type 0} → LineOutcome M → Type 0
@@ -58,6 +59,10 @@ first_whole (e ∷ es) = line_whole (entry_line e)
 call_whole : (call : ℕ) → IsWhole (stopped_line call)
 unfolding stopped_line
 call_whole call = subst (λ (text : List ℕ). IsWhole text) (append_assoc (codes "stopped ") (decimal call) (10 ∷ [])) (line_whole (codes "stopped " ++ decimal call))
+
+pub stop_whole : (first : Option Entry) (call : ℕ) → IsWhole (begun_text first ++ stopped_line call)
+stop_whole None call = both_whole [] (stopped_line call) none_whole (call_whole call)
+stop_whole (Some e) call = both_whole (terminated e) (stopped_line call) (line_whole (entry_line e)) (call_whole call)
 
 stopped_whole : (setup : SetupState) (call : ℕ) (p : Played) (rules : Result (List types.Rule) LineRefusal) → WritesWhole (stopped_of setup call p rules)
 stopped_whole setup call p (Ok rules) = both_whole (first_line p.daemon.sweep.entries) (stopped_line call) (first_whole p.daemon.sweep.entries) (call_whole call)

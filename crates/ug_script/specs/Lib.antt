@@ -7,6 +7,7 @@ pub mod Words
 pub mod Setup
 pub mod Script
 pub mod Replay
+pub mod Recording
 pub mod Generating
 pub mod Summing
 pub mod Laws

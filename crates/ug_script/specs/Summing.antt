@@ -1,8 +1,11 @@
 -- What each line of a script is to `replay --summary`, and the line that is written behind the
 -- last.
-use Rattle.std.specs.Prelude.{◌≡◌, ℕ, ◌+◌, ◌-◌, ◌^◌, min, nat_eq, List, [], ◌++◌, filter, length, codes, decimal, Option, Some, None}
+use Rattle.std.specs.Prelude.{◌≡◌, ℕ, ◌+◌, ◌-◌, ◌^◌, min, nat_eq, Bool, true, false, List, [], ◌∷◌, ◌++◌, filter, length, codes, decimal, Option, Some, None}
 use Rattle.std.specs.List.{starts_with}
-use Rattle.ug_lines.specs.Lines.{lines_of}
+use Rattle.ug_audit.specs.Printed.{IsEntry}
+use Rattle.ug_audit.specs.declared.entry.Entry.{Entry}
+use Rattle.ug_audit.specs.declared.entry.Entry.TheVariants as entry
+use Rattle.ug_lines.specs.Lines.{lines_of, rest_from}
 use Rattle.ug_sysfs.specs.World.{World}
 use Rattle.ug_command_io.specs.Fold.{LineRefusal, LineOutcome, Writes, Refused, Going, fault_line, no_memory, plays, read_fault}
 use Rattle.ug_script.specs.Script.{Script}
@@ -35,6 +38,61 @@ with_lines lines t = record {
 -- those of a whole journal
 abbrev pub totals_of : List ℕ → Totals
 totals_of journal = with_lines (lines_of journal) no_totals
+
+-- with other numbers
+abbrev pub with_totals : Totals → Totals → Totals
+with_totals more t = record {
+  events = bounded_count (t.events + more.events);
+  judged = bounded_count (t.judged + more.judged);
+  writes = bounded_count (t.writes + more.writes);
+  unsettled = bounded_count (t.unsettled + more.unsettled);
+}
+
+-- numbers stand for a journal of whole lines, where one is told, that has them
+abbrev pub StandsForLines : Totals → Option (List ℕ) → Type 0
+StandsForLines t held =
+    (journal : List ℕ) → held ≡ Some journal → (t ≡ totals_of journal) × (rest_from [] journal ≡ [])
+
+-- ---- numbers of entries
+
+-- an event begins, with or without an order
+abbrev pub begins_event : Entry → Bool
+begins_event (entry.Event number moment) = true
+begins_event (entry.Order number moment who) = true
+begins_event other = false
+
+abbrev pub sets_verdict : Entry → Bool
+sets_verdict (entry.Judged number name held verdict why) = true
+sets_verdict other = false
+
+-- a write was made, and not only intended
+abbrev pub tells_write : Entry → Bool
+tells_write (entry.Wrote number name bytes outcome) = true
+tells_write other = false
+
+-- of a device, or of all
+abbrev pub tells_unsettled : Entry → Bool
+tells_unsettled (entry.Unsettled name why) = true
+tells_unsettled (entry.UnsettledAll why) = true
+tells_unsettled other = false
+
+-- how many are so
+abbrev pub how_many : (Entry → Bool) → List Entry → ℕ
+how_many is entries = length (filter is entries)
+
+-- with those of entries, by their kinds
+abbrev pub with_entries : List Entry → Totals → Totals
+with_entries entries t = record {
+  events = bounded_count (t.events + how_many begins_event entries);
+  judged = bounded_count (t.judged + how_many sets_verdict entries);
+  writes = bounded_count (t.writes + how_many tells_write entries);
+  unsettled = bounded_count (t.unsettled + how_many tells_unsettled entries);
+}
+
+-- the numbers, names and principals of each are such as an entry can have
+abbrev pub EachIsEntry : List Entry → Type 0
+EachIsEntry [] = Unit {0}
+EachIsEntry (e ∷ es) = IsEntry e × EachIsEntry es
 
 -- ---- lines of a script
 

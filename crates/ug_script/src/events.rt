@@ -1,11 +1,11 @@
 // Events of a script.
-ghost use Rattle.std.specs.Prelude.{◌≡◌, ◌≤◌, ◌++◌, ◌∷◌, [], true, false, cond, IfOk, OnOk, None, Some};
+ghost use Rattle.std.specs.Prelude.{◌≡◌, ◌≤◌, ◌++◌, ◌∷◌, [], true, false, cond, IfOk, OnOk, None};
 ghost use Rattle.ug_types.specs.Ends.{Rose};
-ghost use Rattle.ug_command_io.specs.Runs.{Closes, Steps};
 ghost use Rattle.ug_core.specs.Event.{daemon_of, has_numbers};
 ghost use Rattle.ug_core.specs.Stops.{IsReadable};
 ghost use Rattle.ug_simulation.specs.Play.{tells_memory};
 ghost use Rattle.ug_script.specs.Journal.{happened_from};
+ghost use Rattle.ug_script.specs.Recording.{StepsFor, begun_text};
 ghost use Rattle.ug_script.specs.RuleFiles.{IsStillOn};
 ghost use Rattle.ug_store.specs.Scripted.{coming_up, plan_at, stops_by};
 ghost use Rattle.ug_sysfs.specs.World.{World, over};
@@ -14,17 +14,18 @@ ghost use Rattle.ug_script.specs.Replay.{IsEventPlayed, came_of, event_by, event
 ghost use Rattle.ug_script.specs.Setup.{StartsOn, after_reading, rules_from};
 
 use crate::halting::Halting;
+use crate::recorder::Recorder;
 use crate::session::Session;
 use crate::setup::Setup;
 use crate::start::restart_daemon;
-use crate::text::{outcome_text, put, stopped_text, tells_memory};
+use crate::text::tells_memory;
 use std::alloc::Global;
 use ug_audit::Panel;
 use ug_command_io::Ran;
-use ug_core::{Event, Report};
+use ug_core::{Entry, Event};
 use ug_store::{MemDisk, Planned, RuleDisk};
 use ug_sysfs::{SimKernel, Sysfs};
-use ug_types::{NoMemory, Sink};
+use ug_types::NoMemory;
 
 fn plan_failure(disk: &mut MemDisk, planned: &Planned) -> Result<(), NoMemory>
     ensures ok { OnOk result
@@ -82,35 +83,20 @@ fn handle(alloc: Global, session: &mut Session, event: &Event, kernel: &mut SimK
     );
 }
 
-fn put_outcome<K: Sink>(alloc: Global, report: &Report, out: &mut K) -> Ran
-    ensures ran { Closes (Some (replay.outcome_text (record {
-      entries = report.now.entries.entries;
-      reply = report.now.reply;
-    }))) (K.held out.old) (K.held out.new) result }
-    ensures taken { (¬ (result ≡ Ran.Bad)) × (¬ (result ≡ Ran.TooLong)) }
-    ensures counted { K.faults out.old ≤ K.faults out.new }
-    ensures cause { result ≡ Ran.SinkFailed → Rose (K.faults out.old) (K.faults out.new) }
-{
-    match outcome_text(alloc, report) {
-        Ok(text) => put(out, text.as_slice()),
-        Err(_) => Ran::Memory,
-    }
-}
-
-/// What a crash might have left of the rule file is forgotten, and the event's text is written.
-fn write_event<K: Sink>(alloc: Global, session: &mut Session, out: &mut K) -> Ran
+/// What a crash might have left of the rule file is forgotten, and the event is recorded.
+fn write_event<R: Recorder>(alloc: Global, session: &mut Session, out: &mut R) -> Ran
     requires { session.old.daemon.report.entries.entries
         ≡ (daemon_of session.old.daemon).sweep.entries }
-    ensures ran { (w : World) → Steps (replay.finished
+    ensures ran { (w : World) → StepsFor R.stands (replay.finished
         (record { daemon = daemon_of session.old.daemon; world = w; disk = session.old.disk }))
         (record { daemon = daemon_of session.new.daemon; world = over w; disk = session.new.disk })
-        (K.held out.old) (K.held out.new) result }
+        out.old out.new result }
     ensures taken { (¬ (result ≡ Ran.Bad)) × (¬ (result ≡ Ran.TooLong)) }
-    ensures counted { K.faults out.old ≤ K.faults out.new }
-    ensures cause { result ≡ Ran.SinkFailed → Rose (K.faults out.old) (K.faults out.new) }
+    ensures counted { R.faults out.old ≤ R.faults out.new }
+    ensures cause { result ≡ Ran.SinkFailed → Rose (R.faults out.old) (R.faults out.new) }
 {
     match session.disk.forget() {
-        Ok(()) => put_outcome(alloc, session.daemon.report(), out),
+        Ok(()) => out.record_outcome(alloc, session.daemon.report()),
         Err(_) => Ran::Memory,
     }
 }
@@ -161,78 +147,84 @@ fn begin_again(alloc: Global, setup: &Setup, session: &mut Session) -> Result<()
     restart_daemon(alloc, setup, session)
 }
 
-/// A new daemon is started behind an event in which the machine stopped in that call. The event's text is given.
+/// A copy of the first entry.
+fn first_of(entries: &[Entry]) -> Option<Entry>
+    ensures { begun_text result ≡ replay.first_line entries.now }
+{
+    entries.first().copied()
+}
+
+/// A new daemon is started behind an event in which the machine stopped. The event's first entry is given.
 fn restart_behind(
     alloc: Global,
     setup: &Setup,
     session: &mut Session,
-    call: u64,
-) -> Result<Vec<u8>, NoMemory>
+) -> Result<Option<Entry>, NoMemory>
     requires { session.old.daemon.report.entries.entries
         ≡ (daemon_of session.old.daemon).sweep.entries }
-    ensures text { IfOk result (λ text. text.items
-        ≡ replay.stopped_text call (daemon_of session.old.daemon).sweep.entries) }
+    ensures begun { IfOk result (λ first. begun_text first
+        ≡ replay.first_line (daemon_of session.old.daemon).sweep.entries) }
     ensures started { OnOk result (StartsOn setup.now (daemon_of session.old.daemon).event
         (coming_up session.old.disk) (daemon_of session.new.daemon)) }
     ensures read { OnOk result (session.new.disk ≡ after_reading (coming_up session.old.disk)) }
 {
-    let text = stopped_text(alloc, session.daemon.report().entries.as_slice(), call)?;
+    let first = first_of(session.daemon.report().entries.as_slice());
     begin_again(alloc, setup, session)?;
-    Ok(text)
+    Ok(first)
 }
 
-/// The same, and the text is written.
-#[tactic(auto, using(crate::proofs::EventSteps::memory_steps))]
-fn stop_event<K: Sink>(
+/// The same, and the event is recorded with that call.
+#[tactic(auto, using(crate::proofs::Recordings::memory_for))]
+fn stop_event<R: Recorder>(
     alloc: Global,
     setup: &Setup,
     session: &mut Session,
     call: u64,
-    out: &mut K,
+    out: &mut R,
 ) -> Ran
     requires { session.old.daemon.report.entries.entries
         ≡ (daemon_of session.old.daemon).sweep.entries }
-    ensures ran { (w : World) → Steps (replay.stopped_of setup.now call
+    ensures ran { (w : World) → StepsFor R.stands (replay.stopped_of setup.now call
         (record { daemon = daemon_of session.old.daemon; world = w; disk = session.old.disk })
         (rules_from session.old.disk.disk.text))
         (record { daemon = daemon_of session.new.daemon; world = over w; disk = session.new.disk })
-        (K.held out.old) (K.held out.new) result }
+        out.old out.new result }
     ensures taken { (¬ (result ≡ Ran.Bad)) × (¬ (result ≡ Ran.TooLong)) }
-    ensures counted { K.faults out.old ≤ K.faults out.new }
-    ensures cause { result ≡ Ran.SinkFailed → Rose (K.faults out.old) (K.faults out.new) }
+    ensures counted { R.faults out.old ≤ R.faults out.new }
+    ensures cause { result ≡ Ran.SinkFailed → Rose (R.faults out.old) (R.faults out.new) }
 {
-    match restart_behind(alloc, setup, session, call) {
-        Ok(text) => put(out, text.as_slice()),
+    match restart_behind(alloc, setup, session) {
+        Ok(first) => out.record_stop(alloc, first, call),
         Err(_) => Ran::Memory,
     }
 }
 
-/// An event over a disk that has begun it, and its text.
-#[tactic(auto, using(crate::proofs::EventSteps::memory_steps))]
-fn play_event<K: Sink>(
+/// An event over a disk that has begun it. It is recorded.
+#[tactic(auto, using(crate::proofs::Recordings::memory_for))]
+fn play_event<R: Recorder>(
     alloc: Global,
     setup: &Setup,
     session: &mut Session,
     plan: &[Planned],
     event: &Event,
     kernel: &mut SimKernel,
-    out: &mut K,
+    out: &mut R,
 ) -> Ran
     requires { has_numbers (daemon_of session.old.daemon) kernel.old.faults session.old.disk.faults
         ≡ true }
-    ensures ran { Steps (came_of setup.now plan.now
+    ensures ran { StepsFor R.stands (came_of setup.now plan.now
         (event_from event.now (daemon_of session.old.daemon) kernel.old session.old.disk))
         (record {
           daemon = daemon_of session.new.daemon;
           world = kernel.new;
           disk = session.new.disk;
         })
-        (K.held out.old) (K.held out.new) result }
+        out.old out.new result }
     ensures readable { result ≡ Ran.Done → IsReadable (happened_from event.now
         (daemon_of session.old.daemon) kernel.old session.old.disk) }
     ensures taken { (¬ (result ≡ Ran.Bad)) × (¬ (result ≡ Ran.TooLong)) }
-    ensures counted { K.faults out.old ≤ K.faults out.new }
-    ensures cause { result ≡ Ran.SinkFailed → Rose (K.faults out.old) (K.faults out.new) }
+    ensures counted { R.faults out.old ≤ R.faults out.new }
+    ensures cause { result ≡ Ran.SinkFailed → Rose (R.faults out.old) (R.faults out.new) }
 {
     handle(alloc, session, event, kernel);
     let noted = session.daemon.report().entries.as_slice();
@@ -247,20 +239,20 @@ fn play_event<K: Sink>(
     write_event(alloc, session, out)
 }
 
-/// An event and its text.
-#[tactic(auto, using(crate::proofs::EventSteps::memory_steps))]
-fn run_event<K: Sink>(
+/// An event, which is recorded.
+#[tactic(auto, using(crate::proofs::Recordings::memory_for))]
+fn run_event<R: Recorder>(
     alloc: Global,
     setup: &Setup,
     session: &mut Session,
     plan: &[Planned],
     event: &Event,
     kernel: &mut SimKernel,
-    out: &mut K,
+    out: &mut R,
 ) -> Ran
     requires { has_numbers (daemon_of session.old.daemon) kernel.old.faults session.old.disk.faults
         ≡ true }
-    ensures ran { Steps
+    ensures ran { StepsFor R.stands
         (came_of setup.now plan.now (event_from event.now (daemon_of session.old.daemon) kernel.old
         (replay.begun_disk plan.now session.old.disk)))
         (record {
@@ -268,12 +260,12 @@ fn run_event<K: Sink>(
           world = kernel.new;
           disk = session.new.disk;
         })
-        (K.held out.old) (K.held out.new) result }
+        out.old out.new result }
     ensures readable { result ≡ Ran.Done → IsReadable (happened_from event.now
         (daemon_of session.old.daemon) kernel.old (replay.begun_disk plan.now session.old.disk)) }
     ensures taken { (¬ (result ≡ Ran.Bad)) × (¬ (result ≡ Ran.TooLong)) }
-    ensures counted { K.faults out.old ≤ K.faults out.new }
-    ensures cause { result ≡ Ran.SinkFailed → Rose (K.faults out.old) (K.faults out.new) }
+    ensures counted { R.faults out.old ≤ R.faults out.new }
+    ensures cause { result ≡ Ran.SinkFailed → Rose (R.faults out.old) (R.faults out.new) }
 {
     match begin_disk(&mut session.disk, plan) {
         Ok(()) => play_event(alloc, setup, session, plan, event, kernel, out),
@@ -281,32 +273,32 @@ fn run_event<K: Sink>(
     }
 }
 
-/// An event and its text, unless the numbers have run out.
-pub fn next_event<K: Sink>(
+/// An event, which is recorded, unless the numbers have run out.
+pub fn next_event<R: Recorder>(
     alloc: Global,
     setup: &Setup,
     session: &mut Session,
     plan: &[Planned],
     event: &Event,
     kernel: &mut SimKernel,
-    out: &mut K,
+    out: &mut R,
 ) -> Ran
-    ensures ran { Steps (event_by setup.now event.now plan.now
+    ensures ran { StepsFor R.stands (event_by setup.now event.now plan.now
         (daemon_of session.old.daemon) kernel.old session.old.disk)
         (record {
           daemon = daemon_of session.new.daemon;
           world = kernel.new;
           disk = session.new.disk;
         })
-        (K.held out.old) (K.held out.new) result }
+        out.old out.new result }
     ensures readable { result ≡ Ran.Done → IsReadable (happened_from event.now
         (daemon_of session.old.daemon) kernel.old (replay.begun_disk plan.now session.old.disk)) }
     ensures numbers { result ≡ Ran.Bad
         → has_numbers (daemon_of session.old.daemon) kernel.old.faults session.old.disk.faults
         ≡ false }
     ensures short { ¬ (result ≡ Ran.TooLong) }
-    ensures counted { K.faults out.old ≤ K.faults out.new }
-    ensures cause { result ≡ Ran.SinkFailed → Rose (K.faults out.old) (K.faults out.new) }
+    ensures counted { R.faults out.old ≤ R.faults out.new }
+    ensures cause { result ≡ Ran.SinkFailed → Rose (R.faults out.old) (R.faults out.new) }
 {
     if !session
         .daemon

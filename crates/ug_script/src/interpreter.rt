@@ -9,9 +9,11 @@ ghost use Rattle.ug_script.specs.Against.{LacksNumbers, SpeaksAgainst};
 ghost use Rattle.ug_script.specs.Generating.{generate_end, generate_step};
 ghost use Rattle.ug_script.specs.Grammar.{step_of_line};
 ghost use Rattle.ug_script.specs.LinesRead.{LineReads};
+ghost use Rattle.ug_script.specs.Recording.{StepsFor};
 ghost use Rattle.ug_script.specs.Replay.{Begins, StartsAgain, done_line, first_step, has_begun, interpreter_state, script_step, script_end};
 
 use crate::progress::Running;
+use crate::recorder::Recorder;
 use crate::step::StepFault;
 use crate::text::put;
 use std::alloc::Global;
@@ -59,6 +61,30 @@ impl Interpreter {
         }
     }
 
+    /// Takes a line, and records its event.
+    pub fn take_for<R: Recorder>(
+        &mut self,
+        alloc: Global,
+        kernel: &mut SimKernel,
+        line: &[u8],
+        out: &mut R,
+    ) -> Ran
+        ensures ran { StepsFor R.stands
+            (script_step (interpreter_state self.old, kernel.old) line.now)
+            (interpreter_state self.new, kernel.new) out.old out.new result }
+        ensures why { (s : Script) → interpreter_state self.old ≡ Some s
+            → StartsAgain (step_of_line line.now) s kernel.old result }
+        ensures readable { result ≡ Ran.Done
+            → LineReads (interpreter_state self.old, kernel.old) line.now }
+        ensures counted { R.faults out.old ≤ R.faults out.new }
+        ensures cause { result ≡ Ran.SinkFailed → Rose (R.faults out.old) (R.faults out.new) }
+    {
+        if let Some(running) = &mut self.running {
+            return running.line(alloc, line, kernel, out);
+        }
+        self.take_header(alloc, line)
+    }
+
     /// Takes a line, and writes its text.
     pub fn take<K: Sink>(
         &mut self,
@@ -76,10 +102,7 @@ impl Interpreter {
         ensures counted { K.faults out.old ≤ K.faults out.new }
         ensures cause { result ≡ Ran.SinkFailed → Rose (K.faults out.old) (K.faults out.new) }
     {
-        if let Some(running) = &mut self.running {
-            return running.line(alloc, line, kernel, out);
-        }
-        self.take_header(alloc, line)
+        self.take_for(alloc, kernel, line, out)
     }
 
     /// Writes the last line, which tells the number of events.

@@ -1,5 +1,5 @@
 // What a script's words come to.
-ghost use Rattle.std.specs.Prelude.{◌≡◌, ◌≤◌, ◌↔◌, ℕ, false, true, List, [], ◌∷◌, Some, codes, decimal, length, neg_ℤ, pos};
+ghost use Rattle.std.specs.Prelude.{◌≡◌, ◌<◌, ◌≤◌, ◌^◌, ◌↔◌, ℕ, false, true, List, [], ◌∷◌, Option, Some, codes, decimal, length, neg_ℤ, pos};
 ghost use Rattle.ug_types.specs.NodeNames.{IsNodeName};
 ghost use Rattle.ug_types.specs.declared.verdict.Target.TheVariants as target;
 ghost use Rattle.ug_types.specs.declared.verdict.Cause.TheVariants as cause;
@@ -10,6 +10,8 @@ ghost use Rattle.ug_kernel.specs.Defaults.{HasOnEntries};
 ghost use Rattle.ug_kernel.specs.Kernel.{IsKernel, IsSound, Kernel, Moves};
 ghost use Rattle.ug_kernel.specs.Tree.{calls};
 ghost use Rattle.ug_sysfs.specs.World.{World};
+ghost use Rattle.ug_audit.specs.Printed.{IsEntry};
+ghost use Rattle.ug_audit.specs.declared.entry.Entry.{Entry};
 ghost use Rattle.ug_audit.specs.declared.entry.Entry.TheVariants as entry;
 ghost use Rattle.ug_audit.specs.declared.entry.Fault.TheVariants as fault;
 ghost use Rattle.ug_script.specs.Against.{AreRefused};
@@ -32,6 +34,11 @@ ghost use Rattle.ug_script.specs.Journal.{StaysRecorded};
 ghost use Rattle.ug_script.specs.Laws.{StaysLawful};
 ghost use Rattle.ug_script.specs.Schedules.{DoesAtOnce, StaysScheduled};
 ghost use Rattle.ug_script.specs.Script.{Script};
+ghost use Rattle.ug_lines.specs.Lines.{lines_of};
+ghost use Rattle.ug_proto.specs.declared.reply.Reply.{Reply};
+ghost use Rattle.ug_script.specs.Replay.{outcome_text, stopped_text};
+ghost use Rattle.ug_script.specs.Summing.{EachIsEntry, with_entries, with_lines};
+ghost use Rattle.ug_script.specs.declared.totals.Totals.{Totals};
 ghost use Rattle.ug_script.specs.Words.{moment_word, name_of};
 
 /// Names are read as themselves, each moment up to 250,000,000,000 is read from its decimal text, and nothing else is read.
@@ -201,4 +208,14 @@ pub fn default_law()
         ∷ entry.Intent 2 (codes "1-1") write.Off
         ∷ entry.Wrote 2 (codes "1-1") write.Off wrote.Done
         ∷ entry.End 2 ∷ [] }
+{}
+
+/// An event has the numbers of its lines by the kinds of its entries; one in which the machine stopped has those of its first entry.
+pub fn numbers_law()
+    ensures event { (es : List Entry) (reply : Option Reply) (t : Totals) → EachIsEntry es
+        → with_lines (lines_of (outcome_text (record { entries = es; reply = reply }))) t
+        ≡ with_entries es t }
+    ensures stopped { (e : Entry) (es : List Entry) (call : ℕ) (t : Totals) → call < 2 ^ 64
+        → IsEntry e
+        → with_lines (lines_of (stopped_text call (e ∷ es))) t ≡ with_entries (e ∷ []) t }
 {}

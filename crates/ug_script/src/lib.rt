@@ -7,6 +7,7 @@ mod events;
 mod generator;
 mod halting;
 mod interpreter;
+mod kinds;
 mod laws;
 mod line_word;
 mod move_lines;
@@ -15,6 +16,7 @@ mod plan_lines;
 mod plugs;
 mod progress;
 mod quoting;
+mod recorder;
 mod rule_lines;
 mod runner;
 mod running;
@@ -32,7 +34,7 @@ pub use generator::generate_policy;
 pub use interpreter::Interpreter;
 pub use laws::{
     access_law, birth_law, births_law, default_law, line_words_law, lines_law, moves_law,
-    refusal_law, schedule_law, script_law, words_law, worked_law,
+    numbers_law, refusal_law, schedule_law, script_law, words_law, worked_law,
 };
 pub use parse::parse_line;
 pub use runner::Runner;

@@ -9,6 +9,7 @@ ghost use Rattle.ug_script.specs.Grammar.{AsksForRule, AsksForRules, step_of_lin
 ghost use Rattle.ug_core.specs.Stops.{IsReadable};
 ghost use Rattle.ug_script.specs.Journal.{happened_from};
 ghost use Rattle.ug_script.specs.LinesRead.{FirstReads, StepReads};
+ghost use Rattle.ug_script.specs.Recording.{StepsFor};
 ghost use Rattle.ug_script.specs.Replay as replay;
 ghost use Rattle.ug_script.specs.Script as script;
 ghost use Rattle.ug_script.specs.Script.{can_start, daemon_in, disk_in, fresh, phase_of, with_setup_closed};
@@ -20,6 +21,7 @@ ghost use Rattle.ug_script.specs.Replay.{StartsAgain, event_by, event_taken, lin
 use crate::events::next_event;
 use crate::parse::parse_line;
 use crate::progress::{Phase, Running};
+use crate::recorder::Recorder;
 use crate::session::Session;
 use crate::setup::Setup;
 use crate::start::{restart_daemon, start_daemon};
@@ -30,7 +32,7 @@ use ug_core::Event;
 use ug_print::RulesTextFault;
 use ug_store::Planned;
 use ug_sysfs::{Move, SimKernel};
-use ug_types::{NoMemory, Sink};
+use ug_types::NoMemory;
 
 fn takes_setup(phase: &Phase) -> bool
     ensures { result ≡ script.takes_setup (phase_of phase.now) }
@@ -53,23 +55,23 @@ fn add_planned(plan: &mut Vec<Planned>, planned: Planned) -> Result<(), NoMemory
 }
 
 /// The next event, which takes what was planned for the disk.
-fn planned_event<K: Sink>(
+fn planned_event<R: Recorder>(
     alloc: Global,
     setup: &Setup,
     session: &mut Session,
     plan: &mut Vec<Planned>,
     event: &Event,
     kernel: &mut SimKernel,
-    out: &mut K,
+    out: &mut R,
 ) -> Ran
-    ensures ran { Steps (event_by setup.now event.now plan.old.items
+    ensures ran { StepsFor R.stands (event_by setup.now event.now plan.old.items
         (daemon_of session.old.daemon) kernel.old session.old.disk)
         (record {
           daemon = daemon_of session.new.daemon;
           world = kernel.new;
           disk = session.new.disk;
         })
-        (K.held out.old) (K.held out.new) result }
+        out.old out.new result }
     ensures readable { result ≡ Ran.Done → IsReadable (happened_from event.now
         (daemon_of session.old.daemon) kernel.old
         (replay.begun_disk plan.old.items session.old.disk)) }
@@ -78,8 +80,8 @@ fn planned_event<K: Sink>(
         ≡ false }
     ensures short { ¬ (result ≡ Ran.TooLong) }
     ensures planned { plan.new.items ≡ [] }
-    ensures counted { K.faults out.old ≤ K.faults out.new }
-    ensures cause { result ≡ Ran.SinkFailed → Rose (K.faults out.old) (K.faults out.new) }
+    ensures counted { R.faults out.old ≤ R.faults out.new }
+    ensures cause { result ≡ Ran.SinkFailed → Rose (R.faults out.old) (R.faults out.new) }
 {
     let ran = next_event(alloc, setup, session, plan.as_slice(), event, kernel, out);
     plan.clear();
@@ -171,16 +173,16 @@ impl Running {
     }
 
     /// Takes the first event, which starts the daemon.
-    fn first_event<K: Sink>(
+    fn first_event<R: Recorder>(
         &mut self,
         alloc: Global,
         event: &Event,
         kernel: &mut SimKernel,
-        out: &mut K,
+        out: &mut R,
     ) -> Ran
         requires { script.has_started (phase_of self.old.phase) ≡ false }
-        ensures ran { Steps (event_taken event.now (script_of self.old) kernel.old)
-            (Some (script_of self.new), kernel.new) (K.held out.old) (K.held out.new) result }
+        ensures ran { StepsFor R.stands (event_taken event.now (script_of self.old) kernel.old)
+            (Some (script_of self.new), kernel.new) out.old out.new result }
         ensures readable { result ≡ Ran.Done
             → StepReads (Some (Step.Event event.now)) (script_of self.old) kernel.old }
         ensures numbers { result ≡ Ran.Bad
@@ -188,8 +190,8 @@ impl Running {
             (disk_in (script_of self.old)).faults ≡ false }
         ensures short { result ≡ Ran.TooLong
             → can_start (script_of self.old).setup (script_of self.old).phase ≡ false }
-        ensures counted { K.faults out.old ≤ K.faults out.new }
-        ensures cause { result ≡ Ran.SinkFailed → Rose (K.faults out.old) (K.faults out.new) }
+        ensures counted { R.faults out.old ≤ R.faults out.new }
+        ensures cause { result ≡ Ran.SinkFailed → Rose (R.faults out.old) (R.faults out.new) }
     {
         match start_daemon(alloc, &self.setup) {
             Ok(session) => {
@@ -246,15 +248,15 @@ impl Running {
         self.first_restart(alloc)
     }
 
-    fn event<K: Sink>(
+    fn event<R: Recorder>(
         &mut self,
         alloc: Global,
         event: &Event,
         kernel: &mut SimKernel,
-        out: &mut K,
+        out: &mut R,
     ) -> Ran
-        ensures ran { Steps (event_taken event.now (script_of self.old) kernel.old)
-            (Some (script_of self.new), kernel.new) (K.held out.old) (K.held out.new) result }
+        ensures ran { StepsFor R.stands (event_taken event.now (script_of self.old) kernel.old)
+            (Some (script_of self.new), kernel.new) out.old out.new result }
         ensures readable { result ≡ Ran.Done
             → StepReads (Some (Step.Event event.now)) (script_of self.old) kernel.old }
         ensures numbers { result ≡ Ran.Bad
@@ -262,8 +264,8 @@ impl Running {
             (disk_in (script_of self.old)).faults ≡ false }
         ensures short { result ≡ Ran.TooLong
             → can_start (script_of self.old).setup (script_of self.old).phase ≡ false }
-        ensures counted { K.faults out.old ≤ K.faults out.new }
-        ensures cause { result ≡ Ran.SinkFailed → Rose (K.faults out.old) (K.faults out.new) }
+        ensures counted { R.faults out.old ≤ R.faults out.new }
+        ensures cause { result ≡ Ran.SinkFailed → Rose (R.faults out.old) (R.faults out.new) }
     {
         if let Phase::Started(session) = &mut self.phase {
             let setup = &self.setup;
@@ -293,21 +295,22 @@ impl Running {
         }
     }
 
-    /// Takes a line behind the first, and writes its text.
-    pub fn line<K: Sink>(
+    /// Takes a line behind the first, and records its event.
+    pub fn line<R: Recorder>(
         &mut self,
         alloc: Global,
         line: &[u8],
         kernel: &mut SimKernel,
-        out: &mut K,
+        out: &mut R,
     ) -> Ran
-        ensures ran { Steps (taken_if (step_of_line line.now) (script_of self.old) kernel.old)
-            (Some (script_of self.new), kernel.new) (K.held out.old) (K.held out.new) result }
+        ensures ran { StepsFor R.stands
+            (taken_if (step_of_line line.now) (script_of self.old) kernel.old)
+            (Some (script_of self.new), kernel.new) out.old out.new result }
         ensures why { StartsAgain (step_of_line line.now) (script_of self.old) kernel.old result }
         ensures readable { result ≡ Ran.Done
             → StepReads (step_of_line line.now) (script_of self.old) kernel.old }
-        ensures counted { K.faults out.old ≤ K.faults out.new }
-        ensures cause { result ≡ Ran.SinkFailed → Rose (K.faults out.old) (K.faults out.new) }
+        ensures counted { R.faults out.old ≤ R.faults out.new }
+        ensures cause { result ≡ Ran.SinkFailed → Rose (R.faults out.old) (R.faults out.new) }
     {
         match parse_line(alloc, line) {
             Ok(step) => self.take(alloc, step, kernel, out),
@@ -316,22 +319,22 @@ impl Running {
         }
     }
 
-    /// Takes a line's step, and writes its text.
-    fn take<K: Sink>(
+    /// Takes a line's step, and records its event.
+    fn take<R: Recorder>(
         &mut self,
         alloc: Global,
         step: Step,
         kernel: &mut SimKernel,
-        out: &mut K,
+        out: &mut R,
     ) -> Ran
         requires { AsksForRules step }
-        ensures ran { Steps (taken step (script_of self.old) kernel.old)
-            (Some (script_of self.new), kernel.new) (K.held out.old) (K.held out.new) result }
+        ensures ran { StepsFor R.stands (taken step (script_of self.old) kernel.old)
+            (Some (script_of self.new), kernel.new) out.old out.new result }
         ensures why { StartsAgain (Some step) (script_of self.old) kernel.old result }
         ensures readable { result ≡ Ran.Done
             → StepReads (Some step) (script_of self.old) kernel.old }
-        ensures counted { K.faults out.old ≤ K.faults out.new }
-        ensures cause { result ≡ Ran.SinkFailed → Rose (K.faults out.old) (K.faults out.new) }
+        ensures counted { R.faults out.old ≤ R.faults out.new }
+        ensures cause { result ≡ Ran.SinkFailed → Rose (R.faults out.old) (R.faults out.new) }
     {
         match step {
             Step::Skip => Ran::Done,

@@ -15,7 +15,7 @@ use crate::totals::{Totals, line_of_totals};
 use std::alloc::Global;
 use ug_command_io::{Machine, Ran, run};
 use ug_sysfs::SimKernel;
-use ug_types::{MemSink, Sink, Source};
+use ug_types::{Sink, Source};
 
 /// A machine of `ug_command_io` that runs a script over the kernel that it is lent, and keeps four numbers of its journal.
 #[derive(Drop)]
@@ -58,15 +58,15 @@ impl Machine<SimKernel> for Summarizer {
         line: &[u8],
         _out: &mut K,
     ) -> Ran {
-        let mut text = MemSink::new(alloc, Vec::new(alloc));
-        match self.script.step(alloc, world, line, &mut text) {
+        let mut counted = Totals::new();
+        match self.script.take_for(alloc, world, line, &mut counted) {
             Ran::Done => {
-                self.totals = self.totals.with_text(text.bytes());
+                self.totals = self.totals.with_totals(counted);
                 Ran::Done
             }
             Ran::Bad => Ran::Bad,
             Ran::TooLong => Ran::TooLong,
-            // The text finds no memory.
+            // Numbers fail no call.
             Ran::SinkFailed => Ran::Memory,
             Ran::Memory => Ran::Memory,
         }

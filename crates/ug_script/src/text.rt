@@ -3,6 +3,7 @@ ghost use Rattle.std.specs.Prelude.{◌≡◌, ◌≤◌, ◌++◌, Some, IfOk, 
 ghost use Rattle.ug_types.specs.Ends.{Rose};
 ghost use Rattle.ug_command_io.specs.Runs.{Closes};
 ghost use Rattle.ug_simulation.specs.Play as play;
+ghost use Rattle.ug_script.specs.Recording.{begun_text};
 ghost use Rattle.ug_script.specs.Replay as replay;
 ghost use Rattle.ug_script.specs.Replay.{terminated, lines_text};
 
@@ -58,12 +59,12 @@ fn stopped_line(call: u64) -> Line
 }
 
 /// What is written of an event in which the machine stopped: the line of its beginning, and that of the call.
-pub fn stopped_text(alloc: Global, entries: &[Entry], call: u64) -> Result<Vec<u8>, NoMemory>
-    ensures { IfOk result (λ text. text.items ≡ replay.stopped_text call entries.now) }
+pub fn stopped_text(alloc: Global, first: Option<Entry>, call: u64) -> Result<Vec<u8>, NoMemory>
+    ensures { IfOk result (λ text. text.items ≡ begun_text first ++ replay.stopped_line call) }
 {
     let mut text = Vec::new(alloc);
-    if let Some(first) = entries.first() {
-        push_line(&mut text, first)?;
+    if let Some(entry) = first {
+        push_line(&mut text, &entry)?;
     }
     text.extend_from_slice(stopped_line(call).bytes())?;
     Ok(text)
