@@ -1,6 +1,6 @@
 #!/usr/bin/env python3
 """Lists each name of a definition that stands in the specs/ of more than one crate, and each line of a contract or a definition that is
-wider than 100 columns. Lines that bring names in don't count, nor does a line that is a quoted text, which can't be broken.
+wider than 100 columns. Lines that bring names in don't count.
 
     checks/names.py            both lists, and how long each is
     checks/names.py --counts   how long each is, alone
@@ -55,7 +55,7 @@ def main():
         for name in definitions(text):
             crates.setdefault(name, set()).add(path.split("/")[1])
         for number, line in enumerate(text.split("\n"), 1):
-            if len(line) > WIDTH and not line.lstrip().startswith(("use ", "pub use ", "open ", '"')):
+            if len(line) > WIDTH and not line.lstrip().startswith(("use ", "pub use ", "open ")):
                 wide.append((path, number, len(line)))
     for path in sorted(glob.glob("crates/*/src/*.rt")):
         text = open(path, encoding="utf-8").read()
