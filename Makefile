@@ -73,6 +73,7 @@ install-conf:
 	$(INSTALL) -d -m 755 "$(DESTDIR)$(confdir)"
 	[ -d "$(DESTDIR)$(confdir)/IPCAccessControl.d" ] || \
 		$(INSTALL) -d -m 700 "$(DESTDIR)$(confdir)/IPCAccessControl.d"
+	[ -d "$(DESTDIR)$(confdir)/rules.d" ] || $(INSTALL) -d -m 700 "$(DESTDIR)$(confdir)/rules.d"
 	[ -e "$(DESTDIR)$(confdir)/usbguard-daemon.conf" ] || \
 		$(INSTALL) -m 600 packaging/usbguard-daemon.conf "$(DESTDIR)$(confdir)/usbguard-daemon.conf"
 	[ -e "$(DESTDIR)$(confdir)/rules.conf" ] || \

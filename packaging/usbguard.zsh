@@ -68,7 +68,7 @@ _usbguard() {
             '-d[the folder of devices]:folder:_files -/' \
             '-m[write the rules with other hashes]:hashes:_files' \
             "-o[write the rules with this machine's hashes of root hubs]" \
-            '-r[a file of rules]:rules:_files' \
+            '*-r[a file of rules, or the folder of RuleFolder]:rules:_files' \
             '-u[write the root hubs]' \
             '-w[write the rules without an attribute]:attribute:(hash parent-hash)'
     elif ((CURRENT == 2)) && [[ $words[2] == -* ]]; then

@@ -4,6 +4,7 @@
 mod auditor;
 mod entries;
 mod entry;
+mod file_name;
 mod journal;
 mod laws;
 mod lines;
@@ -13,6 +14,7 @@ mod text_auditor;
 pub use auditor::{Auditor, Noted};
 pub use entries::Entries;
 pub use entry::{ConfigPart, Entry, Fault, RuleChange};
+pub use file_name::FileName;
 pub use journal::Journal;
 pub use laws::{entries_law, noted_law};
 pub use lines::line_of;

@@ -11,7 +11,7 @@ use ug_core::{Daemon, StartFault};
 use ug_print::{RulesTextFault, rules_text};
 use ug_rule::parse_file;
 use ug_store::{MemDisk, Mishap, RuleDisk, Saved, Store};
-use ug_types::{FileFault, Rule, Text};
+use ug_types::{FileFault, List, Rule, Text};
 
 fn start(alloc: Global, disk: &mut MemDisk) -> Result<(), StartFault> {
     let Ok(settings) = default_settings(alloc) else {
@@ -19,7 +19,8 @@ fn start(alloc: Global, disk: &mut MemDisk) -> Result<(), StartFault> {
     };
     let rng = ChaCha20Rng::from_seed([0; 32]);
     let acl = Acl::new(alloc);
-    match Daemon::start(alloc, settings, acl, rng, TimeZone::UTC, 1, disk) {
+    let folder = List::new(alloc);
+    match Daemon::start(alloc, settings, acl, rng, TimeZone::UTC, 1, folder, disk) {
         Ok(_daemon) => Ok(()),
         Err(fault) => Err(fault),
     }
@@ -32,8 +33,10 @@ fn add_start(told: &mut Answer, started: Result<(), StartFault>) {
             told.add(b"disk ");
             told.add_number(count);
         }
-        Err(StartFault::BadRules(bad)) => add_file_fault(told, FileFault::Bad(bad)),
-        Err(StartFault::TooLong) => told.add(b"too long"),
+        Err(StartFault::BadFolder { fault, .. } | StartFault::BadRules(fault)) => {
+            add_file_fault(told, FileFault::Bad(fault))
+        }
+        Err(StartFault::FolderTooLong | StartFault::TooLong) => told.add(b"too long"),
         Err(StartFault::TooMany) => told.add(b"too many"),
         Err(StartFault::Memory) => told.fall_short(),
     }

@@ -1,7 +1,8 @@
 // Entries of a journal and their lines.
 use std::alloc::Global;
-use ug_audit::{ConfigPart, Entry, Fault, RuleChange, line_of};
+use ug_audit::{ConfigPart, Entry, Fault, FileName, RuleChange, line_of};
 use ug_casefile::{Answer, number_of};
+use ug_conf::is_rule_file_name;
 use ug_kernel::{FailedCall, Held, Write, Wrote};
 use ug_parameter::ParameterName;
 use ug_refusal::Refusal;
@@ -93,7 +94,17 @@ fn part(word: &str) -> Option<ConfigPart> {
         "settings" => Some(ConfigPart::Settings),
         "rules" => Some(ConfigPart::Rules),
         "access" => Some(ConfigPart::Access),
-        _ => None,
+        "folder" => Some(ConfigPart::Folder),
+        _ => file_part(word),
+    }
+}
+
+fn file_part(word: &str) -> Option<ConfigPart> {
+    let name = word.strip_prefix("folder/")?.as_bytes();
+    if is_rule_file_name(name) {
+        Some(ConfigPart::FolderFile(FileName::holding(name)))
+    } else {
+        None
     }
 }
 
@@ -118,6 +129,7 @@ fn refusal(words: &[&str]) -> Option<Refusal> {
         ["12", "memory", stands] => Some(Refusal::Memory {
             stands: *stands == "1",
         }),
+        ["14", "folder-rule", id] => Some(Refusal::FolderRule { id: number(id)? }),
         _ => None,
     }
 }

@@ -176,7 +176,7 @@ Notes set = (number : ℕ) (s : Settings) → (with_setting number set s).unused
 
 notes : (set : Setting) → Notes set
 notes (setting.RuleFile path) number s = sym (append-nil s.unused)
-notes (setting.RuleFolder path) number s = refl
+notes (setting.RuleFolder path) number s = sym (append-nil s.unused)
 notes (setting.Implicit target) number s = sym (append-nil s.unused)
 notes (setting.PresentDevice policy) number s = sym (append-nil s.unused)
 notes (setting.PresentController policy) number s = sym (append-nil s.unused)

@@ -1,5 +1,6 @@
 pub mod Assigning
 pub mod Entries
+pub mod FileNames
 pub mod Gathering
 pub mod LineCases
 pub mod Saying

@@ -34,8 +34,7 @@ is_unused default.Internal = true
 -- the settings with what the line of that number says
 abbrev pub with_setting : ℕ → Setting → Settings → Settings
 with_setting number (setting.RuleFile path) s = record s { rule_file = path }
-with_setting number (setting.RuleFolder path) s =
-    record s { rule_folder = path; unused = s.unused ++ number ∷ [] }
+with_setting number (setting.RuleFolder path) s = record s { rule_folder = path }
 with_setting number (setting.Implicit target) s = record s { implicit = target }
 with_setting number (setting.PresentDevice policy) s = record s { present_device = policy }
 with_setting number (setting.PresentController policy) s = record s { present_controller = policy }

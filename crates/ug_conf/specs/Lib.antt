@@ -2,6 +2,7 @@ pub mod Distinct
 pub mod Draft
 pub mod Faults
 pub mod Files
+pub mod FolderFiles
 pub mod Grammar
 pub mod Keys
 pub mod Meaning

@@ -26,7 +26,6 @@ GivesEntry number line entry = (entry.number ≡ number) × IsSetting line entry
 
 -- lines that set nothing yet, and are noted
 abbrev pub is_noted : Setting → Bool
-is_noted (setting.RuleFolder path) = true
 is_noted (setting.Default default) = is_unused default
 is_noted setting.Unused = true
 is_noted _ = false

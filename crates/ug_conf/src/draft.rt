@@ -48,10 +48,7 @@ fn set(
 {
     match setting {
         Setting::RuleFile(path) => settings.rule_file = path,
-        Setting::RuleFolder(path) => {
-            settings.unused.push(number)?;
-            settings.rule_folder = path;
-        }
+        Setting::RuleFolder(path) => settings.rule_folder = path,
         Setting::Implicit(target) => settings.implicit = target,
         Setting::PresentDevice(policy) => settings.present_device = policy,
         Setting::PresentController(policy) => settings.present_controller = policy,

@@ -5,6 +5,7 @@ ghost use Rattle.ug_types.specs.declared.text_fault.TextFault.{TextFault};
 ghost use Rattle.ug_conf.specs.Draft.{Draft, draft_of, setting_line_read, with_setting};
 ghost use Rattle.ug_types.specs.TextFaults.{fault_of_kind};
 ghost use Rattle.ug_lines.specs.Entries.{IsSkippedLine};
+ghost use Rattle.ug_conf.specs.FolderFiles.{IsRuleFileName, is_rule_file_name};
 ghost use Rattle.ug_conf.specs.Grammar.{IsSettingsLine, IsSetting, IsBadSetting};
 ghost use Rattle.ug_parameter.specs.declared.parameter.Inserted.TheVariants as inserted;
 ghost use Rattle.ug_types.specs.declared.verdict.Target.TheVariants as target;
@@ -58,7 +59,7 @@ pub fn key_words_law()
     ensures rule_file { conf_read (codes "RuleFile=/etc/a")
         ≡ Ok (record defaults { rule_file = codes "/etc/a" }) }
     ensures rule_folder { conf_read (codes "RuleFolder=/etc/a")
-        ≡ Ok (record defaults { rule_folder = codes "/etc/a"; unused = 1 ∷ [] }) }
+        ≡ Ok (record defaults { rule_folder = codes "/etc/a" }) }
     ensures implicit { conf_read (codes "ImplicitPolicyTarget=allow")
         ≡ Ok (record defaults { implicit = target.Allow }) }
     ensures present_device { conf_read (codes "PresentDevicePolicy=allow")
@@ -104,4 +105,14 @@ pub fn value_words_law()
 
     ensures yes { flag_of (codes "true") ≡ Some true }
     ensures no { flag_of (codes "false") ≡ Some false }
+{}
+
+/// A folder's file counts by its name alone: at most 255 letters, digits, `_`, `-` and `.`, of which the last five are `.conf`.
+pub fn file_names_law()
+    ensures counts { (name : List ℕ) → (is_rule_file_name name ≡ true) ↔ IsRuleFileName name }
+    ensures plain { is_rule_file_name (codes "10-a.conf") ≡ true }
+    ensures hidden { is_rule_file_name (codes ".10.conf") ≡ true }
+    ensures backup { is_rule_file_name (codes "10-a.conf~") ≡ false }
+    ensures old { is_rule_file_name (codes "10-a.conf.bak") ≡ false }
+    ensures spaced { is_rule_file_name (codes "10 a.conf") ≡ false }
 {}

@@ -5,6 +5,7 @@ mod defaults;
 mod draft;
 mod fault;
 mod files;
+mod folder_file;
 mod keys;
 mod laws;
 mod mem_files;
@@ -17,8 +18,11 @@ mod values;
 
 pub use defaults::default_settings;
 pub use fault::FaultKind;
-pub use files::{ConfFiles, FileRead, FolderRead};
-pub use laws::{key_words_law, lines_law, one_meaning, reading_is_grammar, value_words_law};
+pub use files::{ConfFiles, FileRead, FolderRead, TEXT_LIMIT};
+pub use folder_file::{FolderFile, is_rule_file_name};
+pub use laws::{
+    file_names_law, key_words_law, lines_law, one_meaning, reading_is_grammar, value_words_law,
+};
 pub use mem_files::MemFiles;
 pub use reader::SettingsReader;
 pub use settings::{AuthDefault, Present, Settings};

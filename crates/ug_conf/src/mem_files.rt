@@ -5,13 +5,10 @@ ghost use Rattle.ug_types.specs.Ends.{IsCounted, Rose};
 ghost use Rattle.ug_conf.specs.Files.{FitsText, pointwise, tree};
 ghost use Rattle.ug_conf.specs.MemFiles.{GivesFiles, IsBegun, IsCopy, IsNamesCopy, files_tell};
 
-use crate::files::{ConfFiles, FileRead, FolderRead};
+use crate::files::{ConfFiles, FileRead, FolderRead, TEXT_LIMIT};
 use crate::tree::{MemFile, MemFolder};
 use std::alloc::Global;
 use ug_types::{List, NoMemory, Text};
-
-/// The most bytes that are read.
-const LIMIT: usize = 67_108_864;
 
 /// Files and folders, and the numbers of the calls that fail. The first call is number 1. Of two files at one path the first counts,
 /// and so it is of folders.
@@ -75,7 +72,7 @@ fn copy_file(alloc: Global, file: Option<&MemFile>) -> FileRead
     let Some(file) = file else {
         return FileRead::Absent;
     };
-    if file.text.bytes().len() > LIMIT {
+    if file.text.bytes().len() > TEXT_LIMIT {
         return FileRead::TooLong;
     }
     match Text::of(alloc, file.text.bytes()) {

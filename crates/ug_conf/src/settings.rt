@@ -32,7 +32,7 @@ pub enum AuthDefault {
 pub struct Settings {
     /// RuleFile.
     pub rule_file: Text,
-    /// RuleFolder, which may be empty.
+    /// RuleFolder. There is none where it is empty.
     pub rule_folder: Text,
     /// IPCAccessControlFiles.
     pub access_folder: Text,

@@ -23,12 +23,13 @@ use Rattle.ug_kernel.specs.declared.calls.Probe.TheVariants as probe
 use Rattle.ug_kernel.specs.Calls.{Call, Answer, Ask_alive, ToldAnswer}
 use Rattle.ug_kernel.specs.Tree.{Runs}
 use Rattle.ug_acl.specs.Acls.{Addition}
-use Rattle.ug_policy.specs.Edits.{IsThere}
+use Rattle.ug_policy.specs.Edits.{folder_behind}
+use Rattle.ug_policy.specs.Rules.{most_rules}
 use Rattle.ug_policy.specs.declared.entry.RuleEntry.{RuleEntry}
 use Rattle.ug_rule.specs.Faults.{kind_number}
 use Rattle.ug_rule.specs.Rules.{rule_read}
 use Rattle.ug_rule.specs.declared.fault.Fault.{Fault}
-use Rattle.ug_ruleset.specs.RulePlaces.{first_of, has_rule, if_few, made_rule}
+use Rattle.ug_ruleset.specs.RulePlaces.{IsOpen, first_of, has_folder_rule, has_rule, if_barred, if_few, made_rule}
 use Rattle.ug_ruleset.specs.RuleRows.{rule_rows}
 use Rattle.ug_ruleset.specs.declared.edit.Edit.TheVariants.{Insert, Remove}
 use Rattle.ug_ruleset.proofs.MadeRules.{made_there}
@@ -43,14 +44,14 @@ use Rattle.ug_core.specs.Answering.{asking, asking_of, by_edit, by_name, by_perm
 use Rattle.ug_core.specs.Changes.{CanChange, change_lines, edit_for, change_lines_of, ordered_mark, parameter_at, record_change, rule_asked, setting_asked, standing_change}
 use Rattle.ug_core.specs.DeviceRows.{device_rows}
 use Rattle.ug_core.specs.Event.{DaemonState}
-use Rattle.ug_core.specs.Laws.{Bad_rule, By_facts, Changes, ComesTo, Denied, Devices, Full, List_rules, No_device, No_memory, No_parameter, No_place, No_record, No_room, No_rule, No_setting, No_value, Outcome, Refuses, RefusesBehind, Unread, Value, Watches, WhyRefused, Without_memory, change_of, is_on_device, only_lines, outcome_of_change}
+use Rattle.ug_core.specs.Laws.{Bad_rule, Before_folder, By_facts, Changes, ComesTo, Denied, Devices, Full, List_rules, No_device, No_memory, No_parameter, No_place, No_record, No_room, No_rule, No_setting, No_value, Of_folder, Outcome, Refuses, RefusesBehind, Unread, Value, Watches, WhyRefused, Without_memory, change_of, is_on_device, only_lines, outcome_of_change}
 use Rattle.ug_core.specs.Privileges.{denied_of, first_denied, is_granted}
 use Rattle.ug_core.specs.declared.changes.Change.{Change}
 use Rattle.ug_core.specs.declared.changes.Change.TheVariants.{Rules, Set}
 use Rattle.ug_core.specs.declared.choosing.Choice.{Choice}
 use Rattle.ug_core.specs.declared.choosing.Deed.TheVariants as deed
 use Rattle.ug_core.specs.declared.storing.Stored.TheVariants as stored
-use Rattle.ug_core.proofs.Places.{few_below, rule_there}
+use Rattle.ug_core.proofs.Places.{few_below, open_order, rule_there}
 
 -- the device of a verdict's number was probed
 pub record Probed {S : Type 0} (gives : S → (call : Call) → Answer call → S → Type 0) (who : Named) (line : List ℕ) (d : DaemonState) (number : ℕ) (verdict : Target) (permanent : Bool) (s u : S) : Type 0 where
@@ -143,7 +144,7 @@ module _ (d : DaemonState) (number : ℕ) (verdict : Target) (on : Bool) (x : St
   by_made device good None made is = by_few (nat_lt (length d.sweep.judge.rules) 65536) refl is
     where
       by_few : (b : Bool) → nat_lt (length d.sweep.judge.rules) 65536 ≡ b → c ≡ unless (cond b None (Some refusal.RulesFull)) (changing (Rules (edit_for device d.sweep.judge.classes.with_port verdict None)) (deed.SetVerdict number verdict on (change_lines (Rules (edit_for device d.sweep.judge.classes.with_port verdict None)) d.sweep.judge.next))) → FoundSo d number verdict true on c
-      by_few true few k = sets (Rules (edit_for device d.sweep.judge.classes.with_port verdict None)) (edit_asks device good None made) (tt, few_below (length d.sweep.judge.rules) few) k
+      by_few true few k = sets (Rules (edit_for device d.sweep.judge.classes.with_port verdict None)) (edit_asks device good None made) (tt, few_below (length d.sweep.judge.rules) few, tt) k
       by_few false few k = Refused_so refusal.RulesFull (No_room number verdict _ (sym (edit_asks device good None made)) (full_from (length d.sweep.judge.rules) few) refl) refl k
 
   by_record_asked : {S : Type 0} (gives : S → (call : Call) → Answer call → S → Type 0) (s t : S) (j : Judged) → x.judged ≡ j → Runs gives s (by_record d.sweep.judge number verdict on j) c t → FoundSo d number verdict true on c × (t ≡ s)
@@ -216,29 +217,37 @@ module _ {S : Type 0} (gives : S → (call : Call) → Answer call → S → Typ
   by_setting_asked name value None at reads granted h = facts (request.SetParameter name value) reads granted refusal.BadParameter (No_setting name value at) refl h
   by_setting_asked name value (Some set) at reads granted h = by_value_asked name value set (parameter_with set value) at refl reads granted h
 
-  by_id_asked : (id : ℕ) (there : Bool) → has_rule id d.sweep.judge.rules ≡ there → request_read line ≡ Ok (request.RemoveRule id) → is_granted d.access who (needs (request.RemoveRule id)) ≡ true → (c ≡ unless (cond there None (Some (refusal.NoRule id))) (changing (Rules (Remove id)) (deed.Tell []))) × (t ≡ s) → It
+  by_id_asked : (id : ℕ) (there : Bool) → has_rule id d.sweep.judge.rules ≡ there → request_read line ≡ Ok (request.RemoveRule id) → is_granted d.access who (needs (request.RemoveRule id)) ≡ true → (c ≡ unless (first_of (cond there None (Some (refusal.NoRule id))) (if_barred (has_folder_rule id d.sweep.judge.rules) id)) (changing (Rules (Remove id)) (deed.Tell []))) × (t ≡ s) → It
   by_id_asked id false at reads granted h = facts (request.RemoveRule id) reads granted (refusal.NoRule id) (No_rule id at) refl h
-  by_id_asked id true at reads granted h = chooses (request.RemoveRule id) reads granted (outcome_of_change d (Rules (Remove id))) (changing (Rules (Remove id)) (deed.Tell [])) refl (Changes (request.RemoveRule id) (Rules (Remove id)) refl refl) refl (Told_change (Rules (Remove id)) (rule_there id d.sweep.judge.rules at)) h
+  by_id_asked id true at reads granted h = by_folder (has_folder_rule id d.sweep.judge.rules) refl h
+    where
+      by_folder : (b : Bool) → has_folder_rule id d.sweep.judge.rules ≡ b → (c ≡ unless (if_barred b id) (changing (Rules (Remove id)) (deed.Tell []))) × (t ≡ s) → It
+      by_folder true own k = facts (request.RemoveRule id) reads granted (refusal.FolderRule id) (Of_folder id own) refl k
+      by_folder false own k = chooses (request.RemoveRule id) reads granted (outcome_of_change d (Rules (Remove id))) (changing (Rules (Remove id)) (deed.Tell [])) refl (Changes (request.RemoveRule id) (Rules (Remove id)) refl refl) refl (Told_change (Rules (Remove id)) (rule_there id d.sweep.judge.rules at, own)) k
 
   module _ (place : After) (permanent : Bool) (text : List ℕ) (reads : request_read line ≡ Ok (request.AppendRule place permanent text)) (granted : is_granted d.access who (needs (request.AppendRule place permanent text)) ≡ true) where
     abbrev Added : Rule → Change
     Added rule = Rules (Insert place rule (ordered_mark permanent))
 
-    by_few_asked : (rule : Rule) (b : Bool) → nat_lt (length d.sweep.judge.rules) 65536 ≡ b → rule_read text ≡ Ok rule → IsThere place d.sweep.judge.rules → (c ≡ unless (cond b None (Some refusal.RulesFull)) (changing (Added rule) (deed.Tell (change_lines (Added rule) d.sweep.judge.next)))) × (t ≡ s) → It
+    by_few_asked : (rule : Rule) (b : Bool) → nat_lt (length d.sweep.judge.rules) most_rules ≡ b → rule_read text ≡ Ok rule → IsOpen place d.sweep.judge.rules → (c ≡ unless (cond b None (Some refusal.RulesFull)) (changing (Added rule) (deed.Tell (change_lines (Added rule) d.sweep.judge.next)))) × (t ≡ s) → It
     by_few_asked rule false few read there h = facts (request.AppendRule place permanent text) reads granted refusal.RulesFull (Full place permanent text rule read there (full_from (length d.sweep.judge.rules) few)) refl h
     by_few_asked rule true few read there h =
         chooses (request.AppendRule place permanent text) reads granted (outcome_of_change d (Added rule)) (changing (Added rule) (deed.Tell (change_lines (Added rule) d.sweep.judge.next))) refl
         (Changes (request.AppendRule place permanent text) (Added rule) refl (ap (λ (r : Result Rule Fault). rule_asked place permanent r) read))
-        (sym (ap (λ (r : Result Rule Fault). rule_asked place permanent r) read)) (Told_change (Added rule) (there, few_below (length d.sweep.judge.rules) few)) h
+        (sym (ap (λ (r : Result Rule Fault). rule_asked place permanent r) read)) (Told_change (Added rule) (there.0, few_below (length d.sweep.judge.rules) few, open_order place permanent d.sweep.judge.rules there.1)) h
 
   by_place_asked : (place : After) (permanent : Bool) (text : List ℕ) (rule : Rule) → rule_read text ≡ Ok rule → request_read line ≡ Ok (request.AppendRule place permanent text) → is_granted d.access who (needs (request.AppendRule place permanent text)) ≡ true → (c ≡ by_rule d.sweep.judge place permanent (Ok rule)) × (t ≡ s) → It
-  by_place_asked after.End permanent text rule read reads granted h = by_few_asked after.End permanent text reads granted rule (nat_lt (length d.sweep.judge.rules) 65536) refl read tt h
-  by_place_asked after.Front permanent text rule read reads granted h = by_few_asked after.Front permanent text reads granted rule (nat_lt (length d.sweep.judge.rules) 65536) refl read tt h
+  by_place_asked after.End permanent text rule read reads granted h = by_few_asked after.End permanent text reads granted rule (nat_lt (length d.sweep.judge.rules) most_rules) refl read (tt, tt) h
+  by_place_asked after.Front permanent text rule read reads granted h = by_few_asked after.Front permanent text reads granted rule (nat_lt (length d.sweep.judge.rules) most_rules) refl read (tt, tt) h
   by_place_asked (after.Rule id) permanent text rule read reads granted h = by_there (has_rule id d.sweep.judge.rules) refl h
     where
-      by_there : (b : Bool) → has_rule id d.sweep.judge.rules ≡ b → (c ≡ unless (first_of (cond b None (Some (refusal.NoRule id))) (if_few d.sweep.judge.rules)) (changing (Rules (Insert (after.Rule id) rule (ordered_mark permanent))) (deed.Tell (change_lines (Rules (Insert (after.Rule id) rule (ordered_mark permanent))) d.sweep.judge.next)))) × (t ≡ s) → It
+      by_there : (b : Bool) → has_rule id d.sweep.judge.rules ≡ b → (c ≡ unless (first_of (first_of (cond b None (Some (refusal.NoRule id))) (if_barred (folder_behind id d.sweep.judge.rules) id)) (if_few d.sweep.judge.rules)) (changing (Rules (Insert (after.Rule id) rule (ordered_mark permanent))) (deed.Tell (change_lines (Rules (Insert (after.Rule id) rule (ordered_mark permanent))) d.sweep.judge.next)))) × (t ≡ s) → It
       by_there false at k = facts (request.AppendRule (after.Rule id) permanent text) reads granted (refusal.NoRule id) (No_place id permanent text rule read at) refl k
-      by_there true at k = by_few_asked (after.Rule id) permanent text reads granted rule (nat_lt (length d.sweep.judge.rules) 65536) refl read (rule_there id d.sweep.judge.rules at) k
+      by_there true at k = by_folder (folder_behind id d.sweep.judge.rules) refl k
+        where
+          by_folder : (b : Bool) → folder_behind id d.sweep.judge.rules ≡ b → (c ≡ unless (first_of (if_barred b id) (if_few d.sweep.judge.rules)) (changing (Rules (Insert (after.Rule id) rule (ordered_mark permanent))) (deed.Tell (change_lines (Rules (Insert (after.Rule id) rule (ordered_mark permanent))) d.sweep.judge.next)))) × (t ≡ s) → It
+          by_folder true own l = facts (request.AppendRule (after.Rule id) permanent text) reads granted (refusal.FolderRule id) (Before_folder id permanent text rule read (rule_there id d.sweep.judge.rules at) own) refl l
+          by_folder false own l = by_few_asked (after.Rule id) permanent text reads granted rule (nat_lt (length d.sweep.judge.rules) most_rules) refl read (rule_there id d.sweep.judge.rules at, own) l
 
   by_rule_asked : (place : After) (permanent : Bool) (text : List ℕ) (b : Bool) → request_read line ≡ Ok (request.AppendRule place permanent text) → is_granted d.access who (needs (request.AppendRule place permanent text)) ≡ true → Runs gives s (if_rule_read d.sweep.judge place permanent text b) c t → It
   by_rule_asked place permanent text false reads granted h = refuses (refusal.Memory false) No_memory refl h

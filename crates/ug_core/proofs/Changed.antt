@@ -8,12 +8,15 @@ use Rattle.ug_types.specs.declared.rule.After.TheVariants as after
 use Rattle.rand_core.specs.Stream.{Stream}
 use Rattle.ug_cond.specs.Judgements.{Judgement}
 use Rattle.ug_cond.specs.Words.{behind}
-use Rattle.ug_policy.specs.Edits.{IsThere, aimed, followed, has_id, inserted, new_entry, removed, retargeted}
+use Rattle.ug_policy.specs.Edits.{IsThere, aimed, at_front, followed, has_id, inserted, new_entry, removed, retargeted}
 use Rattle.ug_policy.specs.Kept.{StandsFor}
-use Rattle.ug_policy.specs.Rules.{IsNumbered, ids}
+use Rattle.ug_policy.specs.Marks.{FolderFirst, folder_end, is_permanent}
+use Rattle.ug_policy.specs.Rules.{IsNumbered, ids, marks}
+use Rattle.ug_policy.specs.declared.entry.Mark.{Mark}
 use Rattle.ug_policy.specs.declared.entry.RuleEntry.{RuleEntry}
 use Rattle.ug_policy.proofs.Changes.{followed_first}
 use Rattle.ug_policy.proofs.Numbering.{numbered_insert, numbered_removed, numbered_retargeted}
+use Rattle.ug_policy.proofs.Order.{end_within, order_inserted}
 use Rattle.ug_policy.proofs.Places.{FirstAt}
 use Rattle.ug_policy.proofs.Stands.{stands_insert, stands_removed, stands_retargeted}
 use Rattle.ug_core.specs.Changes.{CanChange, changed_by, with_parameter}
@@ -31,10 +34,10 @@ use Rattle.ug_core.specs.declared.classes.Classes.{Classes}
 
 -- ---- the place of a rule that is added
 
-record Placed (place : After) (es : List RuleEntry) : Type 0 where
+record Placed (place : After) (whose : Mark) (es : List RuleEntry) : Type 0 where
   at : ℕ
   within : at ≤ length es
-  puts : (added : RuleEntry) → inserted place added es ≡ insert es at added
+  puts : (added : RuleEntry) → added.mark ≡ whose → inserted place added es ≡ insert es at added
 
 record First (id : ℕ) (es : List RuleEntry) : Type 0 where
   at : ℕ
@@ -62,12 +65,23 @@ first_place : (es : List RuleEntry) (added : RuleEntry) → added ∷ es ≡ ins
 first_place [] added = refl
 first_place (e ∷ es) added = refl
 
-placed : (place : After) (es : List RuleEntry) → AllDistinct (ids es) → IsThere place es → Placed place es
-placed after.End es distinct there = record { at = length es; within = omega arith; puts = last_place es }
-placed after.Front es distinct there = record { at = zero; within = omega arith; puts = first_place es }
-placed (after.Rule id) es distinct there =
+front_place : (es : List RuleEntry) (whose : Mark) (added : RuleEntry) → added.mark ≡ whose → at_front added es ≡ insert es (cond (is_permanent whose) (folder_end (marks es)) zero) added
+front_place es whose added same = ap (λ (m : Mark). cond (is_permanent m) (insert es (folder_end (marks es)) added) (added ∷ es)) same ∙ by (is_permanent whose)
+  where
+    by : (b : Bool) → cond b (insert es (folder_end (marks es)) added) (added ∷ es) ≡ insert es (cond b (folder_end (marks es)) zero) added
+    by true = refl
+    by false = first_place es added
+
+front_within : (es : List RuleEntry) (b : Bool) → cond b (folder_end (marks es)) zero ≤ length es
+front_within es true = end_within es
+front_within es false = omega arith
+
+placed : (place : After) (whose : Mark) (es : List RuleEntry) → AllDistinct (ids es) → IsThere place es → Placed place whose es
+placed after.End whose es distinct there = record { at = length es; within = omega arith; puts = λ added same. last_place es added }
+placed after.Front whose es distinct there = record { at = cond (is_permanent whose) (folder_end (marks es)) zero; within = front_within es (is_permanent whose); puts = front_place es whose }
+placed (after.Rule id) whose es distinct there =
     let k = first_there id es there in
-    record { at = suc k.at; within = (let lt = k.within in omega (arith, lt)); puts = λ added. followed_first id added es k.at k.e distinct k.first }
+    record { at = suc k.at; within = (let lt = k.within in omega (arith, lt)); puts = λ added same. followed_first id added es k.at k.e distinct k.first }
 
 -- ---- rules as they were given
 
@@ -82,9 +96,23 @@ given_followed id added (e ∷ es) = given_append (followed id added e) (flat_ma
     by_id true = refl
     by_id false = refl
 
+given_put : (es : List RuleEntry) (i : ℕ) (y : RuleEntry) → as_given (insert es i y) ≡ insert (as_given es) i (given y)
+given_put [] zero y = refl
+given_put [] (suc i) y = refl
+given_put (e ∷ es) zero y = refl
+given_put (e ∷ es) (suc i) y = ap (λ (v : List RuleEntry). given e ∷ v) (given_put es i y)
+
+marks_given : (es : List RuleEntry) → marks (as_given es) ≡ marks es
+marks_given [] = refl
+marks_given (e ∷ es) = ap (λ (ms : List Mark). e.mark ∷ ms) (marks_given es)
+
 given_inserted : (place : After) (added : RuleEntry) (es : List RuleEntry) → as_given (inserted place added es) ≡ inserted place (given added) (as_given es)
 given_inserted after.End added es = given_append es (added ∷ [])
-given_inserted after.Front added es = refl
+given_inserted after.Front added es = by (is_permanent added.mark)
+  where
+    by : (b : Bool) → as_given (cond b (insert es (folder_end (marks es)) added) (added ∷ es)) ≡ cond b (insert (as_given es) (folder_end (marks (as_given es))) (given added)) (given added ∷ as_given es)
+    by true = given_put es (folder_end (marks es)) added ∙ ap (λ (ms : List Mark). insert (as_given es) (folder_end ms) (given added)) (sym (marks_given es))
+    by false = refl
 given_inserted (after.Rule id) added es = given_followed id added es
 
 given_removed : (id : ℕ) (es : List RuleEntry) → as_given (removed id es) ≡ removed id (as_given es)
@@ -107,8 +135,8 @@ given_retargeted id target (e ∷ es) = ap (λ (v : List RuleEntry). given (cond
 
 numbered_edited : (edit : Edit) (next : ℕ) (es : List RuleEntry) → CanEdit edit es → IsNumbered es next → IsNumbered (edited_by edit next es) (next_after edit next)
 numbered_edited (Insert place rule mark) next es can n =
-    let k = placed place es n.distinct can.0 in
-    subst (λ (v : List RuleEntry). IsNumbered v (next + 1)) (sym (k.puts (new_entry next rule mark))) (numbered_insert es next k.at (new_entry next rule mark) n refl k.within can.1)
+    let k = placed place mark es n.distinct can.0 in
+    subst (λ (v : List RuleEntry). IsNumbered v (next + 1)) (sym (k.puts (new_entry next rule mark) refl)) (numbered_insert es next k.at (new_entry next rule mark) n refl k.within can.1 (subst (λ (v : List RuleEntry). FolderFirst (marks v)) (k.puts (new_entry next rule mark) refl) (order_inserted place (new_entry next rule mark) es mark refl n.distinct can.0 can.2 n.order)))
 numbered_edited (Remove id) next es can n = numbered_removed id next es n
 numbered_edited (Retarget id rule) next es can n = numbered_retargeted id rule.target es next n
 
@@ -118,8 +146,8 @@ numbered_changed (Set set) p can n = n
 
 stands_edited : (edit : Edit) (next : ℕ) (es : List RuleEntry) (js : List Judgement) → CanEdit edit es → IsNumbered es next → StandsFor es next js → StandsFor (edited_by edit next es) (next_after edit next) js
 stands_edited (Insert place rule mark) next es js can n s =
-    let k = placed place es n.distinct can.0 in
-    subst (λ (v : List RuleEntry). StandsFor v (next + 1) js) (sym (k.puts (new_entry next rule mark))) (stands_insert es next k.at rule mark js s)
+    let k = placed place mark es n.distinct can.0 in
+    subst (λ (v : List RuleEntry). StandsFor v (next + 1) js) (sym (k.puts (new_entry next rule mark) refl)) (stands_insert es next k.at rule mark js s)
 stands_edited (Remove id) next es js can n s = stands_removed id es next js s
 stands_edited (Retarget id rule) next es js can n s = stands_retargeted id rule.target es next js s
 

@@ -1,158 +1,307 @@
--- A text's rules are read right into a list.
-use Rattle.std.proofs.Common.{◌≡◌, ◌≤◌, ◌<◌, ℕ, ◌+◌, Bool, true, false, if◌then◌else◌, nat_lt, List, [], ◌∷◌, ◌++◌, length, length-append, Option, Some, None, Result, Ok, Err, refl, sym, subst, ap, ◌∙◌, arith}
+-- A text's rules are read right into a list, behind those of the folder.
+use Rattle.std.proofs.Common.{◌≡◌, ◌≤◌, ◌<◌, ℕ, suc, ◌+◌, add-one, Bool, true, false, ◌||◌, if◌then◌else◌, nat_le, nat_lt, List, [], ◌∷◌, ◌++◌, length, length-append, append_assoc, append-nil, take, drop, get_or, slice_get, Option, Some, None, Result, Ok, Err, inl, inr, refl, sym, subst, ap, ◌∙◌, arith}
 use Rattle.std.specs.Prelude.{All, OnErr, OnOk}
+use Rattle.std.specs.List.{AllByRecursion, list_any}
+use Rattle.std.proofs.Math.Seq.{drop-cons}
 use Rattle.std.proofs.lemmas.Bool.Decides.{nat_tests}
-use Rattle.std.proofs.lemmas.List.{map-append}
+use Rattle.std.proofs.lemmas.List.{length-map, length-take-le, map-append, take-append-drop, take_more}
+use Rattle.std.proofs.lemmas.List.Elements.{All-from_recursion, recursion_from_All}
+use Rattle.std.proofs.lemmas.Option.{get_or_from_slice_get, slice_get_within}
 use Rattle.ug_types.specs.declared.rule.Rule.{Rule}
+use Rattle.ug_types.specs.declared.text_fault.FileFault.{FileFault}
+use Rattle.ug_types.specs.declared.text_fault.FileFault.TheVariants as file
 use Rattle.ug_types.specs.declared.text_fault.TextFault.{TextFault}
+use Rattle.ug_conf.specs.FolderFiles.{folder_length}
+use Rattle.ug_conf.specs.declared.folder_file.FolderFile.{FolderFile}
 use Rattle.ug_lines.specs.Lines.{lines_of}
-use Rattle.ug_lines.specs.LineReading.{lines_read, text_read, then_on}
+use Rattle.ug_lines.specs.LineReading.{LeadsTo, lines_read, text_read, then_on}
 use Rattle.ug_rule.specs.declared.fault.Fault.{Fault}
 use Rattle.ug_rule.specs.Files.{added, adding_line, file_read, line_read}
 use Rattle.ug_rule.specs.TextLines.{fault_numbered}
+use Rattle.ug_policy.specs.declared.entry.Mark.{Mark}
 use Rattle.ug_policy.specs.declared.entry.Mark.TheVariants as mark
 use Rattle.ug_policy.specs.declared.entry.RuleEntry.{RuleEntry}
 use Rattle.ug_policy.specs.Edits.{new_entry}
 use Rattle.ug_policy.specs.Kept.{StandsFor}
-use Rattle.ug_policy.specs.Rules.{Rules, rules_in}
-use Rattle.ug_types.specs.declared.text_fault.FileFault.{FileFault}
-use Rattle.ug_types.specs.declared.text_fault.FileFault.TheVariants as file
-use Rattle.ug_lines.specs.LineReading.{LeadsTo}
+use Rattle.ug_policy.specs.Marks.{is_permanent}
+use Rattle.ug_policy.specs.Rules.{Rules, marks, most_rules, rules_in}
 use Rattle.ug_print.specs.Bytes.{RuleOfBytes}
 use Rattle.ug_print.specs.RuleTexts.{rules_limit, rules_text_of}
 use Rattle.ug_print.specs.declared.rule_texts.RulesTextFault.{RulesTextFault}
 use Rattle.ug_print.specs.declared.rule_texts.RulesTextFault.TheVariants as printed
+use Rattle.ug_store.specs.DiskCalls.{file_limit}
 use Rattle.ug_ruleset.specs.RuleFile.{IsSaveable, ReadsBack, permanent_rules, permanent_text}
-use Rattle.ug_core.proofs.Readable.{all_permanent, list_reads_back, list_saves}
-use Rattle.ug_core.specs.Starting.{HasRulesOf, HoldsJust, IsListOf, StartsWith, fault_of_printing, ListsText, fault_of_file, listed, listing_line, one_listed}
-use Rattle.ug_core.proofs.Numbering.{holds_more}
+use Rattle.ug_core.proofs.Numbering.{holds_more, start_length}
+use Rattle.ug_core.proofs.Readable.{list_reads_back, list_saves, start_permanent}
+use Rattle.ug_core.specs.Starting.{AreOfFolder, BadFile, HasRulesOf, HasTooMany, HoldsJust, IsFolderListed, IsListOf, AreAllListed, ListsFolder, ListsText, Marked, StartsWith, TakesFolder, entries_from, fault_in_folder, fault_of_file, fault_of_printing, file_before, folder_read, listed, listing_line, marked_rules, marked_in, marked_of, one_listed, rules_before, rules_of_folder, start_rules}
+use Rattle.ug_core.specs.declared.start_fault.StartFault.{StartFault}
+use Rattle.ug_core.specs.declared.start_fault.StartFault.TheVariants as fault
 
--- all rules, or none where they are more than a list takes
-abbrev pub IsListed : Option (List Rule) → List Rule → Type 0
-IsListed (Some rules) all = (rules ≡ all) × (length all ≤ 65536)
-IsListed None all = 65536 < length all
+-- ---- one rule more
 
-one_more : (rule : Rule) (rules : Option (List Rule)) (all : List Rule) → IsListed rules all → IsListed (one_listed rule rules) (all ++ rule ∷ [])
-one_more rule None all h =
-    let more : length (all ++ rule ∷ []) ≡ length all + 1 = length-append all (rule ∷ []) in
+marked_more : (base : List Marked) (whose : Mark) (all : List Rule) (rule : Rule) → (base ++ marked_rules whose all) ++ record { mark = whose; rule = rule } ∷ [] ≡ base ++ marked_rules whose (all ++ rule ∷ [])
+marked_more base whose all rule =
+    append_assoc base (marked_rules whose all) (record { mark = whose; rule = rule } ∷ [])
+    ∙ ap (λ (v : List Marked). base ++ v) (sym (map-append (λ (r : Rule). record { mark = whose; rule = r }) all (rule ∷ [])))
+
+one_more : (m : Marked) (rules : Option (List Marked)) (all : List Marked) → AreAllListed rules all → AreAllListed (one_listed m rules) (all ++ m ∷ [])
+one_more m None all h =
+    let more : length (all ++ m ∷ []) ≡ length all + 1 = length-append all (m ∷ []) in
     omega (arith, h, more)
-one_more rule (Some rules) all h = by (nat_lt (length rules) 65536) refl
+one_more m (Some rules) all h = by (nat_lt (length rules) most_rules) refl
   where
-    by : (b : Bool) → nat_lt (length rules) 65536 ≡ b → IsListed (if b then Some (rules ++ rule ∷ []) else None) (all ++ rule ∷ [])
+    by : (b : Bool) → nat_lt (length rules) most_rules ≡ b → AreAllListed (if b then Some (rules ++ m ∷ []) else None) (all ++ m ∷ [])
     by true e =
         let few : length rules < 65536 = grind (arith, nat_tests, e) in
-        let same : length rules ≡ length all = ap (λ (l : List Rule). length l) h.0 in
-        let more : length (all ++ rule ∷ []) ≡ length all + 1 = length-append all (rule ∷ []) in
-        (ap (λ (l : List Rule). l ++ rule ∷ []) h.0, omega (arith, few, same, more))
+        let same : length rules ≡ length all = ap (λ (l : List Marked). length l) h.0 in
+        let more : length (all ++ m ∷ []) ≡ length all + 1 = length-append all (m ∷ []) in
+        (ap (λ (l : List Marked). l ++ m ∷ []) h.0, omega (arith, few, same, more))
     by false e =
         let many : 65536 ≤ length rules = grind (arith, nat_tests, e) in
-        let same : length rules ≡ length all = ap (λ (l : List Rule). length l) h.0 in
-        let more : length (all ++ rule ∷ []) ≡ length all + 1 = length-append all (rule ∷ []) in
+        let same : length rules ≡ length all = ap (λ (l : List Marked). length l) h.0 in
+        let more : length (all ++ m ∷ []) ≡ length all + 1 = length-append all (m ∷ []) in
         omega (arith, many, same, more)
 
--- the list's reading goes with the text's
-abbrev Goes : Result (Option (List Rule)) TextFault → Result (List Rule) TextFault → Type 0
-Goes (Ok rules) (Ok all) = IsListed rules all
-Goes (Err bad) (Err fault) = bad ≡ fault
-Goes (Ok rules) (Err fault) = ⊥
-Goes (Err bad) (Ok all) = ⊥
+module _ (base : List Marked) (whose : Mark) where
+  -- the list's reading goes with the text's, behind the rules that were there
+  abbrev Goes : Result (Option (List Marked)) TextFault → Result (List Rule) TextFault → Type 0
+  Goes (Ok rules) (Ok all) = AreAllListed rules (base ++ marked_rules whose all)
+  Goes (Err bad) (Err fault) = bad ≡ fault
+  Goes (Ok rules) (Err fault) = ⊥
+  Goes (Err bad) (Ok all) = ⊥
 
-line_goes : (number : ℕ) (rules : Option (List Rule)) (all : List Rule) → IsListed rules all → (read : Result (Option Rule) Fault) → Goes (listed rules (fault_numbered number read)) (added number all read)
-line_goes number rules all h (Ok (Some rule)) = one_more rule rules all h
-line_goes number rules all h (Ok None) = h
-line_goes number rules all h (Err fault) = refl
+  line_goes : (number : ℕ) (rules : Option (List Marked)) (all : List Rule) → AreAllListed rules (base ++ marked_rules whose all) → (read : Result (Option Rule) Fault) → Goes (listed whose rules (fault_numbered number read)) (added number all read)
+  line_goes number rules all h (Ok (Some rule)) =
+      subst (AreAllListed (one_listed (record { mark = whose; rule = rule }) rules)) (marked_more base whose all rule) (one_more (record { mark = whose; rule = rule }) rules (base ++ marked_rules whose all) h)
+  line_goes number rules all h (Ok None) = h
+  line_goes number rules all h (Err fault) = refl
 
-lines_go : (lines : List (List ℕ)) (number : ℕ) (rules : Option (List Rule)) (all : List Rule) → IsListed rules all → Goes (lines_read listing_line number rules lines) (lines_read adding_line number all lines)
-unfolding lines_read
-lines_go [] number rules all h = h
-lines_go (line ∷ lines) number rules all h = by (listing_line number rules line) (adding_line number all line) (line_goes number rules all h (line_read line)) (λ l m k. lines_go lines (number + 1) l m k)
-  where
-    by : (a : Result (Option (List Rule)) TextFault) (b : Result (List Rule) TextFault) → Goes a b
-        → ((l : Option (List Rule)) (m : List Rule) → IsListed l m → Goes (lines_read listing_line (number + 1) l lines) (lines_read adding_line (number + 1) m lines))
-        → Goes (then_on a (λ next. lines_read listing_line (number + 1) next lines)) (then_on b (λ next. lines_read adding_line (number + 1) next lines))
-    by (Ok l) (Ok m) k more = more l m k
-    by (Err bad) (Err fault) k more = k
-    by (Ok l) (Err fault) k more = absurd k
-    by (Err bad) (Ok m) k more = absurd k
+  lines_go : (lines : List (List ℕ)) (number : ℕ) (rules : Option (List Marked)) (all : List Rule) → AreAllListed rules (base ++ marked_rules whose all) → Goes (lines_read (listing_line whose) number rules lines) (lines_read adding_line number all lines)
+  unfolding lines_read
+  lines_go [] number rules all h = h
+  lines_go (line ∷ lines) number rules all h = by (listing_line whose number rules line) (adding_line number all line) (line_goes number rules all h (line_read line)) (λ l m k. lines_go lines (number + 1) l m k)
+    where
+      by : (a : Result (Option (List Marked)) TextFault) (b : Result (List Rule) TextFault) → Goes a b
+          → ((l : Option (List Marked)) (m : List Rule) → AreAllListed l (base ++ marked_rules whose m) → Goes (lines_read (listing_line whose) (number + 1) l lines) (lines_read adding_line (number + 1) m lines))
+          → Goes (then_on a (λ next. lines_read (listing_line whose) (number + 1) next lines)) (then_on b (λ next. lines_read adding_line (number + 1) next lines))
+      by (Ok l) (Ok m) k more = more l m k
+      by (Err bad) (Err fault) k more = k
+      by (Ok l) (Err fault) k more = absurd k
+      by (Err bad) (Ok m) k more = absurd k
 
-text_goes : (text : List ℕ) → Goes (text_read listing_line (Some []) text) (file_read text)
-text_goes text = lines_go (lines_of text) 1 (Some []) [] (refl, omega arith)
+  text_goes : (text : List ℕ) (rules : Option (List Marked)) → AreAllListed rules base → Goes (text_read (listing_line whose) rules text) (file_read text)
+  text_goes text rules h = lines_go (lines_of text) 1 rules [] (subst (AreAllListed rules) (sym (append-nil base)) h)
+
+  found_so : (read : Result (List Rule) TextFault) (rules : Option (List Marked)) → Goes (Ok rules) read → (all : List Rule) × (read ≡ Ok all) × AreAllListed rules (base ++ marked_rules whose all)
+  found_so (Ok all) rules k = (all, refl, k)
+  found_so (Err fault) rules k = absurd k
+
+  fault_so : (read : Result (List Rule) TextFault) (bad : TextFault) → Goes (Err bad) read → read ≡ Err bad
+  fault_so (Ok all) bad k = absurd k
+  fault_so (Err fault) bad k = ap (λ (f : TextFault). Err f) (sym k)
 
 -- what is read is all rules of the text, or the text's first bad line
 
-found_so : (read : Result (List Rule) TextFault) (rules : Option (List Rule)) → Goes (Ok rules) read → (all : List Rule) × (read ≡ Ok all) × IsListed rules all
-found_so (Ok all) rules k = (all, refl, k)
-found_so (Err fault) rules k = absurd k
+found : (base : List Marked) (whose : Mark) (text : List ℕ) (start rules : Option (List Marked)) → AreAllListed start base → text_read (listing_line whose) start text ≡ Ok rules → (all : List Rule) × (file_read text ≡ Ok all) × AreAllListed rules (base ++ marked_rules whose all)
+found base whose text start rules at h = found_so base whose (file_read text) rules (subst (λ (r : Result (Option (List Marked)) TextFault). Goes base whose r (file_read text)) h (text_goes base whose text start at))
 
-pub found : (text : List ℕ) (rules : Option (List Rule)) → text_read listing_line (Some []) text ≡ Ok rules → (all : List Rule) × (file_read text ≡ Ok all) × IsListed rules all
-found text rules h = found_so (file_read text) rules (subst (λ (r : Result (Option (List Rule)) TextFault). Goes r (file_read text)) h (text_goes text))
-
-fault_so : (read : Result (List Rule) TextFault) (bad : TextFault) → Goes (Err bad) read → read ≡ Err bad
-fault_so (Ok all) bad k = absurd k
-fault_so (Err fault) bad k = ap (λ (f : TextFault). Err f) (sym k)
-
-pub first_fault : (text : List ℕ) (bad : TextFault) → text_read listing_line (Some []) text ≡ Err bad → file_read text ≡ Err bad
-first_fault text bad h = fault_so (file_read text) bad (subst (λ (r : Result (Option (List Rule)) TextFault). Goes r (file_read text)) h (text_goes text))
+first_fault : (base : List Marked) (whose : Mark) (text : List ℕ) (start : Option (List Marked)) (bad : TextFault) → AreAllListed start base → text_read (listing_line whose) start text ≡ Err bad → file_read text ≡ Err bad
+first_fault base whose text start bad at h = fault_so base whose (file_read text) bad (subst (λ (r : Result (Option (List Marked)) TextFault). Goes base whose r (file_read text)) h (text_goes base whose text start at))
 
 -- ---- the list
 
-pub holds_none : (list : Rules) → list.entries ≡ [] → list.next ≡ 1 → StandsFor list.entries list.next [] → (rules_in list.entries ≡ []) × HoldsJust (rules_in list.entries) list
-holds_none list entries next history =
-    let none : rules_in list.entries ≡ [] = ap (λ (es : List RuleEntry). rules_in es) entries in
-    let holds : HoldsJust [] list = record { entries = entries; next = omega (arith, next); history = history } in
-    (none, subst (λ (rs : List Rule). HoldsJust rs list) (sym none) holds)
+same_marked : (es : List RuleEntry) (m : Marked) (id : ℕ) → marked_in (es ++ new_entry id m.rule m.mark ∷ []) ≡ marked_in es ++ m ∷ []
+same_marked es m id = map-append (λ (e : RuleEntry). record { mark = e.mark; rule = e.rule }) es (new_entry id m.rule m.mark ∷ [])
 
-pub holds_one_more : (rule : Rule) (list new : Rules) → HoldsJust (rules_in list.entries) list → new.entries ≡ list.entries ++ new_entry list.next rule mark.File ∷ [] → new.next ≡ list.next + 1 → (StandsFor list.entries list.next [] → StandsFor new.entries new.next [])
-    → (rules_in new.entries ≡ rules_in list.entries ++ rule ∷ []) × HoldsJust (rules_in new.entries) new
-holds_one_more rule list new h entries next history =
-    let is : rules_in new.entries ≡ rules_in list.entries ++ rule ∷ [] = ap (λ (es : List RuleEntry). rules_in es) entries ∙ map-append (λ (e : RuleEntry). e.rule) list.entries (new_entry list.next rule mark.File ∷ []) in
-    let holds : HoldsJust (rules_in list.entries ++ rule ∷ []) new = holds_more (rules_in list.entries) rule list new h entries next history in
-    (is, subst (λ (rs : List Rule). HoldsJust rs new) (sym is) holds)
+holds_one_more : (m : Marked) (list new : Rules) → HoldsJust (marked_in list.entries) list → new.entries ≡ list.entries ++ new_entry list.next m.rule m.mark ∷ [] → new.next ≡ list.next + 1 → (StandsFor list.entries list.next [] → StandsFor new.entries new.next []) → HoldsJust (marked_in new.entries) new
+holds_one_more m list new h entries next history =
+    let is : marked_in new.entries ≡ marked_in list.entries ++ m ∷ [] = ap (λ (es : List RuleEntry). marked_in es) entries ∙ same_marked list.entries m list.next in
+    subst (λ (rs : List Marked). HoldsJust rs new) (sym is) (holds_more (marked_in list.entries) m list new h entries next history)
 
 -- the same of an answer, after which a refusal has changed nothing
-pub holds_once_tried : {X E : Type 0} (rule : Rule) (list new : Rules) (result : Result X E) → HoldsJust (rules_in list.entries) list
-    → OnOk result (new.entries ≡ list.entries ++ new_entry list.next rule mark.File ∷ []) → OnOk result (new.next ≡ list.next + 1) → (StandsFor list.entries list.next [] → StandsFor new.entries new.next []) → OnErr result (new ≡ list)
-    → HoldsJust (rules_in new.entries) new
-holds_once_tried rule list new (Ok done) h entries next history err = (holds_one_more rule list new h entries next history).1
-holds_once_tried rule list new (Err refused) h entries next history err = subst (λ (l : Rules). HoldsJust (rules_in l.entries) l) (sym err) h
+pub holds_once_tried : {X E : Type 0} (m : Marked) (list new : Rules) (result : Result X E) → HoldsJust (marked_in list.entries) list
+    → OnOk result (new.entries ≡ list.entries ++ new_entry list.next m.rule m.mark ∷ []) → OnOk result (new.next ≡ list.next + 1) → (StandsFor list.entries list.next [] → StandsFor new.entries new.next []) → OnErr result (new ≡ list)
+    → HoldsJust (marked_in new.entries) new
+holds_once_tried m list new (Ok done) h entries next history err = holds_one_more m list new h entries next history
+holds_once_tried m list new (Err refused) h entries next history err = subst (λ (l : Rules). HoldsJust (marked_in l.entries) l) (sym err) h
 
-pub few_listed : (rule : Rule) (rules : List Rule) → length rules < 65536 → one_listed rule (Some rules) ≡ Some (rules ++ rule ∷ [])
-few_listed rule rules few = let e : nat_lt (length rules) 65536 ≡ true = grind arith in ap (λ (b : Bool). if b then Some (rules ++ rule ∷ []) else None) e
+pub few_listed : (m : Marked) (rules : List Marked) → length rules < 65536 → one_listed m (Some rules) ≡ Some (rules ++ m ∷ [])
+few_listed m rules few = let e : nat_lt (length rules) most_rules ≡ true = grind arith in ap (λ (b : Bool). if b then Some (rules ++ m ∷ []) else None) e
 
-pub many_listed : (rule : Rule) (rules : List Rule) → 65536 ≤ length rules → one_listed rule (Some rules) ≡ None
-many_listed rule rules many = let e : nat_lt (length rules) 65536 ≡ false = grind arith in ap (λ (b : Bool). if b then Some (rules ++ rule ∷ []) else None) e
+pub many_listed : (m : Marked) (rules : List Marked) → 65536 ≤ length rules → one_listed m (Some rules) ≡ None
+many_listed m rules many = let e : nat_lt (length rules) most_rules ≡ false = grind arith in ap (λ (b : Bool). if b then Some (rules ++ m ∷ []) else None) e
+
+-- ---- the list of the folder
+
+pub folder_none : (list : Rules) → list.entries ≡ [] → list.next ≡ 1 → StandsFor list.entries list.next [] → (marked_in list.entries ≡ []) × HoldsJust (marked_in list.entries) list × AreOfFolder list.entries
+folder_none list entries next history =
+    let none : marked_in list.entries ≡ [] = ap (λ (es : List RuleEntry). marked_in es) entries in
+    let holds : HoldsJust [] list = record { entries = entries; next = omega (arith, next); history = history } in
+    let own : AreOfFolder [] = record { own = refl; back = All-from_recursion ReadsBack [] tt } in
+    (none, subst (λ (rs : List Marked). HoldsJust rs list) (sym none) holds, subst AreOfFolder (sym entries) own)
+
+-- none of them is permanent
+pub none_permanent : (es : List RuleEntry) → marked_in es ≡ marked_rules mark.Folder (rules_in es) → list_any is_permanent (marks es) ≡ false
+none_permanent [] h = refl
+none_permanent (e ∷ es) h =
+    let first : e.mark ≡ mark.Folder = ap (λ (ms : List Marked). (get_or ms 0 (record { mark = mark.Folder; rule = e.rule })).mark) h in
+    let rest : marked_in es ≡ marked_rules mark.Folder (rules_in es) = ap (λ (ms : List Marked). drop 1 ms) h in
+    ap (λ (m : Mark). is_permanent m || list_any is_permanent (marks es)) first ∙ none_permanent es rest
+
+back_more : (es : List RuleEntry) (e : RuleEntry) → AllByRecursion ReadsBack (rules_in es) → ReadsBack e.rule → AllByRecursion ReadsBack (rules_in (es ++ e ∷ []))
+back_more [] e h k = (k, tt)
+back_more (f ∷ es) e h k = (h.0, back_more es e h.1 k)
+
+own_more : (es : List RuleEntry) (id : ℕ) (rule : Rule) → AreOfFolder es → ReadsBack rule → AreOfFolder (es ++ new_entry id rule mark.Folder ∷ [])
+own_more es id rule h k = record {
+  own = same_marked es (record { mark = mark.Folder; rule = rule }) id
+      ∙ ap (λ (ms : List Marked). ms ++ record { mark = mark.Folder; rule = rule } ∷ []) h.own
+      ∙ sym (map-append (λ (r : Rule). record { mark = mark.Folder; rule = r }) (rules_in es) (rule ∷ []))
+      ∙ ap (λ (rs : List Rule). marked_rules mark.Folder rs) (sym (map-append (λ (e : RuleEntry). e.rule) es (new_entry id rule mark.Folder ∷ [])));
+  back = All-from_recursion ReadsBack (rules_in (es ++ new_entry id rule mark.Folder ∷ [])) (back_more es (new_entry id rule mark.Folder) (recursion_from_All ReadsBack (rules_in es) h.back) k);
+}
+
+pub own_once_tried : {X E : Type 0} (rule : Rule) (list new : Rules) (result : Result X E) → AreOfFolder list.entries → ReadsBack rule → OnOk result (new.entries ≡ list.entries ++ new_entry list.next rule mark.Folder ∷ []) → OnErr result (new ≡ list) → AreOfFolder new.entries
+own_once_tried rule list new (Ok done) h back entries err = subst AreOfFolder (sym entries) (own_more list.entries list.next rule h back)
+own_once_tried rule list new (Err refused) h back entries err = subst (λ (l : Rules). AreOfFolder l.entries) (sym err) h
+
+-- ---- the folder, file by file
+
+-- one file more
+folder_more : (files : List FolderFile) (f : FolderFile) (place : ℕ) (rules new : List Rule) → folder_read place files ≡ Ok rules → file_read f.text ≡ Ok new → folder_read place (files ++ f ∷ []) ≡ Ok (rules ++ new)
+folder_more [] f place rules new h reads =
+    let none : [] ≡ rules = cc in
+    ap (λ (r : Result (List Rule) TextFault). file_before place r (Ok [])) reads
+    ∙ ap (λ (rs : List Rule). Ok rs) (append-nil new)
+    ∙ ap (λ (rs : List Rule). Ok (rs ++ new)) none
+folder_more (g ∷ files) f place rules new h reads = by (file_read g.text) (folder_read (place + 1) files) h (λ b k. folder_more files f (place + 1) b new k reads)
+  where
+    by : (r : Result (List Rule) TextFault) (q : Result (List Rule) BadFile) → file_before place r q ≡ Ok rules
+        → ((b : List Rule) → q ≡ Ok b → folder_read (place + 1) (files ++ f ∷ []) ≡ Ok (b ++ new))
+        → file_before place r (folder_read (place + 1) (files ++ f ∷ [])) ≡ Ok (rules ++ new)
+    by (Ok a) (Ok b) k rest =
+        let is : a ++ b ≡ rules = cc in
+        ap (λ (q : Result (List Rule) BadFile). rules_before a q) (rest b refl)
+        ∙ ap (λ (rs : List Rule). Ok rs) (sym (append_assoc a b new) ∙ ap (λ (v : List Rule). v ++ new) is)
+    by (Ok a) (Err bad) k rest = let none : ⊥ = cc in absurd none
+    by (Err bad) q k rest = let none : ⊥ = cc in absurd none
+
+-- one that is bad
+folder_bad : (files more : List FolderFile) (f : FolderFile) (place : ℕ) (rules : List Rule) (bad : TextFault) → folder_read place files ≡ Ok rules → file_read f.text ≡ Err bad → folder_read place (files ++ f ∷ more) ≡ Err (record { file = place + length files; fault = bad })
+folder_bad [] more f place rules bad h reads =
+    let same : place ≡ place + 0 = omega arith in
+    ap (λ (r : Result (List Rule) TextFault). file_before place r (folder_read (place + 1) more)) reads
+    ∙ ap (λ (n : ℕ). Err (record { file = n; fault = bad })) same
+folder_bad (g ∷ files) more f place rules bad h reads = by (file_read g.text) (folder_read (place + 1) files) h (λ b k. folder_bad files more f (place + 1) b bad k reads)
+  where
+    by : (r : Result (List Rule) TextFault) (q : Result (List Rule) BadFile) → file_before place r q ≡ Ok rules
+        → ((b : List Rule) → q ≡ Ok b → folder_read (place + 1) (files ++ f ∷ more) ≡ Err (record { file = (place + 1) + length files; fault = bad }))
+        → file_before place r (folder_read (place + 1) (files ++ f ∷ more)) ≡ Err (record { file = place + suc (length files); fault = bad })
+    by (Ok a) (Ok b) k rest =
+        let same : (place + 1) + length files ≡ place + suc (length files) = omega arith in
+        ap (λ (q : Result (List Rule) BadFile). rules_before a q) (rest b refl)
+        ∙ ap (λ (n : ℕ). Err (record { file = n; fault = bad })) same
+    by (Ok a) (Err other) k rest = let none : ⊥ = cc in absurd none
+    by (Err other) q k rest = let none : ⊥ = cc in absurd none
+
+pub files_none : (listed : Option (List Marked)) → listed ≡ Some [] → ListsFolder [] listed
+files_none listed is = record { rules = []; reads = refl; all = subst (λ (o : Option (List Marked)). AreAllListed o []) (sym is) (refl, omega arith) }
+
+pub files_more : (files : List FolderFile) (i : ℕ) (f : FolderFile) (listed next : Option (List Marked)) → slice_get files i ≡ Some f → ListsFolder (take i files) listed → text_read (listing_line mark.Folder) listed f.text ≡ Ok next → ListsFolder (take (i + 1) files) next
+files_more files i f listed next at h read =
+    let all = found (marked_rules mark.Folder h.rules) mark.Folder f.text listed next h.all read in
+    let one : take (i + 1) files ≡ take i files ++ f ∷ [] = take_more files i f (slice_get_within files i f at) ∙ ap (λ (x : FolderFile). take i files ++ x ∷ []) (get_or_from_slice_get files i f f at) in
+    record {
+      rules = h.rules ++ all.0;
+      reads = ap (folder_read 0) one ∙ folder_more (take i files) f 0 h.rules all.0 h.reads all.1;
+      all = subst (AreAllListed next) (sym (map-append (λ (r : Rule). record { mark = mark.Folder; rule = r }) h.rules all.0)) all.2;
+    }
+
+pub files_bad : (files : List FolderFile) (i : ℕ) (f : FolderFile) (listed last : Option (List Marked)) (fault : FileFault) → slice_get files i ≡ Some f → ListsFolder (take i files) listed → LeadsTo (text_read (listing_line mark.Folder) listed f.text) (Err fault) last → IsFolderListed files (Err (fault_in_folder i fault))
+files_bad files i f start last (file.Bad bad) at h read =
+    let within : i < length files = slice_get_within files i f at in
+    let reads : file_read f.text ≡ Err bad = first_fault (marked_rules mark.Folder h.rules) mark.Folder f.text start bad h.all read in
+    let long : 0 + length (take i files) ≡ i = omega (arith, length-take-le i files (omega (arith, within))) in
+    let split : files ≡ take i files ++ f ∷ drop (i + 1) files =
+    sym (take-append-drop i files) ∙ ap (λ (v : List FolderFile). take i files ++ v) (rw (add-one, drop-cons files i f) (ap (λ (x : FolderFile). x ∷ drop (suc i) files) (get_or_from_slice_get files i f f at))) in
+    ap (folder_read 0) split
+    ∙ folder_bad (take i files) (drop (i + 1) files) f 0 h.rules bad h.reads reads
+    ∙ ap (λ (n : ℕ). Err (record { file = n; fault = bad })) long
+files_bad files i f start last file.Memory at h read = tt
+
+-- ---- what is told of the folder
+
+pub takes_folder : (files : List FolderFile) (listed : Option (List Marked)) (o : Option Rules) → nat_le (folder_length files) file_limit ≡ true → ListsFolder files listed → marked_of o ≡ listed → TakesFolder files (Ok o)
+takes_folder files listed o short h is = (
+  h.rules,
+  ap (λ (b : Bool). if b then rules_of_folder (folder_read 0 files) else Err fault.FolderTooLong) short ∙ ap rules_of_folder h.reads,
+  subst (λ (l : Option (List Marked)). AreAllListed l (marked_rules mark.Folder h.rules)) (sym is) h.all,
+)
+
+pub refuses_folder : (files : List FolderFile) (e : StartFault) → nat_le (folder_length files) file_limit ≡ true → IsFolderListed files (Err e) → TakesFolder files (Err e)
+refuses_folder files (fault.BadFolder place bad) short h = inl (ap (λ (b : Bool). if b then rules_of_folder (folder_read 0 files) else Err fault.FolderTooLong) short ∙ ap rules_of_folder h)
+refuses_folder files fault.Memory short h = inr refl
+refuses_folder files fault.FolderTooLong short h = absurd h
+refuses_folder files fault.TooLong short h = absurd h
+refuses_folder files fault.TooMany short h = absurd h
+refuses_folder files (fault.BadRules bad) short h = absurd h
+refuses_folder files (fault.Disk count) short h = absurd h
+
+pub refuses_long : (files : List FolderFile) → nat_le (folder_length files) file_limit ≡ false → TakesFolder files (Err fault.FolderTooLong)
+refuses_long files long = inl (ap (λ (b : Bool). if b then rules_of_folder (folder_read 0 files) else Err fault.FolderTooLong) long)
 
 -- ---- what is told of a text
 
-pub good_list : (text : List ℕ) (rules : List Rule) (list : Rules) → text_read listing_line (Some []) text ≡ Ok (Some rules) → HoldsJust rules list → ListsText text list
-good_list text rules list read holds =
-    let all = found text (Some rules) read in
-    record { rules = all.0; reads = all.1; few = all.2.1; holds = subst (λ (rs : List Rule). HoldsJust rs list) all.2.0 holds }
+pub good_list : (folder : List Rule) (text : List ℕ) (start : Option (List Marked)) (rules : List Marked) (list : Rules) → AreAllListed start (marked_rules mark.Folder folder) → text_read (listing_line mark.File) start text ≡ Ok (Some rules) → HoldsJust rules list → ListsText folder text list
+good_list folder text start rules list at read holds =
+    let all = found (marked_rules mark.Folder folder) mark.File text start (Some rules) at read in
+    record { rules = all.0; reads = all.1; few = omega (arith, all.2.1, start_length folder all.0); holds = subst (λ (rs : List Marked). HoldsJust rs list) all.2.0 holds }
 
-pub many_rules : (text : List ℕ) → text_read listing_line (Some []) text ≡ Ok None → (rules : List Rule) × (file_read text ≡ Ok rules) × (65536 < length rules)
-many_rules text read = found text None read
+pub many_rules : (folder : List Rule) (text : List ℕ) (start : Option (List Marked)) → AreAllListed start (marked_rules mark.Folder folder) → text_read (listing_line mark.File) start text ≡ Ok None → HasTooMany folder text
+many_rules folder text start at read =
+    let all = found (marked_rules mark.Folder folder) mark.File text start None at read in
+    record { rules = all.0; reads = all.1; many = omega (arith, all.2, start_length folder all.0) }
 
-pub bad_text : (text : List ℕ) (fault : FileFault) (last : Option (List Rule)) → LeadsTo (text_read listing_line (Some []) text) (Err fault) last → IsListOf text (Err (fault_of_file fault))
-bad_text text (file.Bad bad) last h = first_fault text bad h
-bad_text text file.Memory last h = tt
+pub bad_text : (folder : List Rule) (text : List ℕ) (start : Option (List Marked)) (fault : FileFault) (last : Option (List Marked)) → AreAllListed start (marked_rules mark.Folder folder) → LeadsTo (text_read (listing_line mark.File) start text) (Err fault) last → IsListOf folder text (Err (fault_of_file fault))
+bad_text folder text start (file.Bad bad) last at h = first_fault (marked_rules mark.Folder folder) mark.File text start bad at h
+bad_text folder text start file.Memory last at h = tt
 
 -- ---- its canonical text
 
-just_its_rules : (rules : List Rule) (list : Rules) → HoldsJust rules list → permanent_rules list.entries ≡ rules
-just_its_rules rules list h = ap (λ (es : List RuleEntry). permanent_rules es) h.entries ∙ all_permanent 1 rules
+just_its_rules : (folder rules : List Rule) (list : Rules) → HoldsJust (start_rules folder rules) list → permanent_rules list.entries ≡ rules
+just_its_rules folder rules list h = ap (λ (es : List RuleEntry). permanent_rules es) h.entries ∙ start_permanent 1 folder rules
 
-pub starts_so : (text : List ℕ) (list : Rules) (canonical : List ℕ) → ListsText text list → canonical ≡ permanent_text list.entries → length canonical ≤ rules_limit → All RuleOfBytes (permanent_rules list.entries)
-    → HasRulesOf text list × All ReadsBack (rules_in list.entries) × IsSaveable list.entries
-starts_so text list canonical h is fits bytes =
-    let same = just_its_rules h.rules list h.holds in
-    let room : length (rules_text_of h.rules) ≤ rules_limit = subst (λ (rs : List Rule). length (rules_text_of rs) ≤ rules_limit) same (subst (λ (t : List ℕ). length t ≤ rules_limit) is fits) in
-    let of_bytes : All RuleOfBytes h.rules = subst (All RuleOfBytes) same bytes in (
-      record { rules = h.rules; reads = h.reads; few = h.few; fits = room; holds = h.holds },
-      list_reads_back text h.rules list h.reads of_bytes h.holds,
-      list_saves text h.rules list h.reads of_bytes room h.few h.holds,
-    )
+module _ (folder : List Rule) (text : List ℕ) (list : Rules) (canonical : List ℕ) (h : ListsText folder text list) (is : canonical ≡ permanent_text list.entries) (fits : length canonical ≤ rules_limit) (bytes : All RuleOfBytes (permanent_rules list.entries)) where
+  same : permanent_rules list.entries ≡ h.rules
+  same = just_its_rules folder h.rules list h.holds
 
-pub no_text : (text : List ℕ) (list : Rules) (fault : RulesTextFault) → ListsText text list → (fault ≡ printed.TooLong → rules_limit < length (permanent_text list.entries)) → StartsWith text (Err (fault_of_printing fault))
-no_text text list printed.TooLong h long =
-    record { rules = h.rules; reads = h.reads; few = h.few; long = subst (λ (rs : List Rule). rules_limit < length (rules_text_of rs)) (just_its_rules h.rules list h.holds) (long refl) }
-no_text text list printed.Memory h long = tt
+  room : length (rules_text_of h.rules) ≤ rules_limit
+  room = subst (λ (rs : List Rule). length (rules_text_of rs) ≤ rules_limit) same (subst (λ (t : List ℕ). length t ≤ rules_limit) is fits)
+
+  pub text_starts : HasRulesOf folder text list
+  text_starts = record { rules = h.rules; reads = h.reads; few = h.few; fits = room; holds = h.holds }
+
+  pub text_back : All ReadsBack folder → All ReadsBack (rules_in list.entries)
+  text_back back = list_reads_back text folder h.rules list back h.reads (subst (All RuleOfBytes) same bytes) h.holds
+
+  pub text_saves : IsSaveable list.entries
+  text_saves = list_saves text folder h.rules list h.reads (subst (All RuleOfBytes) same bytes) room (let few : length folder + length h.rules ≤ most_rules = h.few in omega (arith, few)) h.holds
+
+pub no_text : (folder : List Rule) (text : List ℕ) (list : Rules) (fault : RulesTextFault) → ListsText folder text list → (fault ≡ printed.TooLong → rules_limit < length (permanent_text list.entries)) → StartsWith folder text (Err (fault_of_printing fault))
+no_text folder text list printed.TooLong h long =
+    record { rules = h.rules; reads = h.reads; few = h.few; long = subst (λ (rs : List Rule). rules_limit < length (rules_text_of rs)) (just_its_rules folder h.rules list h.holds) (long refl) }
+no_text folder text list printed.Memory h long = tt
+
+-- a text whose list was refused
+pub no_list : (folder : List Rule) (text : List ℕ) (e : StartFault) → IsListOf folder text (Err e) → StartsWith folder text (Err e)
+no_list folder text (fault.BadRules bad) h = h
+no_list folder text fault.TooMany h = h
+no_list folder text fault.Memory h = tt
+no_list folder text fault.TooLong h = absurd h
+no_list folder text (fault.Disk count) h = absurd h
+no_list folder text (fault.BadFolder place bad) h = absurd h
+no_list folder text fault.FolderTooLong h = absurd h
+
+-- the folder's rules are those of its list
+pub own_listed : (list : Rules) → AreOfFolder list.entries → length list.entries ≤ most_rules → AreAllListed (marked_of (Some list)) (marked_rules mark.Folder (rules_in list.entries))
+own_listed list h few = (h.own, let long : length (marked_rules mark.Folder (rules_in list.entries)) ≡ length list.entries = length-map (rules_in list.entries) (λ (r : Rule). record { mark = mark.Folder; rule = r }) ∙ length-map list.entries (λ (e : RuleEntry). e.rule) in omega (arith, few, long))

@@ -37,7 +37,7 @@ use Rattle.ug_core.specs.Event.{DaemonState, first_entry, moment_of, saved_entri
 use Rattle.ug_core.specs.declared.daemon.Event.{Event}
 use Rattle.ug_core.specs.declared.daemon.Event.TheVariants.{Sweep, Order}
 use Rattle.ug_core.specs.InForce.{Decision, decision_of, decisions_in, unordered}
-use Rattle.ug_core.specs.Laws.{AnswersAtOnce, AnswersEvent, Bad_rule, By_facts, CarriesOut, Changes, ComesTo, Denied, Devices, Full, Handled, IsInForce, List_rules, No_device, No_memory, No_parameter, No_place, No_record, No_room, No_rule, No_setting, No_value, Outcome, ProbeRefuses, RefusedBehind, RefusedByProbe, Refuses, RefusesBehind, RefusesOrder, StoreRefuses, Unread, Unstored, Value, Watches, WhyRefused, Without_memory, change_of, if_watching}
+use Rattle.ug_core.specs.Laws.{AnswersAtOnce, AnswersEvent, Bad_rule, Before_folder, By_facts, CarriesOut, Changes, ComesTo, Denied, Devices, Full, Handled, IsInForce, List_rules, No_device, No_memory, No_parameter, No_place, No_record, No_room, No_rule, No_setting, No_value, Of_folder, Outcome, ProbeRefuses, RefusedBehind, RefusedByProbe, Refuses, RefusesBehind, RefusesOrder, StoreRefuses, Unread, Unstored, Value, Watches, WhyRefused, Without_memory, change_of, if_watching}
 use Rattle.ug_core.specs.Rulings.{Ruling, Told, Was_changed, at_moment}
 use Rattle.ug_core.specs.Chain.{Happened, ready_of, changes_asked, decided, journal, told_if, told_of, was_done, tells_unlisted, has_listed, IsPlaced, WasAsked, WasOrdered}
 use Rattle.ug_core.proofs.InForce.{unordered_append, decisions_append, decisions_more, has_decision}
@@ -243,6 +243,8 @@ module _ (policy : Judging) (first : Kernel) (hs : List Happened) (h : Happened)
     facts_undone _ _ (No_device number verdict permanent none) = refl
     facts_undone _ _ (No_place id permanent text rule read none) = refl
     facts_undone _ _ (No_rule id none) = refl
+    facts_undone _ _ (Before_folder id permanent text rule read there own) = refl
+    facts_undone _ _ (Of_folder id own) = refl
     facts_undone _ _ (No_parameter name none) = refl
     facts_undone _ _ (No_setting name value none) = refl
     facts_undone _ _ (No_value name value set known none) = refl

@@ -6,10 +6,10 @@ use Rattle.ug_refusal.specs.declared.refusal.Refusal.{Refusal}
 use Rattle.ug_refusal.specs.declared.refusal.Refusal.TheVariants as refusal
 use Rattle.ug_types.specs.declared.rule.After.{After}
 use Rattle.ug_types.specs.declared.rule.After.TheVariants as after
-use Rattle.ug_policy.specs.Edits.{IsThere, has_id}
-use Rattle.ug_policy.specs.Rules.{ids}
+use Rattle.ug_policy.specs.Edits.{IsBehindFolder, IsThere, KeepsMarkOrder, folder_behind, has_id}
+use Rattle.ug_policy.specs.Rules.{ids, most_rules}
 use Rattle.ug_policy.specs.declared.entry.RuleEntry.{RuleEntry}
-use Rattle.ug_ruleset.specs.RulePlaces.{first_of, has_rule, if_few, place_refusal, if_taken}
+use Rattle.ug_ruleset.specs.RulePlaces.{first_of, has_folder_rule, has_rule, if_barred, if_few, place_refusal, if_removed, if_taken, if_there}
 use Rattle.ug_core.specs.Policy.{Judging}
 use Rattle.ug_types.specs.declared.record.DeviceRecord.{DeviceRecord}
 use Rattle.ug_types.specs.declared.verdict.Target.{Target}
@@ -17,7 +17,7 @@ use Rattle.ug_ruleset.specs.RuleEdits.{CanEdit, if_room_for}
 use Rattle.ug_ruleset.specs.RulePlaces.{made_rule}
 use Rattle.ug_ruleset.specs.declared.edit.Edit.{Edit}
 use Rattle.ug_ruleset.proofs.MadeRules.{made_there}
-use Rattle.ug_core.specs.Changes.{edit_for, verdict_edit}
+use Rattle.ug_core.specs.Changes.{edit_for, ordered_mark, verdict_edit}
 
 pub rule_there : (id : ℕ) (es : List RuleEntry) → has_rule id es ≡ true → Has (ids es) id
 rule_there id [] h = let none : ⊥ = cc in absurd none
@@ -47,17 +47,37 @@ few_by false h = let none : ⊥ = cc in absurd none
 place_there : (place : After) (rules : List RuleEntry) → place_refusal place rules ≡ None → IsThere place rules
 place_there after.End rules h = tt
 place_there after.Front rules h = tt
-place_there (after.Rule id) rules h = rule_there id rules (there_by (has_rule id rules) id h)
+place_there (after.Rule id) rules h = rule_there id rules (there_by (has_rule id rules) id (none_else (if_there id rules) (if_barred (folder_behind id rules) id) h).0)
 
-pub place_free : (place : After) (rules : List RuleEntry) → if_taken place rules ≡ None → IsThere place rules × (length rules < 65536)
-place_free place rules h =
+barred_by : (b : Bool) (id : ℕ) → if_barred b id ≡ None → b ≡ false
+barred_by true id h = let none : ⊥ = cc in absurd none
+barred_by false id h = refl
+
+place_behind : (place : After) (rules : List RuleEntry) → place_refusal place rules ≡ None → IsBehindFolder place rules
+place_behind after.End rules h = tt
+place_behind after.Front rules h = tt
+place_behind (after.Rule id) rules h = barred_by (folder_behind id rules) id (none_else (if_there id rules) (if_barred (folder_behind id rules) id) h).1
+
+-- an ordered rule keeps the order
+pub open_order : (place : After) (permanent : Bool) (rules : List RuleEntry) → IsBehindFolder place rules → KeepsMarkOrder place (ordered_mark permanent) rules
+open_order place true rules h = h
+open_order place false rules h = tt
+
+pub place_free : (place : After) (permanent : Bool) (rules : List RuleEntry) → if_taken place rules ≡ None → IsThere place rules × (length rules < most_rules) × KeepsMarkOrder place (ordered_mark permanent) rules
+place_free place permanent rules h =
     let both = none_else (place_refusal place rules) (if_few rules) h in
-    (place_there place rules both.0, few_below (length rules) (few_by (nat_lt (length rules) 65536) both.1))
+    (place_there place rules both.0, few_below (length rules) (few_by (nat_lt (length rules) most_rules) both.1), open_order place permanent rules (place_behind place rules both.0))
+
+-- a rule that may be removed
+pub removal_free : (id : ℕ) (rules : List RuleEntry) → if_removed id rules ≡ None → Has (ids rules) id × (has_folder_rule id rules ≡ false)
+removal_free id rules h =
+    let both = none_else (if_there id rules) (if_barred (has_folder_rule id rules) id) h in
+    (rule_there id rules (there_by (has_rule id rules) id both.0), barred_by (has_folder_rule id rules) id both.1)
 
 -- a verdict's edit, for which there is room
 edit_by : (device : DeviceRecord) (verdict : Target) (p : Judging) (o : Option ℕ) → made_rule device p.classes.with_port p.rules ≡ o → if_room_for (edit_for device p.classes.with_port verdict o) p.rules ≡ None → CanEdit (edit_for device p.classes.with_port verdict o) p.rules
 edit_by device verdict p (Some id) made room = made_there device p.classes.with_port p.rules id made
-edit_by device verdict p None made room = (tt, few_below (length p.rules) (few_by (nat_lt (length p.rules) 65536) room))
+edit_by device verdict p None made room = (tt, few_below (length p.rules) (few_by (nat_lt (length p.rules) most_rules) room), tt)
 
 pub edit_can : (device : DeviceRecord) (verdict : Target) (p : Judging) (edit : Edit) → edit ≡ verdict_edit device verdict p → if_room_for edit p.rules ≡ None → CanEdit edit p.rules
 edit_can device verdict p edit is room =

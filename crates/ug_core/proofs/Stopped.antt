@@ -1,12 +1,12 @@
 -- What a stop leaves is a rule file, at each moment of a run.
-use Rattle.std.proofs.Common.{◌≡◌, ℕ, ◌<◌, ◌≤◌, Bool, true, false, cond, List, [], ◌∷◌, ◌++◌, length, Option, Some, None, Result, Ok, Err, inl, inr, ◌⊎◌, refl, sym, ◌∙◌, ap, subst, arith}
+use Rattle.std.proofs.Common.{◌≡◌, ℕ, ◌+◌, ◌<◌, ◌≤◌, Bool, true, false, cond, List, [], ◌∷◌, ◌++◌, length, Option, Some, None, Result, Ok, Err, inl, inr, ◌⊎◌, refl, sym, ◌∙◌, ap, subst, arith}
 use Rattle.ug_types.specs.Elements.{Has}
 use Rattle.ug_types.proofs.Elements.{has_cases}
 use Rattle.ug_types.specs.declared.rule.Rule.{Rule}
 use Rattle.ug_types.specs.declared.saved.Saved.{Saved}
 use Rattle.ug_types.specs.declared.saved.Saved.TheVariants as saved
 use Rattle.ug_kernel.specs.Kernel.{Kernel}
-use Rattle.ug_policy.specs.Rules.{Rules}
+use Rattle.ug_policy.specs.Rules.{Rules, most_rules}
 use Rattle.ug_policy.specs.declared.entry.RuleEntry.{RuleEntry}
 use Rattle.ug_rule.specs.Files.{file_read}
 use Rattle.ug_rule.proofs.Cases.{one_outcome}
@@ -23,7 +23,7 @@ use Rattle.ug_core.specs.Changes.{ChangeSaves, changed_by, is_saved, text_if_sav
 use Rattle.ug_core.specs.Durable.{IsKept, WritesEvent, as_list, change_in, if_written, rules_of, rules_of_change, text_of_change, texts_of, unsure_behind, unsure_with}
 use Rattle.ug_core.specs.Event.{DaemonState}
 use Rattle.ug_core.specs.Policy.{Judging}
-use Rattle.ug_core.specs.Starting.{HoldsJust, StartsAfter, fault_of_recovery}
+use Rattle.ug_core.specs.Starting.{HoldsJust, StartsAfter, fault_of_recovery, start_rules}
 use Rattle.ug_core.specs.Stops.{AllReadable, AreFiles, EachStops, IsReadable, LeavesRules, LoadsJust, NoneSaved, StartsJust, StartsSure, StopsIn, StopsLeaveRules, WasUnsaved, rules_past, unsure_rules}
 use Rattle.ug_core.specs.Storing.{WritesRules}
 use Rattle.ug_core.specs.declared.changes.Change.{Change}
@@ -36,7 +36,7 @@ use Rattle.ug_core.specs.declared.storing.Stored.{Stored}
 use Rattle.ug_core.specs.declared.storing.Stored.TheVariants as stored
 use Rattle.std.proofs.lemmas.Option.{same_Some}
 use Rattle.ug_core.proofs.Kept.{kept_along}
-use Rattle.ug_core.proofs.Readable.{all_permanent}
+use Rattle.ug_core.proofs.Readable.{start_permanent}
 
 -- ---- texts that are rule files
 
@@ -281,44 +281,43 @@ same_read : (text : List ℕ) (a b : List Rule) → file_read text ≡ Ok a → 
 same_read text a b e f = one_outcome (file_read text) a b e f
 
 -- by what was read
-from_text : (text : List ℕ) (rules : List Rule) (result : Result (Bool × Rules) StartFault) → file_read text ≡ Ok rules → length (rules_text_of rules) ≤ rules_limit → length rules ≤ 65536 → StartsAfter (Ok text) result → LoadsJust rules result
-from_text text rules (Ok started) reads fits few h = (h.0, subst (λ (rs : List Rule). HoldsJust rs started.1) (same_read text h.1.rules rules h.1.reads reads) h.1.holds)
-from_text text rules (Err (fault.BadRules bad)) reads fits few h = let other = sym h ∙ reads in let none : ⊥ = cc in absurd none
-from_text text rules (Err fault.TooMany) reads fits few h =
-    let many : 65536 < length rules = subst (λ (rs : List Rule). 65536 < length rs) (same_read text h.0 rules h.1 reads) h.2 in
-    let none : ⊥ = omega (arith, many, few) in
-    absurd none
-from_text text rules (Err fault.TooLong) reads fits few h =
+from_text : (folder : List Rule) (text : List ℕ) (rules : List Rule) (result : Result (Bool × Rules) StartFault) → file_read text ≡ Ok rules → length (rules_text_of rules) ≤ rules_limit → StartsAfter folder (Ok text) result → LoadsJust folder rules result
+from_text folder text rules (Ok started) reads fits h = (h.0, subst (λ (rs : List Rule). HoldsJust (start_rules folder rs) started.1) (same_read text h.1.rules rules h.1.reads reads) h.1.holds)
+from_text folder text rules (Err (fault.BadRules bad)) reads fits h = let other = sym h ∙ reads in let none : ⊥ = cc in absurd none
+from_text folder text rules (Err fault.TooMany) reads fits h = subst (λ (rs : List Rule). most_rules < length folder + length rs) (same_read text h.rules rules h.reads reads) h.many
+from_text folder text rules (Err fault.TooLong) reads fits h =
     let long : file_limit < length (rules_text_of rules) = subst (λ (rs : List Rule). file_limit < length (rules_text_of rs)) (same_read text h.rules rules h.reads reads) h.long in
     let none : ⊥ = omega (arith, long, fits) in
     absurd none
-from_text text rules (Err fault.Memory) reads fits few h = tt
-from_text text rules (Err (fault.Disk count)) reads fits few h = absurd h
+from_text folder text rules (Err fault.Memory) reads fits h = tt
+from_text folder text rules (Err (fault.Disk count)) reads fits h = absurd h
+from_text folder text rules (Err (fault.BadFolder place bad)) reads fits h = absurd h
+from_text folder text rules (Err fault.FolderTooLong) reads fits h = absurd h
 
-from_fault : (e : RecoverFault) (file : List ℕ) (rules : List Rule) (result : Result (Bool × Rules) StartFault) → length file ≤ rules_limit → RecoversFrom (Err e) file → result ≡ Err (fault_of_recovery e) → LoadsJust rules result
-from_fault (recover.Failed count) file rules result within h is = subst (λ (r : Result (Bool × Rules) StartFault). LoadsJust rules r) (sym is) tt
-from_fault recover.TooLong file rules result within h is = let none : ⊥ = omega (arith, within, h) in absurd none
-from_fault recover.Memory file rules result within h is = subst (λ (r : Result (Bool × Rules) StartFault). LoadsJust rules r) (sym is) tt
+from_fault : (folder : List Rule) (e : RecoverFault) (file : List ℕ) (rules : List Rule) (result : Result (Bool × Rules) StartFault) → length file ≤ rules_limit → RecoversFrom (Err e) file → result ≡ Err (fault_of_recovery e) → LoadsJust folder rules result
+from_fault folder (recover.Failed count) file rules result within h is = subst (λ (r : Result (Bool × Rules) StartFault). LoadsJust folder rules r) (sym is) tt
+from_fault folder recover.TooLong file rules result within h is = let none : ⊥ = omega (arith, within, h) in absurd none
+from_fault folder recover.Memory file rules result within h is = subst (λ (r : Result (Bool × Rules) StartFault). LoadsJust folder rules r) (sym is) tt
 
-from_read : (read : Result (List ℕ) RecoverFault) (file : List ℕ) (rules : List Rule) (result : Result (Bool × Rules) StartFault) → IsRuleFile rules file → RecoversFrom read file → StartsAfter read result → LoadsJust rules result
-from_read (Ok text) file rules result is h starts = from_text text rules result (ap (λ (t : List ℕ). file_read t) h.0 ∙ is.reads) is.fits is.few starts
-from_read (Err e) file rules result is h starts = from_fault e file rules result is.within h starts
+from_read : (folder : List Rule) (read : Result (List ℕ) RecoverFault) (file : List ℕ) (rules : List Rule) (result : Result (Bool × Rules) StartFault) → IsRuleFile rules file → RecoversFrom read file → StartsAfter folder read result → LoadsJust folder rules result
+from_read folder (Ok text) file rules result is h starts = from_text folder text rules result (ap (λ (t : List ℕ). file_read t) h.0 ∙ is.reads) is.fits starts
+from_read folder (Err e) file rules result is h starts = from_fault folder e file rules result is.within h starts
 
 pub starts_just : StartsJust
-starts_just m n read result rules was starts file = from_read read m.text rules result file was.file starts
+starts_just m n folder read result rules was starts file = from_read folder read m.text rules result file was.file starts
 
 -- the text that was read
-sure_read : (read : Result (List ℕ) RecoverFault) (file : List ℕ) (started : Bool × Rules) → RecoversFrom read file → StartsAfter read (Ok started) → IsRuleFile (permanent_rules started.1.entries) file
-sure_read (Ok text) file started h starts =
+sure_read : (folder : List Rule) (read : Result (List ℕ) RecoverFault) (file : List ℕ) (started : Bool × Rules) → RecoversFrom read file → StartsAfter folder read (Ok started) → IsRuleFile (permanent_rules started.1.entries) file
+sure_read folder (Ok text) file started h starts =
     let r = starts.1 in
-    let rules : permanent_rules started.1.entries ≡ r.rules = ap (λ (es : List RuleEntry). permanent_rules es) r.holds.entries ∙ all_permanent 1 r.rules in
+    let rules : permanent_rules started.1.entries ≡ r.rules = ap (λ (es : List RuleEntry). permanent_rules es) r.holds.entries ∙ start_permanent 1 folder r.rules in
     subst (λ (rs : List Rule). IsRuleFile rs file) (sym rules) (record {
       reads = ap (λ (t : List ℕ). file_read t) (sym h.0) ∙ r.reads;
       within = h.1;
       fits = r.fits;
-      few = r.few;
+      few = let few : length folder + length r.rules ≤ most_rules = r.few in omega (arith, few);
     })
-sure_read (Err e) file started h starts = let none : ⊥ = cc in absurd none
+sure_read folder (Err e) file started h starts = let none : ⊥ = cc in absurd none
 
 pub starts_sure : StartsSure
-starts_sure m n read started was starts = sure_read read m.text started was.file starts
+starts_sure m n folder read started was starts = sure_read folder read m.text started was.file starts

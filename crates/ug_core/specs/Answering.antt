@@ -36,7 +36,7 @@ use Rattle.ug_core.specs.Event.{DaemonState, noting}
 use Rattle.ug_core.specs.Changes.{CanChange, ChangeReads, change_lines, ordered_mark, parameter_at, verdict_edit}
 use Rattle.ug_core.specs.Privileges.{denied_of}
 use Rattle.ug_ruleset.specs.RuleEdits.{if_room_for}
-use Rattle.ug_ruleset.specs.RulePlaces.{if_taken, if_there}
+use Rattle.ug_ruleset.specs.RulePlaces.{if_removed, if_taken}
 use Rattle.ug_core.specs.DeviceRows.{device_rows}
 use Rattle.ug_ruleset.specs.RuleRows.{rule_rows}
 use Rattle.ug_core.specs.declared.changes.Change.{Change}
@@ -159,7 +159,7 @@ if_rule_read p after permanent text false = Return (refusing (refusal.Memory fal
 
 -- a rule is removed
 abbrev pub by_id : List RuleEntry → ℕ → Choice
-by_id rules id = unless (if_there id rules) (changing (Rules (Remove id)) (deed.Tell []))
+by_id rules id = unless (if_removed id rules) (changing (Rules (Remove id)) (deed.Tell []))
 
 abbrev pub asking_of : DaemonState → Request → Prog Choice
 asking_of d (request.GetParameter name) = by_name d.sweep.judge.classes (parameter_of name)

@@ -25,7 +25,8 @@ use Rattle.ug_audit.specs.declared.entry.Entry.{Entry}
 use Rattle.ug_audit.specs.declared.entry.Entry.TheVariants as entry
 use Rattle.ug_proto.specs.declared.reply.Reply.{Reply}
 use Rattle.ug_proto.specs.declared.reply.Reply.TheVariants as replies
-use Rattle.ug_policy.specs.Edits.{IsThere}
+use Rattle.ug_policy.specs.Edits.{folder_behind}
+use Rattle.ug_policy.specs.Rules.{ids, most_rules}
 use Rattle.ug_policy.specs.declared.entry.Mark.TheVariants as mark
 use Rattle.ug_proto.specs.declared.request.Request.{Request}
 use Rattle.ug_proto.specs.declared.request.Request.TheVariants as request
@@ -50,7 +51,7 @@ use Rattle.ug_core.specs.Answering.{acting, answered_with, asking, deed_after, r
 use Rattle.ug_core.specs.Changes.{CanChange, change_asked, change_lines, changed_by, is_saved, change_lines_of, parameter_at}
 use Rattle.ug_core.specs.Storing.{TellsStored, noted_store, refused_by, stored_with, storing, with_changes}
 use Rattle.ug_ruleset.specs.RuleFile.{FitsFile, IsSaveable}
-use Rattle.ug_ruleset.specs.RulePlaces.{has_rule}
+use Rattle.ug_ruleset.specs.RulePlaces.{IsOpen, has_folder_rule, has_rule}
 use Rattle.ug_ruleset.specs.declared.edit.Edit.TheVariants.{Insert}
 use Rattle.ug_core.specs.DeviceRows.{device_rows}
 use Rattle.ug_ruleset.specs.RuleRows.{rule_rows}
@@ -113,7 +114,8 @@ NamesOnceIn told s d t e =
 
 -- The facts for which a request of one who may make it is refused without a call. Of several the
 -- first in the order of usbguard(1) counts: a rule that can't be read, before a place that isn't
--- there, before a list that is full; a name before its value.
+-- there, before one that has a rule of the folder behind it, before a list that is full; a name
+-- before its value. A rule of the folder isn't removed.
 pub data Refuses (d : DaemonState) : Request → Refusal → Type 0 where
   Bad_rule : (place : After) (permanent : Bool) (text : List ℕ) (bad : Fault)
       → rule_read text ≡ Err bad
@@ -125,6 +127,12 @@ pub data Refuses (d : DaemonState) : Request → Refusal → Type 0 where
   No_place : (id : ℕ) (permanent : Bool) (text : List ℕ) (rule : Rule) → rule_read text ≡ Ok rule
       → has_rule id d.sweep.judge.rules ≡ false
       → Refuses d (request.AppendRule (after.Rule id) permanent text) (refusal.NoRule id)
+  Before_folder : (id : ℕ) (permanent : Bool) (text : List ℕ) (rule : Rule)
+      → rule_read text ≡ Ok rule
+      → Has (ids d.sweep.judge.rules) id → folder_behind id d.sweep.judge.rules ≡ true
+      → Refuses d (request.AppendRule (after.Rule id) permanent text) (refusal.FolderRule id)
+  Of_folder : (id : ℕ) → has_folder_rule id d.sweep.judge.rules ≡ true
+      → Refuses d (request.RemoveRule id) (refusal.FolderRule id)
   No_rule : (id : ℕ) → has_rule id d.sweep.judge.rules ≡ false
       → Refuses d (request.RemoveRule id) (refusal.NoRule id)
   No_parameter : (name : List ℕ) → parameter_of name ≡ None
@@ -135,7 +143,7 @@ pub data Refuses (d : DaemonState) : Request → Refusal → Type 0 where
       → parameter_with set value ≡ None
       → Refuses d (request.SetParameter name value) refusal.BadValue
   Full : (place : After) (permanent : Bool) (text : List ℕ) (rule : Rule) → rule_read text ≡ Ok rule
-      → IsThere place d.sweep.judge.rules → 65536 ≤ length d.sweep.judge.rules
+      → IsOpen place d.sweep.judge.rules → most_rules ≤ length d.sweep.judge.rules
       → Refuses d (request.AppendRule place permanent text) refusal.RulesFull
 
 -- what is refused before a call: a line that is no request, before a privilege that is missing,
@@ -209,7 +217,7 @@ pub data RefusesBehind (d : DaemonState) (became : Stored) : Request → Refusal
   No_room : (number : ℕ) (verdict : Target) (rule : Rule)
       → change_of d (request.Device number verdict true)
       ≡ Some (Rules (Insert after.End rule mark.File))
-      → 65536 ≤ length d.sweep.judge.rules → became ≡ stored.NotNeeded
+      → most_rules ≤ length d.sweep.judge.rules → became ≡ stored.NotNeeded
       → RefusesBehind d became (request.Device number verdict true) refusal.RulesFull
   Unstored : (asked : Request) (refused : Refusal) (change : Change)
       → change_of d asked ≡ Some change → CanChange change d.sweep.judge.rules

@@ -1,13 +1,13 @@
 -- What a stop at any moment of a run leaves of the rule file, and what a start makes of it, in the
 -- words of rules.
-use Rattle.std.specs.Prelude.{◌≡◌, ℕ, Bool, false, List, [], ◌∷◌, ◌++◌, Option, Some, Result, Ok, Err, ◌⊎◌}
+use Rattle.std.specs.Prelude.{◌≡◌, ℕ, ◌+◌, ◌<◌, Bool, false, List, [], ◌∷◌, ◌++◌, length, Option, Some, Result, Ok, Err, ◌⊎◌}
 use Rattle.ug_types.specs.Elements.{Has}
 use Rattle.ug_types.specs.declared.rule.Rule.{Rule}
 use Rattle.ug_refusal.specs.declared.refusal.Refusal.TheVariants as refusal
 use Rattle.ug_types.specs.declared.saved.Saved.TheVariants as saved
 use Rattle.ug_kernel.specs.Kernel.{Kernel}
 use Rattle.ug_audit.specs.declared.entry.Entry.TheVariants as entry
-use Rattle.ug_policy.specs.Rules.{Rules}
+use Rattle.ug_policy.specs.Rules.{Rules, most_rules}
 use Rattle.ug_policy.specs.declared.entry.RuleEntry.{RuleEntry}
 use Rattle.ug_store.specs.Disk.{Disk, Images, IsImage}
 use Rattle.ug_store.specs.Store.{HasRecovered}
@@ -17,7 +17,7 @@ use Rattle.ug_core.specs.Chain.{Happened, Chain}
 use Rattle.ug_core.specs.Changes.{changed_by}
 use Rattle.ug_core.specs.Durable.{IsKept, WritesEvent, change_in, if_written, rules_of, unsure_behind, unsure_with}
 use Rattle.ug_core.specs.Event.{DaemonState}
-use Rattle.ug_core.specs.Starting.{HoldsJust, StartsAfter}
+use Rattle.ug_core.specs.Starting.{HoldsJust, StartsAfter, start_rules}
 use Rattle.ug_core.specs.declared.changes.Change.{Change}
 use Rattle.ug_core.specs.declared.start_fault.StartFault.{StartFault}
 use Rattle.ug_core.specs.declared.start_fault.StartFault.TheVariants as fault
@@ -144,25 +144,28 @@ StopsLeaveRules =
 
 -- ---- a start
 
--- a start has just these rules, with nothing pending, unless a call of the disk failed or memory
--- was short
-abbrev pub LoadsJust : List Rule → Result (Bool × Rules) StartFault → Type 0
-LoadsJust rules (Ok started) = (started.0 ≡ false) × HoldsJust rules started.1
-LoadsJust rules (Err (fault.Disk count)) = Unit {0}
-LoadsJust rules (Err fault.Memory) = Unit {0}
-LoadsJust rules (Err e) = ⊥
+-- a start has the folder's rules and then just these, with nothing pending, unless a call of the
+-- disk failed, they are more than a list takes, or memory was short
+abbrev pub LoadsJust : List Rule → List Rule → Result (Bool × Rules) StartFault → Type 0
+LoadsJust folder rules (Ok started) =
+    (started.0 ≡ false) × HoldsJust (start_rules folder rules) started.1
+LoadsJust folder rules (Err (fault.Disk count)) = Unit {0}
+LoadsJust folder rules (Err fault.TooMany) = most_rules < length folder + length rules
+LoadsJust folder rules (Err fault.Memory) = Unit {0}
+LoadsJust folder rules (Err e) = ⊥
 
 -- What a start has read is such a text: where a stop leaves no other, nothing else is unsure of its
 -- rules.
 abbrev pub StartsSure : Type 0
-StartsSure = (m n : Disk) (read : Result (List ℕ) RecoverFault) (started : Bool × Rules)
-    → HasRecovered m read n → StartsAfter read (Ok started)
+StartsSure =
+    (m n : Disk) (folder : List Rule) (read : Result (List ℕ) RecoverFault)
+    (started : Bool × Rules) → HasRecovered m read n → StartsAfter folder read (Ok started)
     → IsRuleFile (permanent_rules started.1.entries) m.text
 
 -- behind a reading of a rule file that has such a text
 abbrev pub StartsJust : Type 0
 StartsJust =
-    (m n : Disk) (read : Result (List ℕ) RecoverFault) (result : Result (Bool × Rules) StartFault)
-    (rules : List Rule)
-    → HasRecovered m read n → StartsAfter read result → IsRuleFile rules m.text
-    → LoadsJust rules result
+    (m n : Disk) (folder : List Rule) (read : Result (List ℕ) RecoverFault)
+    (result : Result (Bool × Rules) StartFault) (rules : List Rule)
+    → HasRecovered m read n → StartsAfter folder read result → IsRuleFile rules m.text
+    → LoadsJust folder rules result

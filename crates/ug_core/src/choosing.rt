@@ -320,8 +320,8 @@ impl<'z, R: Rng> Daemon<'z, R> {
         ensures lines { HasReplyLines result.deed }
         ensures can_make { CanMake (daemon_of self.now).sweep.judge.rules result.change }
     {
-        if !self.policy.has_rule(id) {
-            return refuse(Refusal::NoRule { id });
+        if let Some(refusal) = self.policy.refuse_removal(id) {
+            return refuse(refusal);
         }
         change(
             Change::Rules(Edit::Remove { id }),

@@ -8,6 +8,7 @@ mod choosing;
 mod classes;
 mod daemon;
 mod device_list;
+mod folder;
 mod laws;
 mod list_laws;
 mod load;

@@ -8,7 +8,7 @@ ghost use Rattle.ug_core.specs.Changes.{CanChange, ChangeReads, ChangeSaves, Has
 ghost use Rattle.ug_ruleset.specs.RuleEdits.{EditReads, if_room_for};
 ghost use Rattle.ug_ruleset.specs.RuleFile.{FitsFile, IsSaveable, ReadsBack, permanent_rules, permanent_text};
 ghost use Rattle.ug_policy.specs.Rules.{rules_in};
-ghost use Rattle.ug_ruleset.specs.RulePlaces.{has_rule, if_taken};
+ghost use Rattle.ug_ruleset.specs.RulePlaces.{if_removed, if_taken};
 ghost use Rattle.ug_lines.specs.Splitting.{AreLines};
 ghost use Rattle.ug_ruleset.specs.RuleRows.{rule_rows};
 
@@ -129,11 +129,11 @@ impl<'z, R: Rng> Policy<'z, R> {
         self.rules.next_id()
     }
 
-    /// Whether a rule has the id.
-    pub fn has_rule(&self, id: u64) -> bool
-        ensures { result ≡ has_rule id (judging_of R.stream self.now).rules }
+    /// Why the rule of that id isn't removed.
+    pub fn refuse_removal(&self, id: u64) -> Option<Refusal>
+        ensures { result ≡ if_removed id (judging_of R.stream self.now).rules }
     {
-        self.rules.has_rule(id)
+        self.rules.refuse_removal(id)
     }
 
     /// Why no rule is put behind that place.

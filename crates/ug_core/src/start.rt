@@ -11,6 +11,7 @@ ghost use Rattle.ug_core.specs.Verdicts.{IsLater};
 
 use crate::classes::{Classes, hub_default};
 use crate::daemon::Daemon;
+use crate::folder::list_folder;
 use crate::load::load_rules;
 use crate::policy::Policy;
 use crate::report::Report;
@@ -20,11 +21,12 @@ use rand_core::Rng;
 use std::alloc::Global;
 use ug_acl::Acl;
 use ug_audit::Entries;
-use ug_conf::Settings;
+use ug_conf::{FolderFile, Settings};
 use ug_kernel::Write;
 use ug_policy::RuleList;
 use ug_store::{RuleDisk, Store};
 use ug_table::Table;
+use ug_types::List;
 
 /// The room of the entries that belong to no standing, and a place for each member of a panel.
 const ROOM: usize = 128;
@@ -77,7 +79,8 @@ impl<'z, R: Rng + Drop> Beside<'z, R> {
 }
 
 impl<'z, R: Rng + Drop> Daemon<'z, R> {
-    /// A daemon with the rules of the disk's rule file, whose first event has that number. It makes the room of an event's entries.
+    /// A daemon with the rules of the folder's files, in their order, and then those of the disk's rule file; its first event has that
+    /// number. The folder is tried before anything is asked of the disk. It makes the room of an event's entries.
     pub fn start<D: RuleDisk>(
         alloc: Global,
         settings: Settings,
@@ -85,6 +88,7 @@ impl<'z, R: Rng + Drop> Daemon<'z, R> {
         rng: R,
         zone: TimeZone<'z>,
         first: u64,
+        folder: List<FolderFile>,
         disk: &mut D,
     ) -> Result<Daemon<'z, R>, StartFault>
         ensures starts { Starts D.keeps D.told D.faults (record {
@@ -94,13 +98,14 @@ impl<'z, R: Rng + Drop> Daemon<'z, R> {
           clock = clock_of zone.entry;
           words = R.stream rng;
           first = first;
-        }) disk.old (seen_by (λ d. daemon_of d) result) disk.new }
+        }) folder disk.old (seen_by (λ d. daemon_of d) result) disk.new }
         ensures new { IfOk result
             (λ d. IsLater (daemon_of d).sweep.judge 0 [] (daemon_of d).sweep.judge) }
         ensures saveable { IfOk result (λ d. IsSaveable (daemon_of d).sweep.judge.rules) }
         ensures number { IfOk result (λ d. d.report.event ≡ 0) }
     {
-        let loaded = load_rules(alloc, disk)?;
+        let listed = list_folder(alloc, folder.as_slice())?;
+        let loaded = load_rules(alloc, listed, disk)?;
         let beside = Beside {
             classes: Classes::of(&settings),
             hub_default: hub_default(settings.default),

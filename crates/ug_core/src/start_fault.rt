@@ -12,9 +12,13 @@ pub enum StartFault {
     BadRules(TextFault),
     /// The rule file has more than 67,108,864 bytes, or the canonical text of its rules would have more.
     TooLong,
-    /// More than 65,536 rules.
+    /// More than 65,536 rules in the folder and the rule file together.
     TooMany,
     Memory,
+    /// The file of the folder at that place, from 0, isn't rules: its first bad line.
+    BadFolder { file: u64, fault: TextFault },
+    /// The folder's files have more than 67,108,864 bytes in all.
+    FolderTooLong,
 }
 
 impl From<NoMemory> for StartFault {

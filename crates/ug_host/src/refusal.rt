@@ -7,13 +7,18 @@ ghost use Rattle.ug_audit.specs.Auditors.{TakesEntryLine};
 use std::cell::Cell;
 use std::rc::Rc;
 use std::str;
-use ug_audit::{Auditor, Noted};
+use ug_audit::{Auditor, FileName, Noted};
+use ug_conf::is_rule_file_name;
 
 /// A part of a configuration.
 #[derive(Clone, Copy, Debug, PartialEq, Eq, Drop)]
 pub enum RefusedPart {
     Settings,
     Access,
+    /// The files of the folder of rules, together.
+    Folder,
+    /// One of them.
+    FolderFile(FileName),
     Rules,
 }
 
@@ -26,12 +31,22 @@ pub struct StartRefusal {
     pub place: u64,
 }
 
+fn file_of(word: &str) -> Option<RefusedPart> {
+    let name = word.strip_prefix("folder/")?.as_bytes();
+    if is_rule_file_name(name) {
+        Some(RefusedPart::FolderFile(FileName::holding(name)))
+    } else {
+        None
+    }
+}
+
 fn part_of(word: &str) -> Option<RefusedPart> {
     match word {
         "settings" => Some(RefusedPart::Settings),
         "access" => Some(RefusedPart::Access),
+        "folder" => Some(RefusedPart::Folder),
         "rules" => Some(RefusedPart::Rules),
-        _ => None,
+        _ => file_of(word),
     }
 }
 

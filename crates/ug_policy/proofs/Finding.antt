@@ -19,11 +19,12 @@ use Rattle.ug_cond.specs.declared.history.History.{History}
 use Rattle.ug_cond.specs.Judgements.{Judgement, IsHistory}
 use Rattle.ug_cond.specs.Words.{behind, words_of}
 use Rattle.ug_cond.proofs.Truths.{conditions_decide}
+use Rattle.ug_policy.specs.declared.entry.Mark.{Mark}
 use Rattle.ug_policy.specs.declared.entry.RuleEntry.{RuleEntry}
 use Rattle.ug_policy.specs.Deciding.{conditions_take, rule_takes, words_taken, rule_conditions_hold, rule_holds, RuleConditionsHold, RuleHolds, decides, IsDecider, HasNoDecider, Found, put_before, find_decider, reached, decider, seen, noted_first, rules_judged, judgement_found}
 use Rattle.ug_policy.specs.Kept.{StandsFor}
 use Rattle.ug_policy.specs.Matching.{matched, answer_by, answered, greatest, rule_noted, judged}
-use Rattle.ug_policy.specs.Rules.{ids, IsNumbered}
+use Rattle.ug_policy.specs.Rules.{ids, marks, IsNumbered}
 use Rattle.ug_policy.proofs.Numbering.{numbered_same}
 use Rattle.ug_policy.proofs.Stands.{FirstMatches}
 
@@ -191,13 +192,21 @@ ids_found dev moment [] [] = refl
 ids_found dev moment [] (e ∷ rest) = refl
 ids_found dev moment (e ∷ before) rest = ap (λ (n : ℕ). n ∷ ids (map (seen dev moment) before ++ noted_first moment rest)) (id_seen dev moment e) ∙ ap (λ (v : List ℕ). e.id ∷ v) (ids_found dev moment before rest)
 
+mark_seen : (dev : DeviceRecord) (moment : Moment) (e : RuleEntry) → (seen dev moment e).mark ≡ e.mark
+mark_seen dev moment e = elim (matched dev e) as (λ (b : Bool). (cond b (record e { history = record e.history { evaluated = Some (greatest e.history.evaluated moment) } }) e).mark ≡ e.mark) [ true ↦ refl | false ↦ refl ]
+
+marks_found : (dev : DeviceRecord) (moment : Moment) (before rest : List RuleEntry) → marks (map (seen dev moment) before ++ noted_first moment rest) ≡ marks (before ++ rest)
+marks_found dev moment [] [] = refl
+marks_found dev moment [] (e ∷ rest) = refl
+marks_found dev moment (e ∷ before) rest = ap (λ (m : Mark). m ∷ marks (map (seen dev moment) before ++ noted_first moment rest)) (mark_seen dev moment e) ∙ ap (λ (v : List Mark). e.mark ∷ v) (marks_found dev moment before rest)
+
 length_found : (dev : DeviceRecord) (moment : Moment) (before rest : List RuleEntry) → length (map (seen dev moment) before ++ noted_first moment rest) ≡ length (before ++ rest)
 length_found dev moment [] [] = refl
 length_found dev moment [] (e ∷ rest) = refl
 length_found dev moment (e ∷ before) rest = ap suc (length_found dev moment before rest)
 
 pub numbered_found : (dev : DeviceRecord) (moment : Moment) (f : Found) (next : ℕ) → IsNumbered (f.before ++ f.rest) next → IsNumbered (rules_judged dev moment f) next
-numbered_found dev moment f next n = numbered_same (f.before ++ f.rest) (rules_judged dev moment f) next (ids_found dev moment f.before f.rest) (length_found dev moment f.before f.rest) n
+numbered_found dev moment f next n = numbered_same (f.before ++ f.rest) (rules_judged dev moment f) next (ids_found dev moment f.before f.rest) (marks_found dev moment f.before f.rest) (length_found dev moment f.before f.rest) n
 
 -- the judgement, by the place of the rule that decides
 up_to : (dev : DeviceRecord) (ctx : Context) (records : List DeviceRecord) (es : List RuleEntry) (stream : Stream) (i : ℕ) (e : RuleEntry) → IsDecider dev ctx records es stream i e → take i es ++ e ∷ [] ≡ take (i + 1) es

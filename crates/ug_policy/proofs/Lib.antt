@@ -1,6 +1,7 @@
 pub mod Places
 pub mod Changes
 pub mod Members
+pub mod Order
 pub mod Numbering
 pub mod Stands
 pub mod Finding

@@ -7,8 +7,10 @@ use Rattle.std.proofs.lemmas.List.Sums.{length-filter, count_by-le-length}
 use Rattle.ug_types.specs.Elements.{Has, AllDistinct}
 use Rattle.ug_types.specs.declared.verdict.Target.{Target}
 use Rattle.ug_policy.specs.declared.entry.RuleEntry.{RuleEntry}
-use Rattle.ug_policy.specs.Rules.{ids, IsNumbered}
+use Rattle.ug_policy.specs.Marks.{FolderFirst}
+use Rattle.ug_policy.specs.Rules.{ids, marks, IsNumbered}
 use Rattle.ug_policy.specs.Edits.{has_id, removed, aimed, retargeted}
+use Rattle.ug_policy.proofs.Order.{marks_retargeted, order_removed}
 use Rattle.ug_types.proofs.Elements.{insert_has}
 
 ids_insert : (es : List RuleEntry) (i : ℕ) (y : RuleEntry) → ids (insert es i y) ≡ insert (ids es) i y.id
@@ -24,8 +26,8 @@ distinct_insert (x ∷ xs) zero y d n = (n, d)
 distinct_insert (x ∷ xs) (suc i) y d n = (λ m. elim (insert_has xs i y x m) [ inl same ↦ n (inl (sym same)) | inr h ↦ d.0 h ], distinct_insert xs i y d.1 (λ h. n (inr h)))
 
 -- the numbering stays one
-pub numbered_insert : (es : List RuleEntry) (next i : ℕ) (y : RuleEntry) → IsNumbered es next → y.id ≡ next → i ≤ length es → length es < 65536 → IsNumbered (insert es i y) (next + 1)
-numbered_insert es next i y n same within few =
+pub numbered_insert : (es : List RuleEntry) (next i : ℕ) (y : RuleEntry) → IsNumbered es next → y.id ≡ next → i ≤ length es → length es < 65536 → FolderFirst (marks (insert es i y)) → IsNumbered (insert es i y) (next + 1)
+numbered_insert es next i y n same within few order =
     let fresh : Has (ids es) y.id → ⊥ = λ m. let low : y.id < next = n.below y.id m in omega arith in
     record {
       distinct = subst (λ v. AllDistinct v) (sym (ids_insert es i y)) (distinct_insert (ids es) i y.id n.distinct fresh);
@@ -34,6 +36,7 @@ numbered_insert es next i y n same within few =
         | inr h ↦ let low : id < next = n.below id h in omega arith
       ];
       few = omega (arith, length-insert es i y within);
+      order = order;
     }
 
 ids_filter_has : (p : RuleEntry → Bool) (es : List RuleEntry) (id : ℕ) → Has (ids (filter p es)) id → Has (ids es) id
@@ -59,14 +62,16 @@ numbered_removed id next es n = record {
   distinct = distinct_filter (λ e. not (has_id id e)) es n.distinct;
   below = λ k m. n.below k (ids_filter_has (λ e. not (has_id id e)) es k m);
   few = let p : RuleEntry → Bool = λ e. not (has_id id e) in omega (arith, n.few, length-filter p es, count_by-le-length p es);
+  order = order_removed id es n.order;
 }
 
--- the same ids, and as many rules
-pub numbered_same : (es fs : List RuleEntry) (next : ℕ) → ids fs ≡ ids es → length fs ≡ length es → IsNumbered es next → IsNumbered fs next
-numbered_same es fs next same long n = record {
+-- the same ids and marks, and as many rules
+pub numbered_same : (es fs : List RuleEntry) (next : ℕ) → ids fs ≡ ids es → marks fs ≡ marks es → length fs ≡ length es → IsNumbered es next → IsNumbered fs next
+numbered_same es fs next same alike long n = record {
   distinct = subst (λ v. AllDistinct v) (sym same) n.distinct;
   below = λ id m. n.below id (subst (λ v. Has v id) same m);
   few = omega (arith, n.few);
+  order = subst FolderFirst (sym alike) n.order;
 }
 
 ids_retargeted : (id : ℕ) (target : Target) (es : List RuleEntry) → ids (retargeted id target es) ≡ ids es
@@ -76,4 +81,4 @@ ids_retargeted id target (e ∷ es) =
     ap (λ v. v ∷ ids (retargeted id target es)) (same (has_id id e)) ∙ ap (λ v. e.id ∷ v) (ids_retargeted id target es)
 
 pub numbered_retargeted : (id : ℕ) (target : Target) (es : List RuleEntry) (next : ℕ) → IsNumbered es next → IsNumbered (retargeted id target es) next
-numbered_retargeted id target es next n = numbered_same es (retargeted id target es) next (ids_retargeted id target es) (length-map es (λ e. cond (has_id id e) (aimed target e) e)) n
+numbered_retargeted id target es next n = numbered_same es (retargeted id target es) next (ids_retargeted id target es) (marks_retargeted id target es) (length-map es (λ e. cond (has_id id e) (aimed target e) e)) n

@@ -1,11 +1,13 @@
 // Changes of a list of rules.
 ghost use Rattle.std.specs.Prelude.{◌≡◌, ◌≤◌, ◌<◌, ◌+◌, None, IfSome, IfOk, OnOk, OnErr, insert, remove, length, position, vec_len, vec_capacity};
+ghost use Rattle.std.specs.List.{list_any};
 ghost use Rattle.ug_types.specs.Elements.{Has, AllDistinct};
 ghost use Rattle.ug_policy.specs.declared.entry.RuleEntry.{RuleEntry as Entry};
-ghost use Rattle.ug_policy.specs.Rules.{ids};
-ghost use Rattle.ug_policy.specs.Edits.{IsThere, has_id, inserted, removed, retargeted};
+ghost use Rattle.ug_policy.specs.Marks.{folder_end, is_folder};
+ghost use Rattle.ug_policy.specs.Rules.{ids, marks};
+ghost use Rattle.ug_policy.specs.Edits.{IsThere, at_front, folder_behind, has_id, inserted, removed, retargeted};
 
-use crate::entry::{NoRule, RuleEntry};
+use crate::entry::{Mark, NoRule, RuleEntry};
 use ug_types::{After, Target};
 
 // The place of the rule with that id.
@@ -15,22 +17,75 @@ fn place_of(entries: &[RuleEntry], id: u64) -> Option<usize>
     entries.iter().position(|e| e.id == id)
 }
 
-/// The place at which a rule is put, where there is one.
-pub fn place_after(entries: &[RuleEntry], after: After) -> Option<usize>
-    requires { AllDistinct (ids entries.now) }
-    ensures within { IfSome result (λ place. place ≤ length entries.now) }
-    ensures place { IfSome result (λ place. (added : Entry)
-        → inserted after added entries.now ≡ insert entries.now place added) }
-    ensures there { IfSome result (λ place. IsThere after entries.now) }
-    ensures none { result ≡ None → ¬ IsThere after entries.now }
+// The place directly behind the last rule of the folder; 0 where there is none.
+fn folder_end(entries: &[RuleEntry]) -> usize
+    ensures value { result ≡ folder_end (marks entries.now) }
+    ensures within { result ≤ length entries.now }
+{
+    let mut end = 0;
+    for place in 0..entries.len() {
+        if entries[place].mark.is_folder() {
+            end = place + 1;
+        }
+    }
+    end
+}
+
+// The front of the permanent rules is behind those of the folder.
+fn front(entries: &[RuleEntry], mark: Mark) -> usize
+    ensures within { result ≤ length entries.now }
+    ensures place { (added : Entry) → added.mark ≡ mark
+        → at_front added entries.now ≡ insert entries.now result added }
+{
+    if mark.is_permanent() {
+        folder_end(entries)
+    } else {
+        0
+    }
+}
+
+// The place behind the rule with that id.
+fn place_behind(entries: &[RuleEntry], id: u64) -> usize
+    requires distinct { AllDistinct (ids entries.now) }
+    requires there { Has (ids entries.now) id }
+    ensures within { result ≤ length entries.now }
+    ensures place { (added : Entry)
+        → inserted (After.Rule id) added entries.now ≡ insert entries.now result added }
+{
+    match place_of(entries, id) {
+        Some(place) => place + 1,
+        None => unreachable!(),
+    }
+}
+
+fn has_folder(entries: &[RuleEntry]) -> bool
+    ensures { result ≡ list_any (λ e. is_folder e.mark) entries.now }
+{
+    entries.iter().any(|e| e.mark.is_folder())
+}
+
+/// Whether the folder has a rule behind the one with that id.
+pub fn has_folder_behind(entries: &[RuleEntry], id: u64) -> bool
+    ensures { result ≡ folder_behind id entries.now }
+{
+    match place_of(entries, id) {
+        Some(place) => has_folder(&entries[place + 1..]),
+        None => false,
+    }
+}
+
+/// The place at which a rule with that mark is put.
+pub fn place_after(entries: &[RuleEntry], after: After, mark: Mark) -> usize
+    requires distinct { AllDistinct (ids entries.now) }
+    requires there { IsThere after entries.now }
+    ensures within { result ≤ length entries.now }
+    ensures place { (added : Entry) → added.mark ≡ mark
+        → inserted after added entries.now ≡ insert entries.now result added }
 {
     match after {
-        After::End => Some(entries.len()),
-        After::Front => Some(0),
-        After::Rule(id) => match place_of(entries, id) {
-            Some(place) => Some(place + 1),
-            None => None,
-        },
+        After::End => entries.len(),
+        After::Front => front(entries, mark),
+        After::Rule(id) => place_behind(entries, id),
     }
 }
 

@@ -1,14 +1,14 @@
-// A rule of the list, and why a change of the list is refused.
+// A rule of the list.
 ghost use Rattle.std.specs.Prelude.{◌≡◌};
-ghost use Rattle.ug_policy.specs.Marks.{is_permanent};
+ghost use Rattle.ug_policy.specs.Marks.{is_folder, is_permanent};
 
 use ug_cond::History;
 use ug_types::Rule;
 
-/// Where a rule of the list comes from.
+/// Where a rule of the list comes from: usbguard-daemon.conf(5), RuleFolder. No rule of the rule file stands before one of the folder.
 #[derive(Clone, Copy, Debug, PartialEq, Eq)]
 pub enum Mark {
-    /// A file of a folder of rules. It is never saved.
+    /// A file of the folder, which is never written.
     Folder,
     /// The rule file: a permanent rule, which is saved.
     File,
@@ -17,6 +17,17 @@ pub enum Mark {
 }
 
 impl Mark {
+    /// Whether rules with this mark are the folder's.
+    pub fn is_folder(self) -> bool
+        ensures { result ≡ is_folder self }
+    {
+        match self {
+            Mark::Folder => true,
+            Mark::File => false,
+            Mark::Temporary => false,
+        }
+    }
+
     /// Whether rules with this mark are permanent: the rule file has just these.
     pub fn is_permanent(self) -> bool
         ensures { result ≡ is_permanent self }
@@ -36,15 +47,6 @@ pub struct RuleEntry {
     pub rule: Rule,
     pub mark: Mark,
     pub history: History,
-}
-
-/// Why a rule is not added.
-#[derive(Clone, Copy, Debug, PartialEq, Eq)]
-pub enum InsertFault {
-    /// No rule has the id behind which it was to stand.
-    NoRule,
-    /// There are 65,536 rules.
-    Full,
 }
 
 /// No rule has the id.

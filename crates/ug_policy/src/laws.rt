@@ -8,13 +8,15 @@ ghost use Rattle.rand_core.specs.Stream.{Stream};
 ghost use Rattle.ug_cond.specs.declared.context.Context as when;
 ghost use Rattle.ug_cond.specs.Judgements.{Judgement};
 ghost use Rattle.ug_policy.specs.declared.entry.RuleEntry.{RuleEntry};
-ghost use Rattle.ug_policy.specs.Rules.{ids};
-ghost use Rattle.ug_policy.specs.Edits.{IsThere, aimed, inserted, removed, retargeted};
+ghost use Rattle.ug_policy.specs.Marks.{FolderFirst, has_folder};
+ghost use Rattle.ug_policy.specs.Rules.{ids, marks};
+ghost use Rattle.ug_policy.specs.Edits.{IsThere, aimed, folder_behind, inserted, removed, retargeted};
 ghost use Rattle.ug_policy.specs.Asking.{rule_asks};
 ghost use Rattle.ug_policy.specs.Deciding.{HasNoDecider, IsDecider, RuleHolds, find_decider, judgement_found, reached, rule_holds};
 ghost use Rattle.ug_policy.specs.Kept.{StandsFor};
 ghost use Rattle.ug_policy.specs.Matching.{matched};
 
+use crate::entry::Mark;
 use ug_types::After;
 
 /// Where ids are distinct, a change by an id is one at that rule alone, wherever it stands.
@@ -34,6 +36,26 @@ pub fn edits_law()
         × (rules ≡ front ++ rule ∷ back) × (rule.id ≡ id) }
     ensures not_there { (rules : List RuleEntry) (id : ℕ) → ¬ Has (ids rules) id
         → (removed id rules ≡ rules) × ((target : Target) → retargeted id target rules ≡ rules) }
+{}
+
+/// None of the rule file's rules stands before one of the folder's. A permanent rule that is put in front stands behind the last of the
+/// folder's; a temporary one stands before all.
+pub fn folder_law()
+    ensures order { (rules : List RuleEntry) → FolderFirst (marks rules)
+        ↔ ((front back : List RuleEntry) (rule other : RuleEntry) → rules ≡ front ++ rule ∷ back
+        → rule.mark ≡ Mark.File → Has back other → other.mark ≡ Mark.Folder → ⊥) }
+    ensures none { (rules : List RuleEntry) (added : RuleEntry)
+        → ((rule : RuleEntry) → Has rules rule → rule.mark ≡ Mark.Folder → ⊥)
+        → inserted After.Front added rules ≡ added ∷ rules }
+    ensures permanent { (front back : List RuleEntry) (last added : RuleEntry) → last.mark
+        ≡ Mark.Folder → ((rule : RuleEntry) → Has back rule → rule.mark ≡ Mark.Folder → ⊥)
+        → added.mark ≡ Mark.File
+        → inserted After.Front added (front ++ last ∷ back) ≡ front ++ last ∷ added ∷ back }
+    ensures temporary { (rules : List RuleEntry) (added : RuleEntry) → added.mark ≡ Mark.Temporary
+        → inserted After.Front added rules ≡ added ∷ rules }
+    ensures behind { (front back : List RuleEntry) (rule : RuleEntry)
+        → AllDistinct (ids (front ++ rule ∷ back))
+        → folder_behind rule.id (front ++ rule ∷ back) ≡ has_folder (marks back) }
 {}
 
 /// One rule decides by its attributes and its conditions, or none does; what is found is that rule, and what was

@@ -7,6 +7,6 @@ mod judging;
 mod laws;
 mod list;
 
-pub use entry::{InsertFault, Mark, NoRule, RuleEntry};
-pub use laws::{asking_law, decider_law, edits_law};
-pub use list::RuleList;
+pub use entry::{Mark, NoRule, RuleEntry};
+pub use laws::{asking_law, decider_law, edits_law, folder_law};
+pub use list::{MAX_RULES, RuleList};

@@ -4,14 +4,15 @@ ghost use Rattle.ug_types.specs.Elements.{Has, AllDistinct};
 ghost use Rattle.ug_cond.specs.Judgements.{Judgement};
 ghost use Rattle.ug_cond.specs.Words.{behind};
 ghost use Rattle.ug_policy.specs.declared.entry.RuleEntry as stored;
-ghost use Rattle.ug_policy.specs.Rules.{ids};
-ghost use Rattle.ug_policy.specs.Edits.{IsThere, inserted, new_entry, removed, retargeted};
+ghost use Rattle.ug_policy.specs.Marks.{FolderFirst};
+ghost use Rattle.ug_policy.specs.Rules.{ids, marks, most_rules};
+ghost use Rattle.ug_policy.specs.Edits.{IsThere, KeepsMarkOrder, folder_behind, inserted, new_entry, removed, retargeted};
 ghost use Rattle.ug_policy.specs.Matching.{answered, judged, rule_noted};
 ghost use Rattle.ug_policy.specs.Deciding.{HasNoDecider, IsDecider, Judges, find_decider, judgement_found, seen, words_taken};
 ghost use Rattle.ug_policy.specs.Kept.{StandsFor};
 
-use crate::edits::{place_after, put_rule, remove_rule, set_rule_target};
-use crate::entry::{InsertFault, Mark, NoRule, RuleEntry};
+use crate::edits::{has_folder_behind, place_after, put_rule, remove_rule, set_rule_target};
+use crate::entry::{Mark, NoRule, RuleEntry};
 use crate::judging::judge_by;
 use rand_core::Rng;
 use std::alloc::Global;
@@ -20,7 +21,8 @@ use ug_cond::{Allowed, Context, History};
 use ug_index::Index;
 use ug_types::{After, Cause, DeviceRecord, NoMemory, Rule, Target};
 
-const MAX_RULES: usize = 65536;
+/// How many rules a list has at most.
+pub const MAX_RULES: usize = 65_536;
 
 /// At most 65,536 rules in order, the index of their places, the id of the next one, and room for more.
 #[derive(Drop)]
@@ -62,17 +64,19 @@ impl RuleList {
     /// The number of rules.
     pub fn len(&self) -> usize
         ensures value { result ≡ length self.now.entries }
-        ensures few { length self.now.entries ≤ 65536 }
+        ensures few { length self.now.entries ≤ most_rules }
     {
         let _numbered = &self.next_id;
         self.entries.len()
     }
 
-    /// The id that the next rule gets. No rule of the list has it, and ids are never given twice.
+    /// The id that the next rule gets. No rule of the list has it, and ids are never given twice. None of the rule file's rules stands
+    /// before one of the folder's.
     pub fn next_id(&self) -> u64
         ensures value { result ≡ self.now.next }
         ensures fresh { (id : ℕ) → Has (ids self.now.entries) id → id < self.now.next }
         ensures distinct { AllDistinct (ids self.now.entries) }
+        ensures order { FolderFirst (marks self.now.entries) }
     {
         self.next_id
     }
@@ -92,6 +96,13 @@ impl RuleList {
         self.entries.as_slice()
     }
 
+    /// Whether the folder has a rule behind the one of that id.
+    pub fn has_folder_behind(&self, id: u64) -> bool
+        ensures { result ≡ folder_behind id self.now.entries }
+    {
+        has_folder_behind(self.entries.as_slice(), id)
+    }
+
     /// Makes room for one rule more. A refusal changes nothing.
     pub fn reserve(&mut self) -> Result<(), NoMemory>
         ensures entries { self.new.entries ≡ self.old.entries }
@@ -107,30 +118,24 @@ impl RuleList {
         }
     }
 
-    /// Adds a rule and gives its id. There is room for it, so that it takes no memory. An unknown id is refused before a
-    /// full list is, and a refusal changes nothing.
-    pub fn insert(&mut self, after: After, rule: Rule, mark: Mark) -> Result<u64, InsertFault>
+    /// Adds a rule and gives its id. There is room for it, so that it takes no memory. A permanent rule whose place is the front stands
+    /// directly behind the folder's rules.
+    pub fn insert(&mut self, after: After, rule: Rule, mark: Mark) -> u64
+        requires there { IsThere after self.old.entries }
+        requires order { KeepsMarkOrder after mark self.old.entries }
+        requires few { length self.old.entries < most_rules }
         requires spare { 0 < self.old.spare }
         requires next { self.old.next < 2 ^ 64 - 1 }
-        ensures id { IfOk result (λ id. id ≡ self.old.next) }
-        ensures entries { OnOk result (self.new.entries
-            ≡ inserted after (new_entry self.old.next rule mark) self.old.entries) }
-        ensures next { OnOk result (self.new.next ≡ self.old.next + 1) }
-        ensures spare { OnOk result (self.new.spare + 1 ≡ self.old.spare) }
-        ensures no_rule { (result ≡ Err InsertFault.NoRule) ↔ (¬ IsThere after self.old.entries) }
-        ensures full { (result ≡ Err InsertFault.Full)
-            ↔ (IsThere after self.old.entries × (length self.old.entries ≡ 65536)) }
-        ensures err { OnErr result (self.new ≡ self.old) }
+        ensures id { result ≡ self.old.next }
+        ensures entries { self.new.entries
+            ≡ inserted after (new_entry self.old.next rule mark) self.old.entries }
+        ensures next { self.new.next ≡ self.old.next + 1 }
+        ensures spare { self.new.spare + 1 ≡ self.old.spare }
         ensures history { (judgements : List Judgement)
             → StandsFor self.old.entries self.old.next judgements
             → StandsFor self.new.entries self.new.next judgements }
     {
-        let Some(place) = place_after(self.entries.as_slice(), after) else {
-            return Err(InsertFault::NoRule);
-        };
-        if self.entries.len() == MAX_RULES {
-            return Err(InsertFault::Full);
-        }
+        let place = place_after(self.entries.as_slice(), after, mark);
         self.index.insert(place, &rule.query);
         let id = self.next_id;
         let history = History {
@@ -145,7 +150,7 @@ impl RuleList {
         };
         put_rule(&mut self.entries, place, entry);
         self.next_id += 1;
-        Ok(id)
+        id
     }
 
     /// Takes out the rule of that id.

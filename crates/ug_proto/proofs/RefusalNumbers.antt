@@ -159,6 +159,14 @@ probe_fault = with_number (codes "probe-fault ") 13 refusal.ProbeFault (λ x k. 
     only (refusal.ProbeFault x) h = (x, h.0, refl)
     only r h = absurd (omega (arith, h.1))
 
+pub folder_rule : StopsAt (named_number (codes "folder-rule ")) (IsNumberIn 0 most) 14
+unfolding refusal_rest
+folder_rule = with_number (codes "folder-rule ") 14 refusal.FolderRule (λ x k. (k, refl)) (λ x. refl) only
+  where
+    only : (r : Refusal) → HasRefusalNumber 14 r → (x : ℕ) × (x < 2 ^ 64) × (refusal.FolderRule x ≡ r)
+    only (refusal.FolderRule x) h = (x, h.0, refl)
+    only r h = absurd (omega (arith, h.1))
+
 pub at_number : (n m : ℕ) (bytes : List ℕ) (s : Stop) → n ≡ m → IsStop refusal_rest (HasRefusalNumber m) bytes s → IsStop refusal_rest (HasRefusalNumber n) bytes s
 at_number n m bytes s e h = subst (λ (k : ℕ). IsStop refusal_rest (HasRefusalNumber k) bytes s) (sym e) h
 
@@ -191,9 +199,10 @@ line_parts (refusal.DeviceFault x y) = numbered_text _ 11 (codes "11") _ (two_di
 line_parts (refusal.Memory false) = numbered_text _ 12 (codes "12") _ (two_digits 12 (omega arith) (omega arith)) (ap (λ (d : List ℕ). codes "refused 12 memory " ++ (d ++ 10 ∷ [])) (sym (decimal_digit 0 (omega arith))))
 line_parts (refusal.Memory true) = numbered_text _ 12 (codes "12") _ (two_digits 12 (omega arith) (omega arith)) (ap (λ (d : List ℕ). codes "refused 12 memory " ++ (d ++ 10 ∷ [])) (sym (decimal_digit 1 (omega arith))))
 line_parts (refusal.ProbeFault x) = numbered_text _ 13 (codes "13") _ (two_digits 13 (omega arith) (omega arith)) (append_assoc (codes "refused 13 probe-fault ") (decimal x) (10 ∷ []))
+line_parts (refusal.FolderRule x) = numbered_text _ 14 (codes "14") _ (two_digits 14 (omega arith) (omega arith)) (append_assoc (codes "refused 14 folder-rule ") (decimal x) (10 ∷ []))
 
 -- there is a refusal of each number
-pub of_number : (n : ℕ) → IsNumberIn 1 13 n → (r : Refusal) × IsRefusal r × (refusal_number r ≡ n)
+pub of_number : (n : ℕ) → IsNumberIn 1 14 n → (r : Refusal) × IsRefusal r × (refusal_number r ≡ n)
 of_number zero h = absurd (omega (arith, h.0))
 of_number (suc zero) h = (refusal.BadRequest 0, omega arith, omega arith)
 of_number (suc (suc zero)) h = (refusal.Denied Devices Modify, tt, omega arith)
@@ -208,9 +217,10 @@ of_number (suc (suc (suc (suc (suc (suc (suc (suc (suc (suc zero)))))))))) h = (
 of_number (suc (suc (suc (suc (suc (suc (suc (suc (suc (suc (suc zero))))))))))) h = (refusal.DeviceFault 0 0, (omega arith, omega arith), omega arith)
 of_number (suc (suc (suc (suc (suc (suc (suc (suc (suc (suc (suc (suc zero)))))))))))) h = (refusal.Memory false, tt, omega arith)
 of_number (suc (suc (suc (suc (suc (suc (suc (suc (suc (suc (suc (suc (suc zero))))))))))))) h = (refusal.ProbeFault 0, omega arith, omega arith)
-of_number (suc (suc (suc (suc (suc (suc (suc (suc (suc (suc (suc (suc (suc (suc n)))))))))))))) h = absurd (omega (arith, h.1))
+of_number (suc (suc (suc (suc (suc (suc (suc (suc (suc (suc (suc (suc (suc (suc zero)))))))))))))) h = (refusal.FolderRule 0, omega arith, omega arith)
+of_number (suc (suc (suc (suc (suc (suc (suc (suc (suc (suc (suc (suc (suc (suc (suc n))))))))))))))) h = absurd (omega (arith, h.1))
 
-numbers : (r : Refusal) → IsNumberIn 1 13 (refusal_number r)
+numbers : (r : Refusal) → IsNumberIn 1 14 (refusal_number r)
 numbers (refusal.BadRequest x) = (omega arith, omega arith)
 numbers (refusal.Denied x y) = (omega arith, omega arith)
 numbers (refusal.BadRule x y) = (omega arith, omega arith)
@@ -224,19 +234,20 @@ numbers (refusal.StoreFault x) = (omega arith, omega arith)
 numbers (refusal.DeviceFault x y) = (omega arith, omega arith)
 numbers (refusal.Memory x) = (omega arith, omega arith)
 numbers (refusal.ProbeFault x) = (omega arith, omega arith)
+numbers (refusal.FolderRule x) = (omega arith, omega arith)
 
-pub number_stops : (bytes : List ℕ) (s : Stop) → IsStop (number_then 32) (IsNumberIn 1 13) bytes s → IsStop refusal_behind IsRefusal bytes s
+pub number_stops : (bytes : List ℕ) (s : Stop) → IsStop (number_then 32) (IsNumberIn 1 14) bytes s → IsStop refusal_behind IsRefusal bytes s
 number_stops bytes s h =
-    begins_with refusal_behind IsRefusal (number_then 32) (IsNumberIn 1 13) bytes s
+    begins_with refusal_behind IsRefusal (number_then 32) (IsNumberIn 1 14) bytes s
     (λ r c. (refusal_number r, numbers r, refusal_rest r, refl))
     (λ n k. let r = of_number n k in (r.0, r.1, refusal_rest r.0, ap (λ (m : ℕ). number_then 32 m ++ refusal_rest r.0) r.2)) h
 
-pub rest_stops : (n : ℕ) (bytes behind : List ℕ) (s : Stop) → IsNumberIn 1 13 n → bytes ≡ number_then 32 n ++ behind → IsStop refusal_rest (HasRefusalNumber n) behind s → IsStop refusal_behind IsRefusal bytes s
+pub rest_stops : (n : ℕ) (bytes behind : List ℕ) (s : Stop) → IsNumberIn 1 14 n → bytes ≡ number_then 32 n ++ behind → IsStop refusal_rest (HasRefusalNumber n) behind s → IsStop refusal_behind IsRefusal bytes s
 rest_stops n bytes behind s k w h =
     goes_on refusal_behind IsRefusal refusal_rest (HasRefusalNumber n) bytes (number_then 32 n) behind s w
     (λ r more rest c e.
     let u = numbers r in
-    let same : n ≡ refusal_number r = one_number 32 13 (omega arith) (omega arith) n (refusal_number r) more (refusal_rest r ++ rest) (omega arith, k.1) (omega arith, u.1) (e ∙ append_assoc (number_then 32 (refusal_number r)) (refusal_rest r) rest) in
+    let same : n ≡ refusal_number r = one_number 32 14 (omega arith) (omega arith) n (refusal_number r) more (refusal_rest r ++ rest) (omega arith, k.1) (omega arith, u.1) (e ∙ append_assoc (number_then 32 (refusal_number r)) (refusal_rest r) rest) in
     (r, (c, sym same), ap (λ (m : ℕ). number_then 32 m ++ refusal_rest r) (sym same)))
     (λ r c. (r, c.0, ap (λ (m : ℕ). number_then 32 m ++ refusal_rest r) c.1)) h
 

@@ -61,6 +61,7 @@ refusal_number (refusal.StoreFault count) = 10
 refusal_number (refusal.DeviceFault call count) = 11
 refusal_number (refusal.Memory stands) = 12
 refusal_number (refusal.ProbeFault count) = 13
+refusal_number (refusal.FolderRule id) = 14
 
 -- what stands behind the number, with the newline
 unfoldable pub refusal_rest : Refusal → List ℕ
@@ -77,6 +78,7 @@ refusal_rest (refusal.StoreFault count) = named_number (codes "store-fault ") co
 refusal_rest (refusal.DeviceFault call count) = named_numbers (codes "device-fault ") (call, count)
 refusal_rest (refusal.Memory stands) = named_number (codes "memory ") (stands_number stands)
 refusal_rest (refusal.ProbeFault count) = named_number (codes "probe-fault ") count
+refusal_rest (refusal.FolderRule id) = named_number (codes "folder-rule ") id
 
 abbrev pub refusal_line : Refusal → List ℕ
 refusal_line r = refusal_words r ++ 10 ∷ []

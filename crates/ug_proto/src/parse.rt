@@ -115,6 +115,10 @@ fn take_numbered(number: u64, text: &[u8]) -> Result<(Refusal, &[u8]), Stop>
             let (count, rest) = take_named(text, b"probe-fault ", MAX)?;
             Ok((Refusal::ProbeFault { count }, rest))
         }
+        14 => {
+            let (id, rest) = take_named(text, b"folder-rule ", MAX)?;
+            Ok((Refusal::FolderRule { id }, rest))
+        }
         _ => Err(Stop::Bad),
     }
 }
@@ -124,7 +128,7 @@ fn take_refusal(text: &[u8]) -> Result<(Refusal, &[u8]), Stop>
     ensures err { IfErr result (λ stop. IsStop refusal_line IsRefusal text.now stop) }
 {
     let rest = take_word(text, b"refused ")?;
-    let (number, rest) = take_number(rest, 1, 13, b' ')?;
+    let (number, rest) = take_number(rest, 1, 14, b' ')?;
     let (refusal, rest) = take_numbered(number, rest)?;
     Ok((refusal, rest))
 }

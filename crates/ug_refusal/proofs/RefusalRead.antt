@@ -31,6 +31,7 @@ one_read name word =
     if pointwise nat_eq name (codes "malformed-device") then refusal.MalformedDevice (digits_value 10 word) else
     if pointwise nat_eq name (codes "store-fault") then refusal.StoreFault (digits_value 10 word) else
     if pointwise nat_eq name (codes "memory") then refusal.Memory (pointwise nat_eq word (codes "1")) else
+    if pointwise nat_eq name (codes "folder-rule") then refusal.FolderRule (digits_value 10 word) else
     refusal.ProbeFault (digits_value 10 word)
 
 abbrev two_read : List ℕ → List ℕ → List ℕ → Refusal
@@ -102,6 +103,7 @@ refusal_back (refusal.DeviceFault call count) h = two_back (codes "device-fault"
 refusal_back (refusal.Memory false) h = refl
 refusal_back (refusal.Memory true) h = refl
 refusal_back (refusal.ProbeFault count) h = one_back (codes "probe-fault") refusal.ProbeFault count h (λ w. refl)
+refusal_back (refusal.FolderRule id) h = one_back (codes "folder-rule") refusal.FolderRule id h (λ w. refl)
 
 -- the first of them
 pub refusal_first : (r : Refusal) → get_or (split_words (refusal_words r)) 0 [] ≡ codes "refused"
@@ -120,6 +122,7 @@ refusal_first (refusal.DeviceFault call count) = refl
 refusal_first (refusal.Memory false) = refl
 refusal_first (refusal.Memory true) = refl
 refusal_first (refusal.ProbeFault count) = refl
+refusal_first (refusal.FolderRule id) = refl
 
 pub one_refusal : (a b : Refusal) → IsRefusal a → IsRefusal b → refusal_words a ≡ refusal_words b → a ≡ b
 one_refusal a b h k e = sym (refusal_back a h) ∙ ap (λ (text : List ℕ). refusal_read (split_words text)) e ∙ refusal_back b k
@@ -159,3 +162,4 @@ refusal_on_line (refusal.DeviceFault call count) h = both_lines (decimal call) (
 refusal_on_line (refusal.Memory false) h = refl
 refusal_on_line (refusal.Memory true) h = refl
 refusal_on_line (refusal.ProbeFault count) h = number_line count h
+refusal_on_line (refusal.FolderRule id) h = number_line id h

@@ -23,6 +23,7 @@ refusal_words (refusal.DeviceFault call count) =
 refusal_words (refusal.Memory false) = codes "refused 12 memory 0"
 refusal_words (refusal.Memory true) = codes "refused 12 memory 1"
 refusal_words (refusal.ProbeFault count) = codes "refused 13 probe-fault " ++ decimal count
+refusal_words (refusal.FolderRule id) = codes "refused 14 folder-rule " ++ decimal id
 
 -- the numbers that a refusal can have
 abbrev pub IsRefusal : Refusal → Type 0
@@ -39,3 +40,4 @@ IsRefusal (refusal.StoreFault count) = count < 2 ^ 64
 IsRefusal (refusal.DeviceFault call count) = (call < 2 ^ 64) × (count < 2 ^ 64)
 IsRefusal (refusal.Memory stands) = Unit {0}
 IsRefusal (refusal.ProbeFault count) = count < 2 ^ 64
+IsRefusal (refusal.FolderRule id) = id < 2 ^ 64

@@ -5,8 +5,8 @@ ghost use Rattle.ug_refusal.specs.Refusals.{refusal_words};
 use ug_types::{Line, Privilege, Section};
 
 /// Why an order was refused. Where several causes stand together, the first of BadRequest, Denied, BadRule, NoDevice for a
-/// number that no device has, ProbeFault, NoDevice for a device that has gone, and then the others from NoRule to
-/// DeviceFault in their order is told; Memory may be told in place of any.
+/// number that no device has, ProbeFault, NoDevice for a device that has gone, NoRule, FolderRule, and then the others from
+/// BadParameter to DeviceFault in their order is told; Memory may be told in place of any.
 #[derive(Clone, Copy, Debug, PartialEq, Eq)]
 pub enum Refusal {
     /// The line is no request: the first word that doesn't fit begins at that byte.
@@ -57,6 +57,10 @@ pub enum Refusal {
     /// The device couldn't be looked at: the kernel's count of faults.
     ProbeFault {
         count: u64,
+    },
+    /// The rule of that id is one of the folder, or one of the folder stands behind it.
+    FolderRule {
+        id: u64,
     },
 }
 
@@ -121,6 +125,7 @@ impl Refusal {
             Refusal::Memory { stands: false } => Line::of(b"refused 12 memory 0"),
             Refusal::Memory { stands: true } => Line::of(b"refused 12 memory 1"),
             Refusal::ProbeFault { count } => with_number(b"refused 13 probe-fault ", *count),
+            Refusal::FolderRule { id } => with_number(b"refused 14 folder-rule ", *id),
         }
     }
 }

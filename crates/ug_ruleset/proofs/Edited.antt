@@ -1,13 +1,15 @@
 -- The rules that are saved of a list once it is edited.
-use Rattle.std.proofs.Common.{◌≡◌, ℕ, Bool, true, false, not, ◌&&◌, ◌||◌, cond, List, [], ◌∷◌, ◌++◌, Option, Some, None, inl, inr, refl, sym, ◌∙◌, ap, append_assoc, append-nil, subst}
-use Rattle.std.specs.Prelude.{flat_map}
+use Rattle.std.proofs.Common.{◌≡◌, ℕ, zero, suc, Bool, true, false, not, ◌&&◌, ◌||◌, cond, List, [], ◌∷◌, ◌++◌, Option, Some, None, inl, inr, refl, sym, ◌∙◌, ap, append_assoc, append-nil, subst}
+use Rattle.std.specs.Prelude.{flat_map, insert}
 use Rattle.std.proofs.lemmas.Bool.{eqb-true}
 use Rattle.ug_types.specs.declared.rule.After.{After}
 use Rattle.ug_types.specs.declared.rule.After.TheVariants as after
 use Rattle.ug_types.specs.declared.rule.Rule.{Rule}
-use Rattle.ug_policy.specs.Edits.{aimed, followed, has_id, inserted, new_entry, removed, retargeted}
-use Rattle.ug_policy.specs.Marks.{is_permanent}
+use Rattle.ug_policy.specs.Edits.{aimed, at_front, followed, has_id, inserted, new_entry, removed, retargeted}
+use Rattle.ug_policy.specs.Marks.{FolderFirst, folder_end, has_folder, is_folder, is_permanent}
+use Rattle.ug_policy.specs.Rules.{marks}
 use Rattle.ug_policy.specs.declared.entry.Mark.{Mark}
+use Rattle.ug_policy.specs.declared.entry.Mark.TheVariants as mark
 use Rattle.ug_policy.specs.declared.entry.RuleEntry.{RuleEntry}
 use Rattle.ug_print.specs.RuleTexts.{rules_text_of}
 use Rattle.ug_ruleset.specs.RuleEdits.{EditReads, IsButForTarget, changes_file, edited_by, in_place, rules_after}
@@ -56,32 +58,70 @@ places_retargeted id rule (e ∷ es) h =
     by_id true is = ap (λ (r : Rule). saved_rule e.mark r) (h e (inl refl) (eqb-true e.id id is))
     by_id false is = refl
 
+-- ---- behind the folder's
+
+unsaved : (mark : Mark) (rule : Rule) → is_permanent mark ≡ false → saved_rule mark rule ≡ []
+unsaved mark rule h = ap (λ (b : Bool). cond b (rule ∷ []) []) h
+
+no_folder : (m : Mark) → is_permanent m ≡ true → is_folder m ≡ false
+no_folder mark.Folder h = let none : ⊥ = cc in absurd none
+no_folder mark.File h = refl
+no_folder mark.Temporary h = refl
+
+-- what stands in front of one of them isn't saved
+unsaved_before : (e : RuleEntry) (es : List RuleEntry) → FolderFirst (marks (e ∷ es)) → has_folder (marks (e ∷ es)) ≡ true → saved_of e ≡ []
+unsaved_before e es f h = by (is_permanent e.mark) refl
+  where
+    by : (b : Bool) → is_permanent e.mark ≡ b → saved_of e ≡ []
+    by true is =
+        let wrong : true ≡ false = sym h ∙ ap (λ (b : Bool). b || has_folder (marks es)) (no_folder e.mark is) ∙ f.0 is in
+        let none : ⊥ = cc in
+        absurd none
+    by false is = unsaved e.mark e.rule is
+
+rules_behind : (added : RuleEntry) (es : List RuleEntry) → FolderFirst (marks es) → permanent_rules (insert es (folder_end (marks es)) added) ≡ saved_of added ++ permanent_rules es
+rules_behind added [] f = refl
+rules_behind added (e ∷ es) f = by (has_folder (marks (e ∷ es))) refl (rules_behind added es f.1)
+  where
+    by : (b : Bool) → has_folder (marks (e ∷ es)) ≡ b → permanent_rules (insert es (folder_end (marks es)) added) ≡ saved_of added ++ permanent_rules es → permanent_rules (insert (e ∷ es) (cond b (suc (folder_end (marks es))) zero) added) ≡ saved_of added ++ (saved_of e ++ permanent_rules es)
+    by true is rest =
+        let none = unsaved_before e es f is in
+        ap (λ (v : List Rule). v ++ permanent_rules (insert es (folder_end (marks es)) added)) none
+        ∙ rest
+        ∙ ap (λ (v : List Rule). saved_of added ++ (v ++ permanent_rules es)) (sym none)
+    by false is rest = refl
+
+rules_in_front : (added : RuleEntry) (es : List RuleEntry) → FolderFirst (marks es) → permanent_rules (at_front added es) ≡ saved_of added ++ permanent_rules es
+rules_in_front added es f = by (is_permanent added.mark)
+  where
+    by : (b : Bool) → permanent_rules (cond b (insert es (folder_end (marks es)) added) (added ∷ es)) ≡ saved_of added ++ permanent_rules es
+    by true = rules_behind added es f
+    by false = refl
+
 -- ---- the whole list
 
-inserted_rules : (place : After) (rule : Rule) (mark : Mark) (next : ℕ) (es : List RuleEntry) → permanent_rules (inserted place (new_entry next rule mark) es) ≡ rules_after (Some (Insert place rule mark)) es
-inserted_rules after.End rule mark next es =
+inserted_rules : (place : After) (rule : Rule) (mark : Mark) (next : ℕ) (es : List RuleEntry) → FolderFirst (marks es) → permanent_rules (inserted place (new_entry next rule mark) es) ≡ rules_after (Some (Insert place rule mark)) es
+inserted_rules after.End rule mark next es f =
     permanent_append es (new_entry next rule mark ∷ [])
     ∙ ap (λ (v : List Rule). permanent_rules es ++ v) (append-nil (saved_rule mark rule))
     ∙ ap (λ (v : List Rule). v ++ saved_rule mark rule) (sym (places_same (Some (Insert after.End rule mark)) (λ e. refl) es))
-inserted_rules after.Front rule mark next es =
-    ap (λ (v : List Rule). saved_rule mark rule ++ v) (sym (places_same (Some (Insert after.Front rule mark)) (λ e. refl) es) ∙ sym (append-nil (flat_map (in_place (Some (Insert after.Front rule mark))) es)))
-inserted_rules (after.Rule id) rule mark next es = places_followed id (new_entry next rule mark) es ∙ sym (append-nil (flat_map (in_place (Some (Insert (after.Rule id) rule mark))) es))
+inserted_rules after.Front rule mark next es f =
+    rules_in_front (new_entry next rule mark) es f
+    ∙ ap (λ (v : List Rule). saved_rule mark rule ++ v) (sym (places_same (Some (Insert after.Front rule mark)) (λ e. refl) es) ∙ sym (append-nil (flat_map (in_place (Some (Insert after.Front rule mark))) es)))
+inserted_rules (after.Rule id) rule mark next es f = places_followed id (new_entry next rule mark) es ∙ sym (append-nil (flat_map (in_place (Some (Insert (after.Rule id) rule mark))) es))
 
 removed_rules : (id : ℕ) (es : List RuleEntry) → permanent_rules (removed id es) ≡ rules_after (Some (Remove id)) es
 removed_rules id es = places_removed id es ∙ sym (append-nil (flat_map (in_place (Some (Remove id))) es))
 
-pub edited_rules : (edit : Edit) (next : ℕ) (es : List RuleEntry) → EditReads edit es → permanent_rules (edited_by edit next es) ≡ rules_after (Some edit) es
-edited_rules (Insert place rule mark) next es reads = inserted_rules place rule mark next es
-edited_rules (Remove id) next es reads = removed_rules id es
-edited_rules (Retarget id rule) next es reads = places_retargeted id rule es reads.1 ∙ sym (append-nil (flat_map (in_place (Some (Retarget id rule))) es))
+pub edited_rules : (edit : Edit) (next : ℕ) (es : List RuleEntry) → FolderFirst (marks es) → EditReads edit es → permanent_rules (edited_by edit next es) ≡ rules_after (Some edit) es
+edited_rules (Insert place rule mark) next es f reads = inserted_rules place rule mark next es f
+edited_rules (Remove id) next es f reads = removed_rules id es
+edited_rules (Retarget id rule) next es f reads = places_retargeted id rule es reads.1 ∙ sym (append-nil (flat_map (in_place (Some (Retarget id rule))) es))
 
 pub unedited_rules : (es : List RuleEntry) → permanent_rules es ≡ rules_after None es
 unedited_rules es = sym (places_same None (λ e. refl) es) ∙ sym (append-nil (flat_map (in_place None) es))
 
 -- ---- where no permanent rule is changed
-
-unsaved : (mark : Mark) (rule : Rule) → is_permanent mark ≡ false → saved_rule mark rule ≡ []
-unsaved mark rule h = ap (λ (b : Bool). cond b (rule ∷ []) []) h
 
 unsaved_followed : (id : ℕ) (rule : Rule) (mark : Mark) (es : List RuleEntry) → is_permanent mark ≡ false → flat_map (in_place (Some (Insert (after.Rule id) rule mark))) es ≡ permanent_rules es
 unsaved_followed id rule mark es h = places_same (Some (Insert (after.Rule id) rule mark)) (λ e. ap (λ (v : List Rule). saved_of e ++ v) (by_id (has_id id e)) ∙ append-nil (saved_of e)) es
@@ -99,20 +139,20 @@ unsaved_removed id (e ∷ es) h = by_id (has_id id e) (is_permanent e.mark) refl
     by_id true true permanent k rest = let none : ⊥ = cc in absurd none
     by_id false p permanent k rest = ap (λ (v : List Rule). saved_of e ++ v) (rest k)
 
-unsaved_edit : (edit : Edit) (es : List RuleEntry) → changes_file edit es ≡ false → rules_after (Some edit) es ≡ permanent_rules es
-unsaved_edit (Insert after.End rule mark) es h =
-    let edit = Some (Insert after.End rule mark) in
-    ap (λ (v : List Rule). flat_map (in_place edit) es ++ v) (unsaved mark rule h) ∙ append-nil (flat_map (in_place edit) es) ∙ places_same edit (λ e. refl) es
-unsaved_edit (Insert after.Front rule mark) es h =
-    let edit = Some (Insert after.Front rule mark) in
-    ap (λ (v : List Rule). v ++ (flat_map (in_place edit) es ++ [])) (unsaved mark rule h) ∙ append-nil (flat_map (in_place edit) es) ∙ places_same edit (λ e. refl) es
-unsaved_edit (Insert (after.Rule id) rule mark) es h = append-nil (flat_map (in_place (Some (Insert (after.Rule id) rule mark))) es) ∙ unsaved_followed id rule mark es h
-unsaved_edit (Remove id) es h = append-nil (flat_map (in_place (Some (Remove id))) es) ∙ unsaved_removed id es h
-unsaved_edit (Retarget id rule) es h = let none : ⊥ = cc in absurd none
+unsaved_inserted : (place : After) (rule : Rule) (mark : Mark) (next : ℕ) (es : List RuleEntry) → is_permanent mark ≡ false → permanent_rules (inserted place (new_entry next rule mark) es) ≡ permanent_rules es
+unsaved_inserted after.End rule mark next es h =
+    permanent_append es (new_entry next rule mark ∷ [])
+    ∙ ap (λ (v : List Rule). permanent_rules es ++ (v ++ [])) (unsaved mark rule h)
+    ∙ append-nil (permanent_rules es)
+unsaved_inserted after.Front rule mark next es h =
+    let added = new_entry next rule mark in
+    ap (λ (b : Bool). permanent_rules (cond b (insert es (folder_end (marks es)) added) (added ∷ es))) h
+    ∙ ap (λ (v : List Rule). v ++ permanent_rules es) (unsaved mark rule h)
+unsaved_inserted (after.Rule id) rule mark next es h = places_followed id (new_entry next rule mark) es ∙ unsaved_followed id rule mark es h
 
 pub rules_stay : (edit : Edit) (next : ℕ) (es : List RuleEntry) → changes_file edit es ≡ false → permanent_rules (edited_by edit next es) ≡ permanent_rules es
-rules_stay (Insert place rule mark) next es h = inserted_rules place rule mark next es ∙ unsaved_edit (Insert place rule mark) es h
-rules_stay (Remove id) next es h = removed_rules id es ∙ unsaved_edit (Remove id) es h
+rules_stay (Insert place rule mark) next es h = unsaved_inserted place rule mark next es h
+rules_stay (Remove id) next es h = places_removed id es ∙ unsaved_removed id es h
 rules_stay (Retarget id rule) next es h = let none : ⊥ = cc in absurd none
 
 pub text_stays : (edit : Edit) (next : ℕ) (es : List RuleEntry) → changes_file edit es ≡ false → permanent_text (edited_by edit next es) ≡ permanent_text es

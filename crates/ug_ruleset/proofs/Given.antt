@@ -1,5 +1,5 @@
 -- Judging leaves the rules as they were given.
-use Rattle.std.proofs.Common.{◌≡◌, ℕ, Bool, true, false, cond, List, [], ◌∷◌, ◌++◌, Some, refl, sym, ◌∙◌, ap, subst}
+use Rattle.std.proofs.Common.{◌≡◌, Bool, true, false, cond, List, [], ◌∷◌, ◌++◌, Some, refl, sym, ◌∙◌, ap, subst}
 use Rattle.std.specs.Prelude.{All, map}
 use Rattle.rand_core.specs.Stream.{Stream}
 use Rattle.ug_types.specs.declared.record.DeviceRecord.{DeviceRecord}

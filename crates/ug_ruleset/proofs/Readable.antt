@@ -1,19 +1,17 @@
 -- Rules that read again from their canonical texts.
-use Rattle.std.proofs.Common.{◌≡◌, ◌<◌, ◌≤◌, ℕ, suc, ◌+◌, length-append, length, arith, Bool, true, false, not, cond, List, [], ◌∷◌, ◌++◌, inl, inr, refl, sym, ap, subst, ◌∙◌}
-use Rattle.std.specs.Prelude.{All, IfOk, OnOk, Ok, Err, Result}
+use Rattle.std.proofs.Common.{◌≡◌, ◌<◌, ◌≤◌, ℕ, zero, suc, ◌+◌, length-append, length, arith, Bool, true, false, not, cond, List, [], ◌∷◌, ◌++◌, inl, inr, refl, sym, ap, subst, ◌∙◌}
+use Rattle.std.specs.Prelude.{All, IfOk, OnOk, Ok, Err, Result, insert}
 use Rattle.std.specs.List.{AllByRecursion, flat_map}
 use Rattle.std.proofs.lemmas.Bool.{eqb-true}
 use Rattle.std.proofs.lemmas.List.{length-map}
 use Rattle.ug_types.specs.Elements.{AllDistinct, Has}
-use Rattle.ug_policy.specs.Rules.{ids, rules_in}
+use Rattle.ug_policy.specs.Rules.{ids, marks, rules_in}
 use Rattle.std.proofs.lemmas.List.Elements.{All-from_recursion, recursion_from_All}
 use Rattle.ug_types.specs.declared.rule.Rule.{Rule}
 use Rattle.ug_types.specs.declared.rule.After.{After}
 use Rattle.ug_types.specs.declared.rule.After.TheVariants as after
 use Rattle.ug_policy.specs.Edits.{aimed, followed, has_id, inserted, new_entry, removed, retargeted}
-use Rattle.ug_policy.specs.Marks.{is_permanent}
-use Rattle.ug_policy.specs.declared.entry.InsertFault.{InsertFault}
-use Rattle.ug_policy.specs.declared.entry.InsertFault.TheVariants as fault
+use Rattle.ug_policy.specs.Marks.{folder_end, is_permanent}
 use Rattle.ug_policy.specs.declared.entry.RuleEntry.{RuleEntry}
 use Rattle.ug_rule.specs.Files.{file_read}
 use Rattle.ug_rule.specs.Grammar.{WellFormed}
@@ -68,9 +66,19 @@ back_followed id added (e ∷ es) new a = back_append (followed id added e) (fla
     by_id true = (a.0, (new, tt))
     by_id false = (a.0, tt)
 
+back_put : (es : List RuleEntry) (i : ℕ) (added : RuleEntry) → ReadsBack added.rule → AllByRecursion ReadsBack (rules_in es) → AllByRecursion ReadsBack (rules_in (insert es i added))
+back_put [] zero added new a = (new, tt)
+back_put [] (suc i) added new a = (new, tt)
+back_put (e ∷ es) zero added new a = (new, a)
+back_put (e ∷ es) (suc i) added new a = (a.0, back_put es i added new a.1)
+
 back_inserted : (place : After) (added : RuleEntry) (es : List RuleEntry) → ReadsBack added.rule → AllByRecursion ReadsBack (rules_in es) → AllByRecursion ReadsBack (rules_in (inserted place added es))
 back_inserted after.End added es new a = back_append es (added ∷ []) a (new, tt)
-back_inserted after.Front added es new a = (new, a)
+back_inserted after.Front added es new a = by (is_permanent added.mark)
+  where
+    by : (b : Bool) → AllByRecursion ReadsBack (rules_in (cond b (insert es (folder_end (marks es)) added) (added ∷ es)))
+    by true = back_put es (folder_end (marks es)) added new a
+    by false = (new, a)
 back_inserted (after.Rule id) added es new a = back_followed id added es new a
 
 back_removed : (id : ℕ) (es : List RuleEntry) → AllByRecursion ReadsBack (rules_in es) → AllByRecursion ReadsBack (rules_in (removed id es))
@@ -96,12 +104,6 @@ back_edited (Retarget id rule) next es new a = back_retargeted id rule es new.1 
 
 pub edited_reads : (edit : Edit) (next : ℕ) (es : List RuleEntry) → EditReads edit es → All ReadsBack (rules_in es) → All ReadsBack (rules_in (edited_by edit next es))
 edited_reads edit next es new a = All-from_recursion ReadsBack (rules_in (edited_by edit next es)) (back_edited edit next es new (recursion_from_All ReadsBack (rules_in es) a))
-
--- an insertion that is refused for nothing
-pub was_inserted : {P : Type 0} (r : Result ℕ InsertFault) → (r ≡ Err fault.NoRule → ⊥) → (r ≡ Err fault.Full → ⊥) → OnOk r P → P
-was_inserted (Ok id) there few p = p
-was_inserted (Err fault.NoRule) there few p = absurd (there refl)
-was_inserted (Err fault.Full) there few p = absurd (few refl)
 
 -- ---- the text of a list that is edited, or not
 
@@ -165,9 +167,19 @@ one_followed id added (e ∷ es) d = by_id (has_id id e) refl (one_followed id a
         omega (arith, rest)
     by_id false is k = omega (arith, k)
 
+one_put : (es : List RuleEntry) (i : ℕ) (added : RuleEntry) → length (insert es i added) ≡ length es + 1
+one_put [] zero added = refl
+one_put [] (suc i) added = refl
+one_put (e ∷ es) zero added = omega arith
+one_put (e ∷ es) (suc i) added = omega (arith, one_put es i added)
+
 few_inserted : (place : After) (added : RuleEntry) (es : List RuleEntry) → AllDistinct (ids es) → length (inserted place added es) ≤ length es + 1
 few_inserted after.End added es d = omega (arith, length-append es (added ∷ []))
-few_inserted after.Front added es d = omega arith
+few_inserted after.Front added es d = by (is_permanent added.mark)
+  where
+    by : (b : Bool) → length (cond b (insert es (folder_end (marks es)) added) (added ∷ es)) ≤ length es + 1
+    by true = omega (arith, one_put es (folder_end (marks es)) added)
+    by false = omega arith
 few_inserted (after.Rule id) added es d = one_followed id added es d
 
 few_removed : (id : ℕ) (es : List RuleEntry) → length (removed id es) ≤ length es

@@ -34,7 +34,10 @@ row_line number text h k =
     (byte 58 (omega arith), (byte 32 (omega arith), k))
 
 mark_line : (m : Mark) → IsLine (mark_text m)
-mark_line mark.Folder = tt
+mark_line mark.Folder = (
+  byte 32 (omega arith),
+  (byte 35 (omega arith), (byte 32 (omega arith), (byte 102 (omega arith), (byte 111 (omega arith), (byte 108 (omega arith), (byte 100 (omega arith), (byte 101 (omega arith), (byte 114 (omega arith), tt)))))))),
+)
 mark_line mark.File = tt
 mark_line mark.Temporary = (
   byte 32 (omega arith),

@@ -1,15 +1,15 @@
 -- What orders change of a list of rules.
-use Rattle.std.specs.Prelude.{◌≡◌, ◌<◌, ℕ, ◌+◌, Bool, true, cond, List, [], ◌++◌, length, flat_map, Option, Some, None}
+use Rattle.std.specs.Prelude.{◌≡◌, ◌<◌, ℕ, ◌+◌, Bool, true, false, cond, List, [], ◌++◌, length, flat_map, Option, Some, None}
 use Rattle.ug_types.specs.Elements.{Has}
 use Rattle.ug_refusal.specs.declared.refusal.Refusal.{Refusal}
 use Rattle.ug_types.specs.declared.rule.After.TheVariants as after
 use Rattle.ug_types.specs.declared.rule.Rule.{Rule}
-use Rattle.ug_policy.specs.Edits.{IsThere, has_id, inserted, new_entry, removed, retargeted}
+use Rattle.ug_policy.specs.Edits.{IsThere, KeepsMarkOrder, has_id, inserted, new_entry, removed, retargeted}
 use Rattle.ug_policy.specs.Marks.{is_permanent}
-use Rattle.ug_policy.specs.Rules.{ids}
+use Rattle.ug_policy.specs.Rules.{ids, most_rules}
 use Rattle.ug_policy.specs.declared.entry.RuleEntry.{RuleEntry}
 use Rattle.ug_ruleset.specs.RuleFile.{ReadsBack, saved_of, saved_rule}
-use Rattle.ug_ruleset.specs.RulePlaces.{has_permanent, if_few}
+use Rattle.ug_ruleset.specs.RulePlaces.{has_folder_rule, has_permanent, if_few}
 use Rattle.ug_ruleset.specs.declared.edit.Edit.{Edit}
 use Rattle.ug_ruleset.specs.declared.edit.Edit.TheVariants.{Insert, Remove, Retarget}
 
@@ -20,12 +20,14 @@ abbrev pub IsButForTarget : ℕ → Rule → List RuleEntry → Type 0
 IsButForTarget id rule rules =
     (e : RuleEntry) → Has rules e → e.id ≡ id → record e.rule { target = rule.target } ≡ rule
 
--- A rule has a place behind one that is there, among fewer than 65,536. A rule that is to go is
--- there. One that gets another target is
--- there, and is permanent.
+-- A rule has a place behind one that is there, among fewer than a list has at most, and the
+-- folder's rules stay in front of those of
+-- the rule file. A rule that is to go is there, and isn't one of the folder. One that gets another
+-- target is there, and is permanent.
 abbrev pub CanEdit : Edit → List RuleEntry → Type 0
-CanEdit (Insert place rule mark) rules = IsThere place rules × (length rules < 65536)
-CanEdit (Remove id) rules = Has (ids rules) id
+CanEdit (Insert place rule mark) rules =
+    IsThere place rules × (length rules < most_rules) × KeepsMarkOrder place mark rules
+CanEdit (Remove id) rules = Has (ids rules) id × (has_folder_rule id rules ≡ false)
 CanEdit (Retarget id rule) rules = Has (ids rules) id × (has_permanent id rules ≡ true)
 
 -- a rule that is new or has a new target reads again from its text

@@ -7,6 +7,7 @@ use Rattle.ug_print.specs.RuleTexts.{rules_limit, rules_text_of}
 use Rattle.ug_print.specs.Words.{rule_text}
 use Rattle.ug_policy.specs.Edits.{new_entry}
 use Rattle.ug_policy.specs.Marks.{is_permanent}
+use Rattle.ug_policy.specs.Rules.{most_rules}
 use Rattle.ug_policy.specs.declared.entry.Mark.{Mark}
 use Rattle.ug_policy.specs.declared.entry.RuleEntry.{RuleEntry}
 
@@ -38,7 +39,7 @@ FitsFile entries = length (permanent_text entries) ≤ rules_limit
 pub record CanSave (rules : List Rule) : Type 0 where
   pub reads : file_read (rules_text_of rules) ≡ Ok rules
   pub fits : length (rules_text_of rules) ≤ rules_limit
-  pub few : length rules ≤ 65536
+  pub few : length rules ≤ most_rules
 
 -- so do the permanent ones
 abbrev pub IsSaveable : List RuleEntry → Type 0
@@ -50,7 +51,7 @@ pub record IsRuleFile (rules : List Rule) (text : List ℕ) : Type 0 where
   pub reads : file_read text ≡ Ok rules
   pub within : length text ≤ rules_limit
   pub fits : length (rules_text_of rules) ≤ rules_limit
-  pub few : length rules ≤ 65536
+  pub few : length rules ≤ most_rules
 
 -- the rule reads again from its canonical text
 abbrev pub ReadsBack : Rule → Type 0

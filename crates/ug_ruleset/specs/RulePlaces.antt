@@ -7,14 +7,19 @@ use Rattle.ug_refusal.specs.declared.refusal.Refusal.{Refusal}
 use Rattle.ug_refusal.specs.declared.refusal.Refusal.TheVariants as refusal
 use Rattle.ug_types.specs.declared.rule.After.{After}
 use Rattle.ug_types.specs.declared.rule.After.TheVariants as after
-use Rattle.ug_policy.specs.Edits.{has_id}
-use Rattle.ug_policy.specs.Marks.{is_permanent}
+use Rattle.ug_policy.specs.Edits.{IsBehindFolder, IsThere, folder_behind, has_id}
+use Rattle.ug_policy.specs.Marks.{is_folder, is_permanent}
+use Rattle.ug_policy.specs.Rules.{most_rules}
 use Rattle.ug_policy.specs.declared.entry.RuleEntry.{RuleEntry}
 use Rattle.ug_print.specs.Made.{is_made_of}
 
 -- some rule has the id
 abbrev pub has_rule : ℕ → List RuleEntry → Bool
 has_rule id rules = list_any (λ (e : RuleEntry). has_id id e) rules
+
+-- some rule of that id is one of the folder
+abbrev pub has_folder_rule : ℕ → List RuleEntry → Bool
+has_folder_rule id rules = list_any (λ (e : RuleEntry). has_id id e && is_folder e.mark) rules
 
 -- some rule of that id is permanent
 abbrev pub has_permanent : ℕ → List RuleEntry → Bool
@@ -24,18 +29,34 @@ has_permanent id rules = list_any (λ (e : RuleEntry). has_id id e && is_permane
 abbrev pub if_there : ℕ → List RuleEntry → Option Refusal
 if_there id rules = if has_rule id rules then None else Some (refusal.NoRule id)
 
+abbrev pub first_of : Option Refusal → Option Refusal → Option Refusal
+first_of (Some refused) other = Some refused
+first_of None other = other
+
+-- why a rule of the folder bars it
+abbrev pub if_barred : Bool → ℕ → Option Refusal
+if_barred barred id = if barred then Some (refusal.FolderRule id) else None
+
+-- the rule behind which one is put: none of the folder stands behind it
+abbrev pub if_behind : ℕ → List RuleEntry → Option Refusal
+if_behind id rules = first_of (if_there id rules) (if_barred (folder_behind id rules) id)
+
+-- a rule can be put there: behind one that is there, and behind those of the folder
+abbrev pub IsOpen : After → List RuleEntry → Type 0
+IsOpen place rules = IsThere place rules × IsBehindFolder place rules
+
+-- the rule that is to go: it isn't one of the folder
+abbrev pub if_removed : ℕ → List RuleEntry → Option Refusal
+if_removed id rules = first_of (if_there id rules) (if_barred (has_folder_rule id rules) id)
+
 -- the place behind which a rule is put
 abbrev pub place_refusal : After → List RuleEntry → Option Refusal
 place_refusal after.End rules = None
 place_refusal after.Front rules = None
-place_refusal (after.Rule id) rules = if_there id rules
+place_refusal (after.Rule id) rules = if_behind id rules
 
 abbrev pub if_few : List RuleEntry → Option Refusal
-if_few rules = if nat_lt (length rules) 65536 then None else Some refusal.RulesFull
-
-abbrev pub first_of : Option Refusal → Option Refusal → Option Refusal
-first_of (Some refused) other = Some refused
-first_of None other = other
+if_few rules = if nat_lt (length rules) most_rules then None else Some refusal.RulesFull
 
 -- why no rule is put behind that place
 abbrev pub if_taken : After → List RuleEntry → Option Refusal

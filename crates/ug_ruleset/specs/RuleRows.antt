@@ -6,9 +6,9 @@ use Rattle.ug_policy.specs.declared.entry.RuleEntry.{RuleEntry}
 use Rattle.ug_print.specs.Words.{rule_text}
 use Rattle.ug_ruleset.specs.Rows.{numbered_row}
 
--- what is behind a temporary rule
+-- what is behind a rule of the folder and a temporary one
 abbrev pub mark_text : Mark → List ℕ
-mark_text mark.Folder = []
+mark_text mark.Folder = codes " # folder"
 mark_text mark.File = []
 mark_text mark.Temporary = codes " # temporary"
 

@@ -9,7 +9,7 @@ ghost use Rattle.ug_types.specs.declared.verdict.Target.{Target};
 ghost use Rattle.ug_ruleset.specs.RuleEdits.{CanEdit, EditReads, HasRoomFor, IsButForTarget, changes_file, edited_by, if_room_for, next_after};
 ghost use Rattle.ug_ruleset.specs.RuleFile.{FitsFile, IsSaveable, ReadsBack, permanent_rules, permanent_text};
 ghost use Rattle.ug_policy.specs.Rules.{rules_in};
-ghost use Rattle.ug_ruleset.specs.RulePlaces.{has_permanent, has_rule, if_few, place_refusal, if_taken, made_rule};
+ghost use Rattle.ug_ruleset.specs.RulePlaces.{has_folder_rule, has_permanent, has_rule, if_behind, if_few, place_refusal, if_removed, if_taken, made_rule};
 ghost use Rattle.ug_ruleset.specs.RuleRows.{rule_rows};
 
 use crate::edit::Edit;
@@ -19,7 +19,7 @@ use rand_core::Rng;
 use std::alloc::Global;
 use std::marker::Model;
 use ug_cond::{Allowed, Context};
-use ug_policy::{Mark, RuleEntry, RuleList};
+use ug_policy::{MAX_RULES, Mark, RuleEntry, RuleList};
 use ug_print::{RulesTextFault, is_made_of};
 use ug_refusal::Refusal;
 use ug_types::{After, Cause, DeviceRecord, List, NoMemory, Rule, Target, Text};
@@ -95,14 +95,49 @@ impl KeptRules {
             .any(|entry| entry.id == id && entry.mark.is_permanent())
     }
 
+    // Whether the rule of that id is one of the folder.
+    fn has_folder_rule(&self, id: u64) -> bool
+        ensures { result ≡ has_folder_rule id self.now.entries }
+    {
+        let rules = self.list.as_slice();
+        rules
+            .iter()
+            .any(|entry| entry.id == id && entry.mark.is_folder())
+    }
+
+    // Why no rule is put behind that of the id.
+    fn refuse_behind(&self, id: u64) -> Option<Refusal>
+        ensures { result ≡ if_behind id self.now.entries }
+    {
+        if !self.has_rule(id) {
+            return Some(Refusal::NoRule { id });
+        }
+        if self.list.has_folder_behind(id) {
+            return Some(Refusal::FolderRule { id });
+        }
+        None
+    }
+
+    /// Why the rule of that id isn't taken out.
+    pub fn refuse_removal(&self, id: u64) -> Option<Refusal>
+        ensures { result ≡ if_removed id self.now.entries }
+    {
+        if !self.has_rule(id) {
+            return Some(Refusal::NoRule { id });
+        }
+        if self.has_folder_rule(id) {
+            return Some(Refusal::FolderRule { id });
+        }
+        None
+    }
+
     fn has_place(&self, after: After) -> Option<Refusal>
         ensures { result ≡ place_refusal after self.now.entries }
     {
         match after {
             After::End => None,
             After::Front => None,
-            After::Rule(id) if self.has_rule(id) => None,
-            After::Rule(id) => Some(Refusal::NoRule { id }),
+            After::Rule(id) => self.refuse_behind(id),
         }
     }
 
@@ -110,7 +145,7 @@ impl KeptRules {
     fn refuse_more(&self) -> Option<Refusal>
         ensures { result ≡ if_few self.now.entries }
     {
-        if self.list.len() < 65_536 {
+        if self.list.len() < MAX_RULES {
             None
         } else {
             Some(Refusal::RulesFull)

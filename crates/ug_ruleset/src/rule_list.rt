@@ -14,7 +14,7 @@ fn put_mark(row: &mut Vec<u8>, mark: Mark) -> Result<(), NoMemory>
     ensures { OnOk result (row.new.items ≡ row.old.items ++ mark_text mark) }
 {
     let text: &[u8] = match mark {
-        Mark::Folder => b"",
+        Mark::Folder => b" # folder",
         Mark::File => b"",
         Mark::Temporary => b" # temporary",
     };
@@ -34,7 +34,7 @@ fn print_rule_row(alloc: Global, entry: &RuleEntry) -> Result<Text, NoMemory>
 }
 
 /// The lines of a list of rules, without their newlines: one for each rule, in the order of the list, `ID: RULE` with its
-/// canonical text. That of a temporary rule ends with ` # temporary`. None has a newline where each rule is what
+/// canonical text. That of a rule of the folder ends with ` # folder`, that of a temporary one with ` # temporary`. None has a newline where each rule is what
 /// some line reads as.
 pub fn list_rules(alloc: Global, rules: &RuleList) -> Result<List<Text>, NoMemory>
     ensures rows { IfOk result (λ rows. rows ≡ rule_rows rules.now.entries) }

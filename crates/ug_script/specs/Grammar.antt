@@ -12,8 +12,9 @@ use Rattle.ug_acl.specs.Grammar.{IsGrant}
 use Rattle.ug_acl.specs.Lines.{given_to}
 use Rattle.ug_acl.specs.Pairs.{Pair}
 use Rattle.ug_acl.specs.Texts.{access_read, pairs_given}
+use Rattle.ug_conf.specs.FolderFiles.{IsRuleFileName, is_rule_file_name}
 use Rattle.ug_rule.specs.declared.fault.Fault.{Fault}
-use Rattle.ug_rule.specs.Grammar.{WellFormed}
+use Rattle.ug_rule.specs.Grammar.{Says, WellFormed}
 use Rattle.ug_rule.specs.Rules.{rule_read}
 use Rattle.ug_store.specs.declared.mishap.Mishap.{Mishap}
 use Rattle.ug_store.specs.declared.mishap.Mishap.TheVariants as mishap
@@ -27,9 +28,10 @@ use Rattle.ug_core.specs.declared.daemon.Event.TheVariants.{Sweep, Order}
 use Rattle.ug_script.specs.declared.line_word.LineWord.{LineWord}
 use Rattle.ug_script.specs.declared.line_word.LineWord.TheVariants as word
 use Rattle.ug_script.specs.declared.step.AccessLine.{AccessLine}
+use Rattle.ug_script.specs.declared.step.FolderLine.{FolderLine}
 use Rattle.ug_script.specs.declared.step.Plan.TheVariants as plan
 use Rattle.ug_script.specs.declared.step.SetupLine.{SetupLine}
-use Rattle.ug_script.specs.declared.step.SetupLine.TheVariants.{Rule, Conf, Access, Seed, Zone}
+use Rattle.ug_script.specs.declared.step.SetupLine.TheVariants.{Rule, Folder, Conf, Access, Seed, Zone}
 use Rattle.ug_script.specs.declared.step.Step.{Step}
 use Rattle.ug_script.specs.declared.step.Step.TheVariants as step
 use Rattle.ug_script.specs.LineWords.{line_word_of}
@@ -41,6 +43,28 @@ use Rattle.ug_script.specs.Words.{name_of, moment_word, call_of, cut_by_space, s
 abbrev pub in_rule : Result types.Rule Fault → Option SetupLine
 in_rule (Ok rule) = Some (Rule rule)
 in_rule (Err fault) = None
+
+abbrev pub in_folder : List ℕ → List ℕ → Result types.Rule Fault → Option SetupLine
+in_folder name line (Ok rule) = Some (Folder (record { name = name; text = line }))
+in_folder name line (Err fault) = None
+
+-- a file that counts, and one line that holds a rule
+abbrev pub named_line : List ℕ → List ℕ → Option SetupLine
+named_line name line =
+    if is_rule_file_name name && is_one_line line then in_folder name line (rule_read line)
+    else None
+
+-- `NAME RULE`
+abbrev pub folder_line_of : List ℕ → Option SetupLine
+folder_line_of text = cut_by_space (λ name line. named_line name line) None text
+
+-- the name of a file that counts, one space, and one line that holds a rule
+pub record IsFolderText (text : List ℕ) (f : FolderLine) : Type 0 where
+  pub is : text ≡ f.name ++ 32 ∷ f.text
+  pub named : IsRuleFileName f.name
+  pub single : ¬ Has f.text 10
+  pub rule : types.Rule
+  pub says : Says f.text rule
 
 abbrev pub in_access : Named → Result (List Pair) TextFault → Option SetupLine
 in_access who (Ok grants) = Some (Access (record { who = who; grants = grants }))
@@ -172,6 +196,7 @@ step_behind word.Sweep text =
     option_map (λ moment. step.Event (Sweep (record { 0 = moment }))) (moment_word text)
 step_behind word.Order text = option_map step.Event (order_of text)
 step_behind word.Rule text = option_map step.Setup (in_rule (rule_read text))
+step_behind word.Folder text = option_map step.Setup (folder_line_of text)
 step_behind word.Conf text = Some (step.Setup (Conf text))
 step_behind word.Access text = option_map step.Setup (grant_of text)
 step_behind word.Seed text = option_map (λ seed. step.Setup (Seed seed)) (seed_of text)
@@ -188,9 +213,14 @@ step_of_line line =
     else if pointwise nat_eq line (codes "restart") then Some step.Restart
     else cut_by_space (λ word text. step_by (line_word_of word) text) None line
 
+-- one line that reads as a rule
+abbrev pub HoldsRule : List ℕ → Type 0
+HoldsRule line = (is_one_line line ≡ true) × (rule : types.Rule) × (rule_read line ≡ Ok rule)
+
 -- the rule that is asked for, if one is, is the rule of some line
 abbrev pub AsksForRule : SetupLine → Type 0
 AsksForRule (Rule rule) = WellFormed rule
+AsksForRule (Folder line) = HoldsRule line.text
 AsksForRule line = Unit {0}
 
 abbrev pub AsksForRules : Step → Type 0

@@ -16,6 +16,7 @@ pub mod CarriedOn
 pub mod Example
 pub mod RuleFiles
 pub mod RuleLines
+pub mod FolderLines
 pub mod Schedules
 pub mod Births
 pub mod Against

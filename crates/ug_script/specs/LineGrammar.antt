@@ -18,13 +18,14 @@ use Rattle.ug_sysfs.specs.declared.script.Scheduled.{Scheduled}
 use Rattle.ug_core.specs.declared.daemon.Event.{Event}
 use Rattle.ug_core.specs.declared.daemon.Event.TheVariants.{Sweep, Order}
 use Rattle.ug_script.specs.declared.step.AccessLine.{AccessLine}
+use Rattle.ug_script.specs.declared.step.FolderLine.{FolderLine}
 use Rattle.ug_script.specs.declared.step.Plan.{Plan}
 use Rattle.ug_script.specs.declared.step.Plan.TheVariants as plan
 use Rattle.ug_script.specs.declared.step.SetupLine.{SetupLine}
 use Rattle.ug_script.specs.declared.step.SetupLine.TheVariants as setup
 use Rattle.ug_script.specs.declared.step.Step.{Step}
 use Rattle.ug_script.specs.declared.step.Step.TheVariants as step
-use Rattle.ug_script.specs.Grammar.{IsAccess}
+use Rattle.ug_script.specs.Grammar.{IsAccess, IsFolderText}
 
 -- ---- devices that come and go
 
@@ -163,6 +164,11 @@ IsEventLine line (Order moment who request) = IsOrderLine line moment who reques
 abbrev pub IsRuleLine : List ℕ → types.Rule → Type 0
 IsRuleLine line rule = (text : List ℕ) × (line ≡ codes "rule " ++ text) × Says text rule
 
+-- `folder NAME RULE`
+abbrev pub IsFolderLine : List ℕ → FolderLine → Type 0
+IsFolderLine line f =
+    (text : List ℕ) × (line ≡ codes "folder " ++ text) × IsFolderText text f
+
 -- `access PRINCIPAL SECTION=LIST`
 abbrev pub IsAccessLine : List ℕ → AccessLine → Type 0
 IsAccessLine line a = (text : List ℕ) × (line ≡ codes "access " ++ text) × IsAccess text a
@@ -206,6 +212,7 @@ pub record IsZone (line : List ℕ) (offset : ℤ) : Type 0 where
 
 abbrev pub IsSetupLine : List ℕ → SetupLine → Type 0
 IsSetupLine line (setup.Rule rule) = IsRuleLine line rule
+IsSetupLine line (setup.Folder f) = IsFolderLine line f
 IsSetupLine line (setup.Conf text) = line ≡ codes "conf " ++ text
 IsSetupLine line (setup.Access a) = IsAccessLine line a
 IsSetupLine line (setup.Seed seed) = IsSeed line seed

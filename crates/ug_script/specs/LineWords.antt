@@ -8,6 +8,7 @@ use Rattle.ug_script.specs.declared.line_word.LineWord.TheVariants as word
 unfoldable pub setup_word_of : List ℕ → Option LineWord
 setup_word_of text =
     if pointwise nat_eq text (codes "rule") then Some word.Rule else
+    if pointwise nat_eq text (codes "folder") then Some word.Folder else
     if pointwise nat_eq text (codes "conf") then Some word.Conf else
     if pointwise nat_eq text (codes "access") then Some word.Access else
     if pointwise nat_eq text (codes "seed") then Some word.Seed else

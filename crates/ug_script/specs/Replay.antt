@@ -268,7 +268,8 @@ stopped_of setup call p (Err fault) = Refused fault (up_again p)
 -- what an event with that plan comes to
 abbrev pub came_of : SetupState → List Planned → Played → LineOutcome Played
 came_of setup plan p =
-    cond p.disk.stopped (stopped_of setup (stop_in plan p) p (rules_from p.disk.disk.text))
+    cond p.disk.stopped (stopped_of setup (stop_in plan p) p
+    (rules_from setup.folder.count p.disk.disk.text))
     (finished p)
 
 -- unless the numbers have run out
@@ -322,7 +323,8 @@ restarted (Err fault) s w = Refused fault (Some (without_restart s), w)
 -- the first daemon is started before, if none was
 abbrev pub restart_taken : Script → World → LineOutcome (Option Script × World)
 restart_taken s w =
-    cond (can_start s.setup s.phase) (restarted (rules_from (disk_in s).disk.text) s w)
+    cond (can_start s.setup s.phase)
+    (restarted (rules_from s.setup.folder.count (disk_in s).disk.text) s w)
     (Refused InputTooLong (Some s, w))
 
 -- ---- all lines

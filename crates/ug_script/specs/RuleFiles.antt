@@ -8,16 +8,16 @@ abbrev pub is_given : {A E : Type 0} → Result A E → Bool
 is_given (Ok value) = true
 is_given (Err e) = false
 
--- a daemon starts with the text
-abbrev pub is_startable : List ℕ → Bool
-is_startable text = is_given (rules_from text)
+-- a daemon starts with the text, behind so many rules of the folder
+abbrev pub is_startable : ℕ → List ℕ → Bool
+is_startable before text = is_given (rules_from before text)
 
 -- Unless the disk has run out, a daemon starts with each text that a stop may leave, and the rule
 -- file is such a one.
-abbrev pub StaysReadable : DiskWorld → Type 0
-StaysReadable o =
+abbrev pub StaysReadable : ℕ → DiskWorld → Type 0
+StaysReadable before o =
     o.ran_out ≡ false
-    → ((text : List ℕ) → IsImage o.disk.left text → is_startable text ≡ true)
+    → ((text : List ℕ) → IsImage o.disk.left text → is_startable before text ≡ true)
     × ((IsImage o.disk.left o.disk.text → ⊥) → ⊥)
 
 -- the files of a disk are as they were, and so is what a stop leaves

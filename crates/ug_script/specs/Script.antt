@@ -1,5 +1,7 @@
 -- How far a script has come, and the daemon that it has.
-use Rattle.std.specs.Prelude.{Bool, true, false, nat_le, List, [], length}
+use Rattle.std.specs.Prelude.{Bool, true, false, ◌&&◌, nat_le, List, [], length}
+use Rattle.ug_conf.specs.Files.{conf_limit}
+use Rattle.ug_conf.specs.FolderFiles.{folder_length}
 use Rattle.ug_print.specs.RuleTexts.{rules_limit, rules_text_of}
 use Rattle.ug_store.specs.Scripted.{DiskWorld}
 use Rattle.ug_core.specs.Event.{DaemonState, daemon_of}
@@ -71,13 +73,20 @@ disk_by setup (Started d disk) = disk
 abbrev pub disk_in : Script → DiskWorld
 disk_in s = disk_by s.setup s.phase
 
--- a rule file has room for the rules
+-- the lines of the folder aren't too long together
+abbrev pub fits_folder : SetupState → Bool
+fits_folder setup = nat_le (folder_length setup.folder.files) conf_limit
+
+-- nor are they, and a rule file has room for the other rules
 abbrev pub fits_file : SetupState → Bool
-fits_file setup = nat_le (length (rules_text_of setup.rules)) rules_limit
+fits_file setup =
+    nat_le (length (rules_text_of setup.rules)) rules_limit && fits_folder setup
 
 -- why no daemon starts over a disk in memory, which fails only where an entry of its calls finds no
 -- memory
 abbrev pub no_start_of : StartFault → NoStart
+no_start_of (fault.BadFolder file bad) = no_start.BadRules
+no_start_of fault.FolderTooLong = no_start.TooLong
 no_start_of (fault.BadRules bad) = no_start.BadRules
 no_start_of fault.TooLong = no_start.TooLong
 no_start_of fault.TooMany = no_start.TooLong

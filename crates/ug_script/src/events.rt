@@ -194,7 +194,7 @@ fn stop_event<K: Sink>(
         ≡ (daemon_of session.old.daemon).sweep.entries }
     ensures ran { (w : World) → Steps (replay.stopped_of setup.now call
         (record { daemon = daemon_of session.old.daemon; world = w; disk = session.old.disk })
-        (rules_from session.old.disk.disk.text))
+        (rules_from setup.now.folder.count session.old.disk.disk.text))
         (record { daemon = daemon_of session.new.daemon; world = over w; disk = session.new.disk })
         (K.held out.old) (K.held out.new) result }
     ensures taken { (¬ (result ≡ Ran.Bad)) × (¬ (result ≡ Ran.TooLong)) }

@@ -4,6 +4,7 @@
 mod access;
 mod event_lines;
 mod events;
+mod folder_lines;
 mod generator;
 mod halting;
 mod interpreter;

@@ -16,6 +16,7 @@ pub enum LineWord {
     Sweep,
     Order,
     Rule,
+    Folder,
     Conf,
     Access,
     Seed,
@@ -29,6 +30,9 @@ fn setup_word(text: &[u8]) -> Option<LineWord>
 {
     if text == b"rule".as_slice() {
         return Some(LineWord::Rule);
+    }
+    if text == b"folder".as_slice() {
+        return Some(LineWord::Folder);
     }
     if text == b"conf".as_slice() {
         return Some(LineWord::Conf);

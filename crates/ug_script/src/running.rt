@@ -91,7 +91,7 @@ fn restart_session(alloc: Global, setup: &Setup, session: &mut Session) -> Ran
     ensures silent { ¬ (result ≡ Ran.SinkFailed) }
     ensures given { (¬ (result ≡ Ran.Bad)) × (¬ (result ≡ Ran.TooLong)) }
     ensures ran { (plan : List Planned) (w : World) (held : Option (List ℕ))
-        → Steps (restarted (rules_from session.old.disk.disk.text)
+        → Steps (restarted (rules_from setup.now.folder.count session.old.disk.disk.text)
         (started_script setup.now session.old plan) w)
         (Some (started_script setup.now session.new plan), w) held held result }
 {

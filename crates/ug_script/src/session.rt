@@ -5,10 +5,12 @@ use rand_chacha::ChaCha20Rng;
 use ug_core::Daemon;
 use ug_store::MemDisk;
 
-/// A daemon, and the disk of its rule file. Whatever a stop leaves of that, a new daemon starts with it.
+/// A daemon, how many rules of its folder stand before its rule file's, and the disk of that. Whatever a stop leaves of it, a new daemon
+/// starts with it.
 #[derive(Drop)]
 pub struct Session {
     pub daemon: Daemon<'static, ChaCha20Rng>,
+    pub before: usize,
     pub disk: MemDisk,
-    ghost file: { StaysReadable disk },
+    ghost file: { StaysReadable before disk },
 }

@@ -1,12 +1,13 @@
 // What the lines give that stand before all others.
 ghost use Rattle.std.specs.Prelude.{◌≡◌, ◌++◌, ◌∷◌, [], Some, IfOk};
-ghost use Rattle.ug_script.specs.Grammar.{AsksForRule};
+ghost use Rattle.ug_script.specs.Grammar.{AsksForRule, HoldsRule};
 ghost use Rattle.ug_script.specs.Setup as lines;
 ghost use Rattle.ug_script.specs.Setup.{Adds, no_setup, one_line_more};
 ghost use Rattle.ug_rule.specs.Grammar.{WellFormed};
 
+use crate::folder_lines::FolderLines;
 use crate::rule_lines::RuleLines;
-use crate::step::{AccessLine, SetupLine, StepFault};
+use crate::step::{AccessLine, FolderLine, SetupLine, StepFault};
 use crate::words::is_entry;
 use std::alloc::Global;
 use std::marker::Model;
@@ -16,10 +17,11 @@ use ug_types::{NoMemory, Rule};
 /// The most rules that a daemon starts with.
 const MOST_RULES: usize = 65_536;
 
-/// The rules in order, of which the text is kept, the settings so far, what was granted in order, and the seed and the zone, where
-/// they were given.
+/// The rules in order, of which the text is kept, the files of the folder before them, the settings so far, what was granted in
+/// order, and the seed and the zone, where they were given.
 #[derive(Drop)]
 pub struct Setup {
+    pub folder: FolderLines,
     pub rules: RuleLines,
     pub settings: SettingsReader,
     pub access: Vec<AccessLine>,
@@ -34,6 +36,7 @@ impl Model for Setup {
     ghost Value = { SetupState };
 
     ghost view = { λ s. record {
+      folder = s.folder;
       rules = s.rules;
       settings = s.settings;
       access = s.access.items;
@@ -56,6 +59,7 @@ impl Setup {
         ensures { IfOk result (λ setup. setup ≡ no_setup) }
     {
         Ok(Setup {
+            folder: FolderLines::new(alloc),
             rules: RuleLines::new(alloc),
             settings: SettingsReader::new(alloc)?,
             access: Vec::new(alloc),
@@ -71,6 +75,7 @@ impl Setup {
     {
         match line {
             SetupLine::Rule(rule) => self.add_rule(rule),
+            SetupLine::Folder(line) => self.add_folder_line(line),
             SetupLine::Conf(text) => self.add_setting(text.bytes()),
             SetupLine::Access(line) => self.add_access(line),
             SetupLine::Seed(seed) => {
@@ -90,11 +95,31 @@ impl Setup {
         }
     }
 
+    /// Whether one more rule may stand there.
+    fn has_room(&self) -> bool
+        ensures { result ≡ lines.has_rule_room self.now }
+    {
+        self.folder.len() + self.rules.len() < MOST_RULES
+    }
+
+    fn add_folder_line(&mut self, line: FolderLine) -> Result<(), StepFault>
+        requires { HoldsRule line.text }
+        ensures { Adds (lines.one_folder_line_more line self.old) result self.old self.new }
+    {
+        if !self.has_room() {
+            return Err(StepFault::Bad);
+        }
+        match self.folder.push(&line) {
+            Ok(()) => Ok(()),
+            Err(_) => Err(StepFault::Memory),
+        }
+    }
+
     fn add_rule(&mut self, rule: Rule) -> Result<(), StepFault>
         requires { WellFormed rule }
         ensures { Adds (lines.one_rule_more rule self.old) result self.old self.new }
     {
-        if self.rules.len() >= MOST_RULES {
+        if !self.has_room() {
             return Err(StepFault::Bad);
         }
         match self.rules.push(&rule) {

@@ -1,17 +1,18 @@
-// Lines that stand before all others: rules, settings, access, a seed and a time zone.
+// Lines that stand before all others: rules, also those of the folder, settings, access, a seed and a time zone.
 ghost use Rattle.std.specs.Prelude.{◌≡◌, ◌≤◌, ◌&&◌, Some};
 ghost use Rattle.ug_acl.specs.Texts.{access_read};
 ghost use Rattle.ug_rule.specs.Rules.{rule_read};
-ghost use Rattle.ug_script.specs.Grammar.{grant_of, granting, in_access, in_rule};
+ghost use Rattle.ug_script.specs.Grammar.{folder_line_of, grant_of, granting, in_access, in_folder, in_rule, named_line};
 ghost use Rattle.ug_script.specs.Words as words;
 ghost use Rattle.ug_script.specs.Words.{Parses, offset_of, seed_of, signed_by, with_minutes};
 
-use crate::step::{AccessLine, SetupLine, StepFault};
+use crate::step::{AccessLine, FolderLine, SetupLine, StepFault};
 use crate::words::{is_entry, is_one_line, space};
 use std::alloc::Global;
 use ug_acl::parse_access;
+use ug_conf::is_rule_file_name;
 use ug_rule::{RuleFault, parse_rule};
-use ug_types::{FileFault, Principal};
+use ug_types::{FileFault, Principal, Text};
 
 /// What stands behind `rule`, read as usbguard-rules.conf(5) says.
 pub fn read_rule(alloc: Global, text: &[u8]) -> Result<SetupLine, StepFault>
@@ -21,6 +22,39 @@ pub fn read_rule(alloc: Global, text: &[u8]) -> Result<SetupLine, StepFault>
         Ok(rule) => Ok(SetupLine::Rule(rule)),
         Err(RuleFault::Bad { .. }) => Err(StepFault::Bad),
         Err(RuleFault::Memory) => Err(StepFault::Memory),
+    }
+}
+
+/// A line of the folder's file of that name, which holds a rule.
+fn read_line_in(alloc: Global, name: &[u8], line: &[u8]) -> Result<SetupLine, StepFault>
+    ensures { Parses (in_folder name.now line.now (rule_read line.now)) result }
+{
+    match parse_rule(alloc, line) {
+        Ok(_rule) => Ok(SetupLine::Folder(FolderLine {
+            name: Text::of(alloc, name)?,
+            text: Text::of(alloc, line)?,
+        })),
+        Err(RuleFault::Bad { .. }) => Err(StepFault::Bad),
+        Err(RuleFault::Memory) => Err(StepFault::Memory),
+    }
+}
+
+fn read_named_line(alloc: Global, name: &[u8], line: &[u8]) -> Result<SetupLine, StepFault>
+    ensures { Parses (named_line name.now line.now) result }
+{
+    if !is_rule_file_name(name) || !is_one_line(line) {
+        return Err(StepFault::Bad);
+    }
+    read_line_in(alloc, name, line)
+}
+
+/// The name of a file that counts in the folder of rules, and a rule.
+pub fn read_folder_line(alloc: Global, text: &[u8]) -> Result<SetupLine, StepFault>
+    ensures { Parses (folder_line_of text.now) result }
+{
+    match space(text) {
+        None => Err(StepFault::Bad),
+        Some(at) => read_named_line(alloc, &text[..at], &text[at + 1..]),
     }
 }
 

@@ -9,7 +9,7 @@ ghost use Rattle.ug_core.specs.Settings.{classes_of, hub_default};
 ghost use Rattle.ug_rule.specs.Files.{file_read};
 ghost use Rattle.ug_store.specs.Scripted.{world_at_first};
 ghost use Rattle.ug_print.specs.RuleTexts.{rules_text_of};
-ghost use Rattle.ug_script.specs.Script.{fits_file, no_start_of};
+ghost use Rattle.ug_script.specs.Script.{fits_file, fits_folder, no_start_of};
 ghost use Rattle.ug_script.specs.Setup.{StartsOn, after_reading, beside_of, clock_ahead, given_or, is_offset, no_seed, policy_of, rules_disk, rules_from, first_started};
 
 use crate::access::access_of;
@@ -19,7 +19,7 @@ use jiff::tz::{Offset, TimeZone};
 use rand_chacha::ChaCha20Rng;
 use rand_core::{Rng, SeedableRng};
 use std::alloc::Global;
-use ug_conf::{Settings, default_settings};
+use ug_conf::{Settings, TEXT_LIMIT, default_settings};
 use ug_core::{Daemon, StartFault};
 use ug_print::RulesTextFault;
 use ug_store::MemDisk;
@@ -31,9 +31,9 @@ const RULES_LIMIT: usize = 67_108_864;
 /// Why no daemon starts over a disk.
 #[derive(Clone, Copy, Debug, PartialEq, Eq)]
 pub enum NoStart {
-    /// The rule file isn't in the grammar.
+    /// The rule file isn't in the grammar, or a file of the folder.
     BadRules,
-    /// It has more than 67,108,864 bytes, or its rules have, or there are more than 65,536 of them.
+    /// It has more than 67,108,864 bytes, or its rules have, or the folder's files; or there are more than 65,536 rules in all.
     TooLong,
     Memory,
 }
@@ -109,7 +109,14 @@ fn settings_of(alloc: Global, setup: &Setup) -> Result<Settings, NoMemory>
     Ok(settings)
 }
 
-/// The disk whose rule file holds the rules.
+/// Whether the lines of the folder's files aren't too long together.
+fn fits_folder(setup: &Setup) -> bool
+    ensures { result ≡ fits_folder setup.now }
+{
+    setup.folder.bytes() <= TEXT_LIMIT
+}
+
+/// The disk whose rule file holds the rules, where neither these nor those of the folder are too long.
 fn disk_of(alloc: Global, setup: &Setup) -> Result<MemDisk, RulesTextFault>
     ensures disk { IfOk result (λ disk. disk ≡ world_at_first (rules_text_of setup.now.rules)) }
     ensures reads { OnOk result (file_read (rules_text_of setup.now.rules) ≡ Ok setup.now.rules) }
@@ -117,7 +124,7 @@ fn disk_of(alloc: Global, setup: &Setup) -> Result<MemDisk, RulesTextFault>
     ensures too_long { result ≡ Err RulesTextFault.TooLong → fits_file setup.now ≡ false }
 {
     let text = setup.rules.text();
-    if text.len() > RULES_LIMIT {
+    if text.len() > RULES_LIMIT || !fits_folder(setup) {
         return Err(RulesTextFault::TooLong);
     }
     match MemDisk::with_text(alloc, text) {
@@ -131,18 +138,18 @@ fn no_start(fault: StartFault) -> NoStart
     ensures { result ≡ no_start_of fault }
 {
     match fault {
-        StartFault::BadRules(_) => NoStart::BadRules,
-        StartFault::TooLong | StartFault::TooMany => NoStart::TooLong,
+        StartFault::BadFolder { .. } | StartFault::BadRules(_) => NoStart::BadRules,
+        StartFault::FolderTooLong | StartFault::TooLong | StartFault::TooMany => NoStart::TooLong,
         StartFault::Disk(_) | StartFault::Memory => NoStart::Memory,
     }
 }
 
 /// Whether the rules are no more than a daemon takes, as those of a setup are.
 fn are_few(setup: &Setup) -> bool
-    ensures few { length setup.now.rules ≤ 65536 }
+    ensures few { setup.now.folder.count + length setup.now.rules ≤ 65536 }
     ensures is { result ≡ true }
 {
-    setup.rules.len() <= 65_536
+    setup.folder.len() + setup.rules.len() <= 65_536
 }
 
 /// A daemon that reads its rules from that disk, whose first event has that number.
@@ -154,9 +161,10 @@ fn start_on(
 ) -> Result<Daemon<'static, ChaCha20Rng>, NoStart>
     ensures started { IfOk result (λ daemon. StartsOn setup.now first disk.old (daemon_of daemon)) }
     ensures saves { IfOk result (λ daemon. IsSaveable (daemon_of daemon).sweep.judge.rules) }
-    ensures bad { result ≡ Err NoStart.BadRules → rules_from disk.old.disk.text ≡ Err BadLine }
+    ensures bad { result ≡ Err NoStart.BadRules
+        → rules_from setup.now.folder.count disk.old.disk.text ≡ Err BadLine }
     ensures too_long { result ≡ Err NoStart.TooLong
-        → rules_from disk.old.disk.text ≡ Err InputTooLong }
+        → rules_from setup.now.folder.count disk.old.disk.text ≡ Err InputTooLong }
     ensures read { (result ≡ Err NoStart.Memory → ⊥) → disk.new ≡ after_reading disk.old }
     ensures still { disk.new.ran_out ≡ false → IsStillOn disk.old disk.new }
 {
@@ -164,7 +172,8 @@ fn start_on(
     let access = access_of(alloc, setup)?;
     let rng = rng_for(setup);
     let zone = zone_for(setup);
-    match Daemon::start(alloc, settings, access, rng, zone, first, disk) {
+    let folder = setup.folder.files(alloc)?;
+    match Daemon::start(alloc, settings, access, rng, zone, first, folder, disk) {
         Ok(daemon) => Ok(daemon),
         Err(fault) => Err(no_start(fault)),
     }
@@ -182,7 +191,11 @@ pub fn start_daemon(alloc: Global, setup: &Setup) -> Result<Session, RulesTextFa
     prove!(few);
     let mut disk = disk_of(alloc, setup)?;
     match start_on(alloc, setup, 1, &mut disk) {
-        Ok(daemon) => Ok(Session { daemon, disk }),
+        Ok(daemon) => Ok(Session {
+            daemon,
+            before: setup.folder.len(),
+            disk,
+        }),
         Err(NoStart::Memory) => Err(RulesTextFault::Memory),
         Err(NoStart::BadRules | NoStart::TooLong) => unreachable!(),
     }

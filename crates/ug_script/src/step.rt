@@ -12,11 +12,20 @@ pub struct AccessLine {
     pub grants: Grants,
 }
 
+/// One line more of a file in the folder of rules.
+#[derive(Drop)]
+pub struct FolderLine {
+    pub name: Text,
+    pub text: Text,
+}
+
 /// A line that stands before all others.
 #[derive(Drop)]
 pub enum SetupLine {
     /// One more rule behind those before.
     Rule(Rule),
+    /// One more rule of a file that stands before those.
+    Folder(FolderLine),
     /// A line of settings: usbguard-daemon.conf(5).
     Conf(Text),
     /// A user or a group may do more.

@@ -11,6 +11,7 @@ pub mod SameAccess
 pub mod Said
 pub mod RunServed
 pub mod Served
+pub mod FolderTold
 pub mod Refused
 pub mod Replied
 pub mod Once

@@ -1,21 +1,25 @@
 -- What the files and the disk tell of a start that was refused.
-use Rattle.std.proofs.Common.{◌≡◌, ℕ, ◌≤◌, ◌<◌, nat_le, Bool, true, false, List, [], ◌∷◌, length, Option, Some, None, Result, Ok, Err, inl, inr, if◌then◌else◌, refl, sym, ◌∙◌, ap, subst, arith}
+use Rattle.std.proofs.Common.{◌≡◌, ◌⊎◌, ℕ, ◌+◌, ◌≤◌, ◌<◌, nat_le, Bool, true, false, List, [], ◌∷◌, ◌++◌, length, length-append, Option, Some, None, Result, Ok, Err, inl, inr, if◌then◌else◌, refl, sym, ◌∙◌, ap, subst, arith}
 use Rattle.rand_core.specs.Stream.{Stream}
 use Rattle.std.specs.List.{AllByRecursion}
 use Rattle.std.specs.List.Sorted.{IsPermutation}
 use Rattle.std.proofs.lemmas.List.Elements.{All-from_recursion, recursion_from_All}
-use Rattle.std.proofs.lemmas.List.Sorted.{All-permutation, IsPermutation-sym}
+use Rattle.std.proofs.lemmas.List.Sorted.{All-permutation, IsPermutation-sym, sum_by-IsPermutation}
+use Rattle.std.proofs.lemmas.List.Sums.{sum_by-cons}
 use Rattle.ug_types.specs.Principals.{Named, principal_of}
 use Rattle.ug_acl.specs.Acls.{Addition}
 use Rattle.ug_acl.specs.Pairs.{Pair}
 use Rattle.ug_acl.specs.Texts.{access_read}
 use Rattle.ug_types.specs.declared.rule.Rule.{Rule}
+use Rattle.ug_types.specs.declared.text_fault.TextFault.{TextFault}
 use Rattle.ug_links.specs.declared.waiter.Waiter
 use Rattle.ug_links.specs.declared.clock.Clock
 use Rattle.ug_rule.specs.Files.{file_read}
 use Rattle.ug_print.specs.RuleTexts.{rules_text_of}
 use Rattle.ug_conf.specs.Files.{FileStep, Read_at, Listed_at, Tree, text_at, names_at, conf_limit, SaysFiles, SaysText, SaysNames}
+use Rattle.ug_conf.specs.FolderFiles.{folder_length}
 use Rattle.ug_conf.specs.Texts.{conf_read}
+use Rattle.ug_conf.specs.declared.folder_file.FolderFile.{FolderFile}
 use Rattle.ug_conf.specs.declared.files.FileRead.{FileRead}
 use Rattle.ug_conf.specs.declared.files.FileRead.TheVariants as file
 use Rattle.ug_conf.specs.declared.files.FolderRead.{FolderRead}
@@ -27,18 +31,18 @@ use Rattle.ug_store.specs.Store.{RecoversFrom}
 use Rattle.ug_store.specs.declared.store.RecoverFault.{RecoverFault}
 use Rattle.ug_store.specs.declared.store.RecoverFault.TheVariants as recover
 use Rattle.ug_store.specs.declared.disk.RuleDisk
-use Rattle.ug_policy.specs.Rules.{Rules}
+use Rattle.ug_policy.specs.Rules.{Rules, most_rules}
 use Rattle.ug_kernel.specs.declared.sysfs.Sysfs
 use Rattle.ug_audit.specs.declared.entry.Entry.{Entry}
 use Rattle.ug_audit.specs.declared.entry.ConfigPart.TheVariants as part
 use Rattle.ug_core.specs.Event.{DaemonState}
-use Rattle.ug_core.specs.Starting.{Outset, StartsAfter, StartsFrom, StartsWith}
+use Rattle.ug_core.specs.Starting.{BadFile, Outset, StartsAfter, StartsFrom, StartsOnFolder, StartsWith, file_before, folder_read, folder_rules, rules_of_folder}
 use Rattle.ug_core.specs.declared.start_fault.StartFault.{StartFault}
 use Rattle.ug_core.specs.declared.start_fault.StartFault.TheVariants as fault
 use Rattle.ug_serve.specs.Access.{GrantsIn, GrantsOf, ReadsGrants, No_path, Reads, AddsGrants, ReadsNamed, ReadsBehind, ReadsNames, ReadsListed, AddsUsers, OpensTo, path_in, refused_name}
-use Rattle.ug_serve.specs.Causes.{refused_whole, refusal_of_rules, start_status}
-use Rattle.ug_serve.specs.Opening.{outset_of, SettingsIn, SettingsOf, Started, with_cause, Opens, Unread, Access_unread, Unaimed, From_rules}
-use Rattle.ug_serve.specs.Refusals.{settings_read, settings_of_text, refusal_of_grants, refusal_of_file, refusal_of_named, refusal_of_name, refusal_of_files, refusal_of_folder, refusal_of_read, refusal_of_rules_text, first_refusal, refusal_behind, refusal_of_texts, IsStatusFor, IsStatusByTexts}
+use Rattle.ug_serve.specs.Causes.{part_of_file, refused_whole, refusal_of_start, start_status}
+use Rattle.ug_serve.specs.Opening.{outset_of, SettingsIn, SettingsOf, Started, StartsDaemon, Started_from, Without_names, file_names, with_cause, with_principals, Opens, Unread, Access_unread, Folder_unread, Unaimed, From_rules}
+use Rattle.ug_serve.specs.Refusals.{settings_read, settings_of_text, refusal_of_grants, refusal_of_file, refusal_of_named, refusal_of_name, refusal_of_files, refusal_of_each, refusal_of_folder, refusal_in_file, refusal_of_read, refusal_of_rule_files, refusal_of_rules, refusal_of_rules_text, rule_files, rules_of_files, rules_of_read, first_refusal, refusal_behind, refusal_of_texts, IsStatusFor, IsStatusByTexts}
 use Rattle.ug_serve.specs.declared.access.Access.{Access}
 use Rattle.ug_links.specs.declared.links.Links
 use Rattle.ug_serve.specs.Serving.{Objects, objects, first_world, AtSockets, ServesStarted, Listens_not, Listens, Serves, Bad_words, No_room, Not_started, Served}
@@ -48,6 +52,9 @@ use Rattle.ug_serve.specs.declared.not_started.NotStarted.{NotStarted}
 use Rattle.ug_serve.specs.declared.not_started.NotStarted.TheVariants as why
 use Rattle.ug_serve.specs.declared.turn.TurnEnd.{TurnEnd}
 use Rattle.ug_serve.specs.declared.turn.TurnEnd.TheVariants as end
+use Rattle.ug_serve.specs.Folders.{ReadsRules}
+use Rattle.ug_serve.proofs.FolderTold.{RulesTold}
+use Rattle.ug_serve.proofs.FolderTold.{rules_told as folder_rules_told}
 use Rattle.ug_serve.proofs.Served.{not_three, started_status}
 
 -- some text isn't taken
@@ -193,59 +200,191 @@ module _ (tree : Tree) (folder : List ℕ) where
   told_in_order names sorted (Ok value) same h = none_in_order sorted names (IsPermutation-sym names sorted same) h
   told_in_order names sorted (Err cause) same h = refused_in_order names sorted cause same h
 
--- ---- the rules
+-- ---- the rules of the folder
 
-read_rules : (text : List ℕ) → length text ≤ file_limit → refusal_of_rules_text text ≡ refusal_of_read (file_read text)
-read_rules text le = ap (λ (b : Bool). if b then refusal_of_read (file_read text) else Some (refused_whole part.Rules)) (within (length text) file_limit le)
+-- each file is good, and the rules are those of all
+folder_good : (place : ℕ) (files : List FolderFile) (rules : List Rule) → folder_read place files ≡ Ok rules → (refusal_of_each files ≡ None) × (rules_of_files files ≡ length rules)
+folder_good place [] rules e = let none : [] ≡ rules = cc in (refl, ap length none)
+folder_good place (f ∷ files) rules e = by (file_read f.text) (folder_read (place + 1) files) refl refl e
+  where
+    by : (one : Result (List Rule) TextFault) (behind : Result (List Rule) BadFile) → file_read f.text ≡ one → folder_read (place + 1) files ≡ behind → file_before place one behind ≡ Ok rules
+        → (refusal_of_each (f ∷ files) ≡ None) × (rules_of_files (f ∷ files) ≡ length rules)
+    by (Ok now) (Ok more) is later k =
+        let rest = folder_good (place + 1) files more later in
+        let all : now ++ more ≡ rules = cc in
+        let here : length (rules_of_read (file_read f.text)) ≡ length now = ap (λ (r : Result (List Rule) TextFault). length (rules_of_read r)) is in
+        let sum : rules_of_files (f ∷ files) ≡ length (rules_of_read (file_read f.text)) + rules_of_files files = sum_by-cons (λ x. length (rules_of_read (file_read x.text))) f files in
+        let long : length (now ++ more) ≡ length now + length more = length-append now more in
+        let whole : length (now ++ more) ≡ length rules = ap length all in (
+          ap (λ (r : Result (List Rule) TextFault). first_refusal (refusal_in_file f.name r) (refusal_of_each files)) is ∙ rest.0,
+          omega (arith, here, sum, long, whole, rest.1),
+        )
+    by (Ok now) (Err bad) is later k = let none : ⊥ = cc in absurd none
+    by (Err bad) behind is later k = let none : ⊥ = cc in absurd none
 
-few_rules : (rules : List Rule) → length rules ≤ 65536
-    → refusal_of_read (Ok rules) ≡ (if nat_le (length (rules_text_of rules)) file_limit then None else Some (refused_whole part.Rules))
-few_rules rules few =
-    ap (λ (b : Bool). if b then (if nat_le (length (rules_text_of rules)) file_limit then None else Some (refused_whole part.Rules)) else Some (refused_whole part.Rules)) (within (length rules) 65536 few)
+-- one file is bad
+folder_bad : (place : ℕ) (files : List FolderFile) (bad : BadFile) → folder_read place files ≡ Err bad → refusal_of_each files ≡ None → ⊥
+folder_bad place [] bad e none = let no : ⊥ = cc in no
+folder_bad place (f ∷ files) bad e none = by (file_read f.text) (folder_read (place + 1) files) refl refl e none
+  where
+    by : (one : Result (List Rule) TextFault) (behind : Result (List Rule) BadFile) → file_read f.text ≡ one → folder_read (place + 1) files ≡ behind → file_before place one behind ≡ Err bad → refusal_of_each (f ∷ files) ≡ None → ⊥
+    by (Ok now) (Ok more) is later k all = let no : ⊥ = cc in no
+    by (Ok now) (Err other) is later k all =
+        let same : other ≡ bad = cc in
+        folder_bad (place + 1) files bad (later ∙ ap (λ (x : BadFile). Err x) same)
+        (sym (ap (λ (r : Result (List Rule) TextFault). first_refusal (refusal_in_file f.name r) (refusal_of_each files)) is) ∙ all)
+    by (Err one) behind is later k all =
+        let found : Some (why.Refused (part_of_file f.name) one) ≡ None = sym (ap (λ (r : Result (List Rule) TextFault). first_refusal (refusal_in_file f.name r) (refusal_of_each files)) is) ∙ all in
+        let no : ⊥ = cc in no
 
-few_fit : (rules : List Rule) → length rules ≤ 65536 → length (rules_text_of rules) ≤ file_limit → refusal_of_read (Ok rules) ≡ None
-few_fit rules few fits = few_rules rules few ∙ ap (λ (b : Bool). if b then None else Some (refused_whole part.Rules)) (within (length (rules_text_of rules)) file_limit fits)
+abbrev IsGoodFile : FolderFile → Type 0
+IsGoodFile f = refusal_in_file f.name (file_read f.text) ≡ None
 
-few_long : (rules : List Rule) → length rules ≤ 65536 → file_limit < length (rules_text_of rules) → refusal_of_read (Ok rules) ≡ Some (refused_whole part.Rules)
-few_long rules few long = few_rules rules few ∙ ap (λ (b : Bool). if b then None else Some (refused_whole part.Rules)) (beyond (length (rules_text_of rules)) file_limit long)
+both_none : (first later : Option NotStarted) → first_refusal first later ≡ None → (first ≡ None) × (later ≡ None)
+both_none None later h = (refl, h)
+both_none (Some cause) later h = let no : ⊥ = cc in absurd no
 
-many : (rules : List Rule) → 65536 < length rules → refusal_of_read (Ok rules) ≡ Some (refused_whole part.Rules)
-many rules more =
-    ap (λ (b : Bool). if b then (if nat_le (length (rules_text_of rules)) file_limit then None else Some (refused_whole part.Rules)) else Some (refused_whole part.Rules)) (beyond (length rules) 65536 more)
+all_good : (files : List FolderFile) → refusal_of_each files ≡ None → AllByRecursion IsGoodFile files
+all_good [] h = tt
+all_good (f ∷ files) h =
+    let k = both_none (refusal_in_file f.name (file_read f.text)) (refusal_of_each files) h in
+    (k.0, all_good files k.1)
 
+good_all : (files : List FolderFile) → AllByRecursion IsGoodFile files → refusal_of_each files ≡ None
+good_all [] h = refl
+good_all (f ∷ files) h = ap (λ (x : Option NotStarted). first_refusal x (refusal_of_each files)) h.0 ∙ good_all files h.1
+
+-- the order is no matter
+good_in_order : (xs ys : List FolderFile) → IsPermutation xs ys → refusal_of_each xs ≡ None → refusal_of_each ys ≡ None
+good_in_order xs ys same h = good_all ys (recursion_from_All IsGoodFile ys (All-permutation IsGoodFile xs ys same (All-from_recursion IsGoodFile xs (all_good xs h))))
+
+some_unless_none : (texts : Option NotStarted) → (texts ≡ None → ⊥) → IsSome texts
+some_unless_none None h = h refl
+some_unless_none (Some cause) h = tt
+
+short_folder : (files : List FolderFile) → folder_length files ≤ conf_limit → refusal_of_rule_files files ≡ refusal_of_each files
+short_folder files le = ap (λ (b : Bool). if b then refusal_of_each files else Some (refused_whole part.Folder)) (within (folder_length files) conf_limit le)
+
+long_folder : (files : List FolderFile) → conf_limit < folder_length files → refusal_of_rule_files files ≡ Some (refused_whole part.Folder)
+long_folder files lt = ap (λ (b : Bool). if b then refusal_of_each files else Some (refused_whole part.Folder)) (beyond (folder_length files) conf_limit lt)
+
+folder_fits : (files : List FolderFile) (r : Result (List Rule) StartFault) → folder_length files ≤ file_limit → folder_rules files ≡ r → rules_of_folder (folder_read 0 files) ≡ r
+folder_fits files r le e = sym (ap (λ (b : Bool). if b then rules_of_folder (folder_read 0 files) else Err fault.FolderTooLong) (within (folder_length files) file_limit le)) ∙ e
+
+-- ---- the rules behind so many
+
+read_rules : (before : ℕ) (text : List ℕ) → length text ≤ file_limit → refusal_of_rules_text before text ≡ refusal_of_read before (file_read text)
+read_rules before text le = ap (λ (b : Bool). if b then refusal_of_read before (file_read text) else Some (refused_whole part.Rules)) (within (length text) file_limit le)
+
+few_rules : (before : ℕ) (rules : List Rule) → before + length rules ≤ most_rules
+    → refusal_of_read before (Ok rules) ≡ (if nat_le (length (rules_text_of rules)) file_limit then None else Some (refused_whole part.Rules))
+few_rules before rules few =
+    ap (λ (b : Bool). if b then (if nat_le (length (rules_text_of rules)) file_limit then None else Some (refused_whole part.Rules)) else Some (refused_whole part.Rules)) (within (before + length rules) most_rules few)
+
+few_fit : (before : ℕ) (rules : List Rule) → before + length rules ≤ most_rules → length (rules_text_of rules) ≤ file_limit → refusal_of_read before (Ok rules) ≡ None
+few_fit before rules few fits = few_rules before rules few ∙ ap (λ (b : Bool). if b then None else Some (refused_whole part.Rules)) (within (length (rules_text_of rules)) file_limit fits)
+
+few_long : (before : ℕ) (rules : List Rule) → before + length rules ≤ most_rules → file_limit < length (rules_text_of rules) → refusal_of_read before (Ok rules) ≡ Some (refused_whole part.Rules)
+few_long before rules few long = few_rules before rules few ∙ ap (λ (b : Bool). if b then None else Some (refused_whole part.Rules)) (beyond (length (rules_text_of rules)) file_limit long)
+
+many : (before : ℕ) (rules : List Rule) → most_rules < before + length rules → refusal_of_read before (Ok rules) ≡ Some (refused_whole part.Rules)
+many before rules more =
+    ap (λ (b : Bool). if b then (if nat_le (length (rules_text_of rules)) file_limit then None else Some (refused_whole part.Rules)) else Some (refused_whole part.Rules)) (beyond (before + length rules) most_rules more)
+
+-- names are no matter to whether there is a refusal
 abbrev Loaded : {A : Type 0} → Option NotStarted → Result A StartFault → Type 0
 Loaded texts (Ok value) = texts ≡ None
-Loaded texts (Err e) = Refuses texts (refusal_of_rules e)
+Loaded texts (Err e) = (names : List (List ℕ)) → Refuses texts (refusal_of_start names e)
 
--- the rules of a text that was read
-rules_told : (text : List ℕ) (r : Result Rules StartFault) → length text ≤ file_limit → StartsWith text r → Loaded (refusal_of_rules_text text) r
-rules_told text (Ok list) le h = read_rules text le ∙ (ap refusal_of_read h.reads ∙ few_fit h.rules h.few h.fits)
-rules_told text (Err (fault.BadRules bad)) le h = some (refusal_of_rules_text text) (why.Refused part.Rules bad) (read_rules text le ∙ ap refusal_of_read h)
-rules_told text (Err fault.TooMany) le h = some (refusal_of_rules_text text) (refused_whole part.Rules) (read_rules text le ∙ (ap refusal_of_read h.1 ∙ many h.0 h.2))
-rules_told text (Err fault.TooLong) le h = some (refusal_of_rules_text text) (refused_whole part.Rules) (read_rules text le ∙ (ap refusal_of_read h.reads ∙ few_long h.rules h.few h.long))
-rules_told text (Err fault.Memory) le h = tt
-rules_told text (Err (fault.Disk count)) le h = tt
+module _ (folder : List Rule) where
+  abbrev before : ℕ
+  before = length folder
 
-text_fits : (text whole : List ℕ) → text ≡ whole → length whole ≤ file_limit → length text ≤ file_limit
-text_fits text whole e le = subst (λ (x : List ℕ). length x ≤ file_limit) (sym e) le
+  -- the rules of a text that was read
+  rules_told : (text : List ℕ) (r : Result Rules StartFault) → length text ≤ file_limit → StartsWith folder text r → Loaded (refusal_of_rules_text before text) r
+  rules_told text (Ok list) le h = read_rules before text le ∙ (ap (refusal_of_read before) h.reads ∙ few_fit before h.rules h.few h.fits)
+  rules_told text (Err (fault.BadRules bad)) le h = λ names. some (refusal_of_rules_text before text) (why.Refused part.Rules bad) (read_rules before text le ∙ ap (refusal_of_read before) h)
+  rules_told text (Err fault.TooMany) le h = λ names. some (refusal_of_rules_text before text) (refused_whole part.Rules) (read_rules before text le ∙ (ap (refusal_of_read before) h.reads ∙ many before h.rules h.many))
+  rules_told text (Err fault.TooLong) le h = λ names. some (refusal_of_rules_text before text) (refused_whole part.Rules) (read_rules before text le ∙ (ap (refusal_of_read before) h.reads ∙ few_long before h.rules h.few h.long))
+  rules_told text (Err fault.Memory) le h = λ names. tt
+  rules_told text (Err (fault.Disk count)) le h = λ names. tt
+  rules_told text (Err (fault.BadFolder file bad)) le h = absurd h
+  rules_told text (Err fault.FolderTooLong) le h = absurd h
 
-long_file : (text : List ℕ) → file_limit < length text → refusal_of_rules_text text ≡ Some (refused_whole part.Rules)
-long_file text lt = ap (λ (b : Bool). if b then refusal_of_read (file_read text) else Some (refused_whole part.Rules)) (beyond (length text) file_limit lt)
+  text_fits : (text whole : List ℕ) → text ≡ whole → length whole ≤ file_limit → length text ≤ file_limit
+  text_fits text whole e le = subst (λ (x : List ℕ). length x ≤ file_limit) (sym e) le
 
-after_told : (whole : List ℕ) (read : Result (List ℕ) RecoverFault) (loaded : Result (Bool × Rules) StartFault) → RecoversFrom read whole → StartsAfter read loaded → Loaded (refusal_of_rules_text whole) loaded
-after_told whole (Ok text) (Ok started) r h =
-    subst (λ (x : List ℕ). refusal_of_rules_text x ≡ None) r.0 (rules_told text (Ok started.1) (text_fits text whole r.0 r.1) h.1)
-after_told whole (Ok text) (Err e) r h =
-    subst (λ (x : List ℕ). Refuses (refusal_of_rules_text x) (refusal_of_rules e)) r.0 (rules_told text (Err e) (text_fits text whole r.0 r.1) h)
-after_told whole (Err recover.TooLong) loaded r h =
-    subst (λ (x : Result (Bool × Rules) StartFault). Loaded (refusal_of_rules_text whole) x) (sym h) (some (refusal_of_rules_text whole) (refused_whole part.Rules) (long_file whole r))
-after_told whole (Err (recover.Failed count)) loaded r h = subst (λ (x : Result (Bool × Rules) StartFault). Loaded (refusal_of_rules_text whole) x) (sym h) tt
-after_told whole (Err recover.Memory) loaded r h = subst (λ (x : Result (Bool × Rules) StartFault). Loaded (refusal_of_rules_text whole) x) (sym h) tt
+  long_file : (text : List ℕ) → file_limit < length text → refusal_of_rules_text before text ≡ Some (refused_whole part.Rules)
+  long_file text lt = ap (λ (b : Bool). if b then refusal_of_read before (file_read text) else Some (refused_whole part.Rules)) (beyond (length text) file_limit lt)
 
-from_told : (texts : Option NotStarted) (outset : Outset) (ps : List Named) (loaded : Result (Bool × Rules) StartFault) (result : Result DaemonState StartFault) → Loaded texts loaded → StartsFrom outset loaded result → Told texts (with_cause ps result)
-from_told texts outset ps (Ok l) (Ok d) k h = k
-from_told texts outset ps (Ok l) (Err e) k h = subst (λ (x : StartFault). Refuses texts (refusal_of_rules x)) (sym h) tt
-from_told texts outset ps (Err e) result k h = subst (λ (r : Result DaemonState StartFault). Told texts (with_cause ps r)) (sym h) k
+  after_told : (whole : List ℕ) (read : Result (List ℕ) RecoverFault) (loaded : Result (Bool × Rules) StartFault) → RecoversFrom read whole → StartsAfter folder read loaded → Loaded (refusal_of_rules_text before whole) loaded
+  after_told whole (Ok text) (Ok started) r h =
+      subst (λ (x : List ℕ). refusal_of_rules_text before x ≡ None) r.0 (rules_told text (Ok started.1) (text_fits text whole r.0 r.1) h.1)
+  after_told whole (Ok text) (Err e) r h =
+      subst (λ (x : List ℕ). Loaded {Rules} (refusal_of_rules_text before x) (Err e)) r.0 (rules_told text (Err e) (text_fits text whole r.0 r.1) h)
+  after_told whole (Err recover.TooLong) loaded r h =
+      subst (λ (x : Result (Bool × Rules) StartFault). Loaded (refusal_of_rules_text before whole) x) (sym h) (λ names. some (refusal_of_rules_text before whole) (refused_whole part.Rules) (long_file whole r))
+  after_told whole (Err (recover.Failed count)) loaded r h = subst (λ (x : Result (Bool × Rules) StartFault). Loaded (refusal_of_rules_text before whole) x) (sym h) (λ names. tt)
+  after_told whole (Err recover.Memory) loaded r h = subst (λ (x : Result (Bool × Rules) StartFault). Loaded (refusal_of_rules_text before whole) x) (sym h) (λ names. tt)
+
+from_told : (texts : Option NotStarted) (outset : Outset) (loaded : Result (Bool × Rules) StartFault) (result : Result DaemonState StartFault) → Loaded texts loaded → StartsFrom outset loaded result → Loaded texts result
+from_told texts outset (Ok l) (Ok d) k h = k
+from_told texts outset (Ok l) (Err e) k h = subst (λ (x : StartFault). Loaded {DaemonState} texts (Err x)) (sym h) (λ names. tt)
+from_told texts outset (Err e) result k h = subst (λ (r : Result DaemonState StartFault). Loaded texts r) (sym h) k
+
+-- what is refused first stays so
+loaded_first : (first later : Option NotStarted) (e : StartFault) → Loaded {DaemonState} first (Err e) → Loaded {DaemonState} (first_refusal first later) (Err e)
+loaded_first first later e h = λ names. refused_first first later (refusal_of_start names e) (h names)
+
+cause_told : (texts : Option NotStarted) (files : List FolderFile) (result : Result DaemonState StartFault) → Loaded texts result → Told texts (with_cause files result)
+cause_told texts files (Ok d) h = h
+cause_told texts files (Err e) h = h (file_names files)
+
+principals_told : (texts : Option NotStarted) (ps : List Named) (result : Result DaemonState NotStarted) → Told texts result → Told texts (with_principals ps result)
+principals_told texts ps (Ok d) h = h
+principals_told texts ps (Err cause) h = h
+
+-- the folder that isn't taken
+folder_told : (whole files : List FolderFile) (e : StartFault) → IsPermutation whole files → folder_length whole ≤ conf_limit → (Err e ≡ folder_rules files) ⊎ (Err {List Rule} e ≡ Err fault.Memory) → Loaded {DaemonState} (refusal_of_rule_files whole) (Err e)
+folder_told whole files e same fits (inr is) =
+    let memory : e ≡ fault.Memory = cc in
+    subst (λ (x : StartFault). Loaded {DaemonState} (refusal_of_rule_files whole) (Err x)) (sym memory) (λ names. tt)
+folder_told whole files e same fits (inl is) = by (folder_read 0 files) refl (folder_fits files (Err e) short (sym is))
+  where
+    long : folder_length files ≡ folder_length whole
+    long = sum_by-IsPermutation (λ f. length f.text) whole files same
+
+    short : folder_length files ≤ file_limit
+    short = subst (λ (n : ℕ). n ≤ file_limit) (sym long) fits
+
+    by : (read : Result (List Rule) BadFile) → folder_read 0 files ≡ read → rules_of_folder read ≡ Err e → Loaded {DaemonState} (refusal_of_rule_files whole) (Err e)
+    by (Ok rules) given k = let no : ⊥ = cc in absurd no
+    by (Err bad) given k =
+        let is_bad : fault.BadFolder bad.file bad.fault ≡ e = cc in
+        let found : IsSome (refusal_of_rule_files whole) = some_unless_none (refusal_of_rule_files whole) (λ none. folder_bad 0 files bad given (good_in_order whole files same (sym (short_folder whole fits) ∙ none))) in
+        subst (λ (x : StartFault). Loaded {DaemonState} (refusal_of_rule_files whole) (Err x)) is_bad (λ names. found)
+
+-- the rules of one that is
+folder_taken : (whole files : List FolderFile) (rules : List Rule) → IsPermutation whole files → folder_length whole ≤ conf_limit → Ok rules ≡ folder_rules files → (refusal_of_rule_files whole ≡ None) × (rules_of_files whole ≡ length rules)
+folder_taken whole files rules same fits is = by (folder_read 0 files) refl (folder_fits files (Ok rules) short (sym is))
+  where
+    long : folder_length files ≡ folder_length whole
+    long = sum_by-IsPermutation (λ f. length f.text) whole files same
+
+    short : folder_length files ≤ file_limit
+    short = subst (λ (n : ℕ). n ≤ file_limit) (sym long) fits
+
+    count : rules_of_files files ≡ rules_of_files whole
+    count = sum_by-IsPermutation (λ f. length (rules_of_read (file_read f.text))) whole files same
+
+    by : (read : Result (List Rule) BadFile) → folder_read 0 files ≡ read → rules_of_folder read ≡ Ok rules → (refusal_of_rule_files whole ≡ None) × (rules_of_files whole ≡ length rules)
+    by (Ok all) given k =
+        let is_all : all ≡ rules = cc in
+        let each = folder_good 0 files all given in (
+          short_folder whole fits ∙ good_in_order files whole (IsPermutation-sym whole files same) each.0,
+          sym count ∙ each.1 ∙ ap length is_all,
+        )
+    by (Err bad) given k = let no : ⊥ = cc in absurd no
 
 -- ---- the status
 
@@ -297,7 +436,7 @@ module _ {F Y D N W C : Type 0} (reads : F → FileStep → F → Type 0) (sysfs
       later : Option NotStarted
       later = refusal_of_files tree folder names
 
-      behind : (one : Result (List Addition) NotStarted) (u : F) → ((more : List Addition) (v : F) → ReadsNames reads folder names more v r t → (files_told v ≡ Some tree) × Told later r) → ReadsNamed reads folder (principal_of name) name acl s one u → ReadsBehind reads folder (λ more v. ReadsNames reads folder names more v r t) one r u t → (files_told s ≡ Some tree) × Told (first_refusal first later) r
+      behind : (one : Result (List Addition) NotStarted) (u : F) → ((more : List Addition) (v : F) → ReadsNames reads folder names more v r t → (files_told v ≡ Some tree) × Told later r) → ReadsNamed reads folder (principal_of name) name acl s one u → ReadsBehind (λ more v. ReadsNames reads folder names more v r t) one r u t → (files_told s ≡ Some tree) × Told (first_refusal first later) r
       behind (Ok more) u next one rest =
           let k = next more u rest in
           let n = named_told folder (principal_of name) name acl s (Ok more) u tree one k.0 in
@@ -325,6 +464,41 @@ module _ {F Y D N W C : Type 0} (reads : F → FileStep → F → Type 0) (sysfs
       let back = files_tell g (Listed_at at o.reads.answer) o.reads.listed tree o.reads.lists read.0 in
       (back.0, users_told (refusal_of_folder tree at (names_at tree at)) users o.granted r (read.1 back.1) o.adds)
 
+  rules_told_of : (settings : Settings) (h : F) (r : Result (List FolderFile) NotStarted) (i : F) (tree : Tree) → ReadsRules reads settings.rule_folder h r i → files_told i ≡ Some tree → (files_told h ≡ Some tree) × RulesTold (rule_files tree settings.rule_folder) r
+  rules_told_of settings h r i tree k is = folder_rules_told reads files_told files_tell settings.rule_folder h r i tree k is
+
+  folder_refuses : (whole : List FolderFile) (cause : NotStarted) → RulesTold whole (Err cause) → Refuses (refusal_of_rule_files whole) cause
+  folder_refuses whole (why.Refused what bad) h = some (refusal_of_rule_files whole) (refused_whole part.Folder) (long_folder whole h)
+  folder_refuses whole why.FilesFailed h = tt
+  folder_refuses whole why.DiskFailed h = tt
+  folder_refuses whole why.Memory h = tt
+
+  -- a daemon that starts from these files and the disk
+  on_folder : (outset : Outset) (whole files : List FolderFile) (a : D) (folder : Result (List Rule) StartFault) (result : Result DaemonState StartFault) (b : D) (n : Disk) → IsPermutation whole files → folder_length whole ≤ conf_limit
+      → (folder ≡ folder_rules files) ⊎ (folder ≡ Err fault.Memory) → StartsOnFolder disk.keeps disk.told disk.faults outset folder a result b → disk_told b ≡ Some n
+      → (m : Disk) × (disk_told a ≡ Some m) × Told (refusal_of_rules whole m.text) (with_cause files result)
+  on_folder outset whole files a (Err e) result b n same fits taken h on =
+      let told_folder = loaded_first (refusal_of_rule_files whole) (refusal_of_rules_text (rules_of_files whole) n.text) e (folder_told whole files e same fits taken) in (
+        n,
+        ap disk_told (sym h.1) ∙ on,
+        subst (λ (x : Result DaemonState StartFault). Told (refusal_of_rules whole n.text) (with_cause files x)) (sym h.0) (cause_told (refusal_of_rules whole n.text) files (Err e) told_folder),
+      )
+  on_folder outset whole files a (Ok rules) result b n same fits (inr is) h on = let no : ⊥ = cc in absurd no
+  on_folder outset whole files a (Ok rules) result b n same fits (inl is) h on =
+      let taken = folder_taken whole files rules same fits is in
+      let back = h.loads.law n on in
+      let loaded = from_told (refusal_of_rules_text (length rules) back.0.text) outset h.loaded result (after_told rules back.0.text h.loads.read h.loaded back.2.file h.loads.starts) h.starts in
+      let counted = subst (λ (k : ℕ). Loaded (refusal_of_rules_text k back.0.text) result) (sym taken.1) loaded in (
+        back.0,
+        back.1,
+        subst (λ (x : Option NotStarted). Told (first_refusal x (refusal_of_rules_text (rules_of_files whole) back.0.text)) (with_cause files result)) (sym taken.0) (cause_told (refusal_of_rules_text (rules_of_files whole) back.0.text) files result counted),
+      )
+
+  started_told : (outset : Outset) (whole files : List FolderFile) (a : D) (result : Result DaemonState NotStarted) (b : D) (n : Disk) → IsPermutation whole files → folder_length whole ≤ conf_limit → StartsDaemon disk outset files a result b → disk_told b ≡ Some n
+      → (m : Disk) × (disk_told a ≡ Some m) × Told (refusal_of_rules whole m.text) result
+  started_told outset whole files a _ _ n same fits Without_names on = (n, on, tt)
+  started_told outset whole files a _ _ n same fits (Started_from result b starts) on = on_folder outset whole files a starts.folder result b n same fits starts.taken starts.starts on
+
   opens_told : (path : List ℕ) (clock : ℕ → ℕ) (words : Stream) (f : F) (d : D) (entries : List Entry) (result : Result Started NotStarted) (g : F) (e : D) (tree : Tree) (n : Disk)
       → Opens reads disk path clock words f d entries result g e → files_told g ≡ Some tree → disk_told e ≡ Some n
       → (m : Disk) × (disk_told d ≡ Some m) × Told (refusal_of_texts tree m.text path) result
@@ -338,19 +512,31 @@ module _ {F Y D N W C : Type 0} (reads : F → FileStep → F → Type 0) (sysfs
         n,
         on,
         subst (λ (x : Result Settings NotStarted). Refuses (refusal_behind tree n.text x) cause) (sym read)
-            (refused_first (refusal_of_folder tree settings.access_folder (names_at tree settings.access_folder)) (refusal_of_rules_text n.text) cause access.1),
+            (refused_first (refusal_of_folder tree settings.access_folder (names_at tree settings.access_folder)) (refusal_of_rules (rule_files tree settings.rule_folder) n.text) cause access.1),
       )
-  opens_told path clock words f d _ _ _ _ tree n (Unaimed settings access g h a r o same) is on = (n, sym same.same ∙ on, tt)
-  opens_told path clock words f d _ _ _ _ tree n (From_rules settings opened g h a b result r o aim starts) is on =
-      let access = open_told settings.users settings.access_folder g (Ok opened) h tree o is in
+  opens_told path clock words f d _ _ _ _ tree n (Folder_unread settings opened cause g h i r o folder) is on =
+      let before = rules_told_of settings h (Err cause) i tree folder is in
+      let access = open_told settings.users settings.access_folder g (Ok opened) h tree o before.0 in
+      let says = files_tell f (Read_at path r.answer) g tree r.read access.0 in
+      let read = read_told (text_at tree path) r.answer (Ok settings) says.1 r.settings in (
+        n,
+        on,
+        subst (λ (x : Result Settings NotStarted). Refuses (refusal_behind tree n.text x) cause) (sym read)
+            (subst (λ (x : Option NotStarted). Refuses (first_refusal x (refusal_of_rules (rule_files tree settings.rule_folder) n.text)) cause) (sym access.1)
+            (refused_first (refusal_of_rule_files (rule_files tree settings.rule_folder)) (refusal_of_rules_text (rules_of_files (rule_files tree settings.rule_folder)) n.text) cause (folder_refuses (rule_files tree settings.rule_folder) cause before.1))),
+      )
+  opens_told path clock words f d _ _ _ _ tree n (Unaimed settings access files g h i a r o folder same) is on = (n, sym same.same ∙ on, tt)
+  opens_told path clock words f d _ _ _ _ tree n (From_rules settings opened files g h i a b result r o folder aim starts) is on =
+      let before = rules_told_of settings h (Ok files) i tree folder is in
+      let access = open_told settings.users settings.access_folder g (Ok opened) h tree o before.0 in
       let says = files_tell f (Read_at path r.answer) g tree r.read access.0 in
       let read = read_told (text_at tree path) r.answer (Ok settings) says.1 r.settings in
-      let back = starts.loads.law n on in
-      let rules = from_told (refusal_of_rules_text back.0.text) (outset_of settings opened.acl clock words) opened.principals starts.loaded result (after_told back.0.text starts.loads.read starts.loaded back.2.file starts.loads.starts) starts.starts in (
-        back.0,
-        sym aim.same_disk.same ∙ back.1,
-        subst (λ (x : Result Settings NotStarted). Told (refusal_behind tree back.0.text x) (with_cause opened.principals result)) (sym read)
-            (subst (λ (x : Option NotStarted). Told (first_refusal x (refusal_of_rules_text back.0.text)) (with_cause opened.principals result)) (sym access.1) rules),
+      let rules = started_told (outset_of settings opened.acl clock words) (rule_files tree settings.rule_folder) files a result b n before.1.0 before.1.1 starts on in (
+        rules.0,
+        sym aim.same_disk.same ∙ rules.1,
+        subst (λ (x : Result Settings NotStarted). Told (refusal_behind tree rules.0.text x) (with_principals opened.principals result)) (sym read)
+            (subst (λ (x : Option NotStarted). Told (first_refusal x (refusal_of_rules (rule_files tree settings.rule_folder) rules.0.text)) (with_principals opened.principals result)) (sym access.1)
+            (principals_told (refusal_of_rules (rule_files tree settings.rule_folder) rules.0.text) opened.principals result rules.2)),
       )
 
   handled_disk : (c : Core Y D) (xs : List TurnEvent) (d : Core Y D) (n : Disk) → AreHandled sysfs disk c xs d → disk_told d.disk ≡ Some n → (m : Disk) × (disk_told c.disk ≡ Some m)

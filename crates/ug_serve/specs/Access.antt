@@ -72,6 +72,12 @@ GrantsIn file.Memory result = result ≡ Err why.Memory
 abbrev pub refused_name : NotStarted
 refused_name = why.Refused part.Access (record { line = 0; kind = 5; place = 0 })
 
+-- what follows a reading, unless that wasn't done
+abbrev pub ReadsBehind : {A F : Type 0} → (A → F → Type 0) → Result A NotStarted
+    → Result A NotStarted → F → F → Type 0
+ReadsBehind rest (Ok value) result u t = rest value u
+ReadsBehind rest (Err cause) result u t = (result ≡ Err cause) × (t ≡ u)
+
 module _ {F : Type 0} (gives : F → FileStep → F → Type 0) (folder : List ℕ) where
   -- the file of that name is read once; without memory for its path it isn't
   pub data ReadsGrants (name : List ℕ) (s : F) : Result (List Pair) NotStarted → F → Type 0 where
@@ -94,11 +100,6 @@ module _ {F : Type 0} (gives : F → FileStep → F → Type 0) (folder : List �
   ReadsNamed (Some who) name acl s result t =
       (grants : Result (List Pair) NotStarted) × ReadsGrants name s grants t
       × AddsGrants who grants acl result
-
-  abbrev pub ReadsBehind : (List Addition → F → Type 0) → Result (List Addition) NotStarted
-      → Result (List Addition) NotStarted → F → F → Type 0
-  ReadsBehind rest (Ok acl) result u t = rest acl u
-  ReadsBehind rest (Err cause) result u t = (result ≡ Err cause) × (t ≡ u)
 
   -- one after another, until one isn't taken
   abbrev pub ReadsNames : List (List ℕ) → List Addition → F → Result (List Addition) NotStarted → F

@@ -1,7 +1,8 @@
 -- Why a daemon doesn't start, and what is told of it.
-use Rattle.std.specs.Prelude.{ℕ, List, [], ◌∷◌}
+use Rattle.std.specs.Prelude.{ℕ, List, [], ◌∷◌, Option, Some, None, if◌then◌else◌, slice_get}
 use Rattle.ug_types.specs.declared.text_fault.FileFault.{FileFault}
 use Rattle.ug_types.specs.declared.text_fault.FileFault.TheVariants as file
+use Rattle.ug_conf.specs.FolderFiles.{is_rule_file_name}
 use Rattle.ug_audit.specs.declared.entry.Entry.{Entry}
 use Rattle.ug_audit.specs.declared.entry.Entry.TheVariants as entry
 use Rattle.ug_audit.specs.declared.entry.ConfigPart.{ConfigPart}
@@ -34,10 +35,24 @@ refusal_entries why.FilesFailed = []
 refusal_entries why.DiskFailed = []
 refusal_entries why.Memory = []
 
--- what keeps the rules from being loaded
-abbrev pub refusal_of_rules : StartFault → NotStarted
-refusal_of_rules (fault.Disk count) = why.DiskFailed
-refusal_of_rules (fault.BadRules bad) = why.Refused part.Rules bad
-refusal_of_rules fault.TooLong = refused_whole part.Rules
-refusal_of_rules fault.TooMany = refused_whole part.Rules
-refusal_of_rules fault.Memory = why.Memory
+-- a file of the folder of rules, by its name, which counts
+abbrev pub part_of_file : List ℕ → ConfigPart
+part_of_file name = if is_rule_file_name name then part.FolderFile name else part.Folder
+
+abbrev pub part_if_named : Option (List ℕ) → ConfigPart
+part_if_named None = part.Folder
+part_if_named (Some name) = part_of_file name
+
+-- the one at that place among these
+abbrev pub part_at : List (List ℕ) → ℕ → ConfigPart
+part_at names place = part_if_named (slice_get names place)
+
+-- what keeps a daemon from its start, whose folder of rules has files of those names
+abbrev pub refusal_of_start : List (List ℕ) → StartFault → NotStarted
+refusal_of_start names (fault.Disk count) = why.DiskFailed
+refusal_of_start names (fault.BadFolder file bad) = why.Refused (part_at names file) bad
+refusal_of_start names fault.FolderTooLong = refused_whole part.Folder
+refusal_of_start names (fault.BadRules bad) = why.Refused part.Rules bad
+refusal_of_start names fault.TooLong = refused_whole part.Rules
+refusal_of_start names fault.TooMany = refused_whole part.Rules
+refusal_of_start names fault.Memory = why.Memory

@@ -5,6 +5,7 @@ pub mod Telling
 pub mod Saying
 pub mod Causes
 pub mod Access
+pub mod Folders
 pub mod Listening
 pub mod Opening
 pub mod Refusals

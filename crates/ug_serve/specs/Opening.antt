@@ -8,6 +8,7 @@ use Rattle.ug_conf.specs.Files.{FileStep, Read_at}
 use Rattle.ug_conf.specs.Texts.{conf_read}
 use Rattle.ug_conf.specs.declared.files.FileRead.{FileRead}
 use Rattle.ug_conf.specs.declared.files.FileRead.TheVariants as file
+use Rattle.ug_conf.specs.declared.folder_file.FolderFile.{FolderFile}
 use Rattle.ug_conf.specs.declared.settings.Settings.{Settings}
 use Rattle.ug_store.specs.declared.disk.RuleDisk
 use Rattle.ug_audit.specs.declared.entry.Entry.{Entry}
@@ -19,7 +20,8 @@ use Rattle.ug_core.specs.Starting.{Outset, Starts}
 use Rattle.ug_core.specs.declared.start_fault.StartFault.{StartFault}
 use Rattle.ug_acl.specs.Acls.{Addition}
 use Rattle.ug_serve.specs.Access.{OpensTo}
-use Rattle.ug_serve.specs.Causes.{refused_whole, refusal_of_rules}
+use Rattle.ug_serve.specs.Causes.{refused_whole, refusal_of_start}
+use Rattle.ug_serve.specs.Folders.{ReadsRules}
 use Rattle.ug_serve.specs.declared.access.Access.{Access}
 use Rattle.ug_serve.specs.declared.not_started.NotStarted.{NotStarted}
 use Rattle.ug_serve.specs.declared.not_started.NotStarted.TheVariants as why
@@ -77,10 +79,27 @@ pub record Started : Type 0 where
 abbrev pub started : List Named → DaemonState → Started
 started principals d = record { daemon = d; principals = principals }
 
--- a start from the rule file, with its cause where it isn't done
-abbrev pub with_cause : List Named → Result DaemonState StartFault → Result Started NotStarted
-with_cause principals (Ok d) = Ok (started principals d)
-with_cause principals (Err e) = Err (refusal_of_rules e)
+abbrev pub file_names : List FolderFile → List (List ℕ)
+file_names files = map (λ file. file.name) files
+
+-- a start from the rules, with its cause where it isn't done
+abbrev pub with_cause : List FolderFile → Result DaemonState StartFault
+    → Result DaemonState NotStarted
+with_cause files (Ok d) = Ok d
+with_cause files (Err e) = Err (refusal_of_start (file_names files) e)
+
+-- A daemon starts from these files and the disk's rule file. Without memory for the files' names
+-- the disk isn't asked.
+pub data StartsDaemon {D : Type 0} (disk : RuleDisk.Ghosts D) (outset : Outset)
+    (files : List FolderFile) (s : D) : Result DaemonState NotStarted → D → Type 0 where
+  Without_names : StartsDaemon disk outset files s (Err why.Memory) s
+  Started_from : (result : Result DaemonState StartFault) (t : D)
+      → Starts disk.keeps disk.told disk.faults outset files s result t
+      → StartsDaemon disk outset files s (with_cause files result) t
+
+abbrev pub with_principals : List Named → Result DaemonState NotStarted → Result Started NotStarted
+with_principals principals (Ok d) = Ok (started principals d)
+with_principals principals (Err cause) = Err cause
 
 -- the disk is what it was, but for the file that it is aimed at
 pub record IsSameDisk {D : Type 0} (disk : RuleDisk.Ghosts D) (s t : D) : Type 0 where
@@ -93,8 +112,9 @@ pub record IsAimed {D : Type 0} (disk : RuleDisk.Ghosts D) (path : List ℕ) (s 
   pub at : disk.aimed t path
 
 -- The steps of a start, of which the first that isn't done ends it: the settings are read; so is
--- who may do what; the disk is aimed at the rule file that the settings name; and the daemon starts
--- from it. The entries tell of the settings' lines that aren't used, once they are read.
+-- who may do what, and the folder of rules; the disk is aimed at the rule file that the settings
+-- name; and the daemon starts from the folder's files and from that one. The entries tell of the
+-- settings' lines that aren't used, once they are read.
 pub data Opens {F D : Type 0} (reads : F → FileStep → F → Type 0) (disk : RuleDisk.Ghosts D)
     (path : List ℕ) (clock : ℕ → ℕ) (words : Stream) (f : F) (d : D)
     : List Entry → Result Started NotStarted → F → D → Type 0 where
@@ -105,18 +125,25 @@ pub data Opens {F D : Type 0} (reads : F → FileStep → F → Type 0) (disk : 
       → OpensTo reads settings.users settings.access_folder g (Err cause) h
       → Opens reads disk path clock words f d
       (unused_entries settings.unused) (Err cause) h d
-  Unaimed : (settings : Settings) (access : Access) (g h : F) (a : D)
+  Folder_unread : (settings : Settings) (access : Access) (cause : NotStarted) (g h i : F)
       → ReadsSettings reads path f (Ok settings) g
       → OpensTo reads settings.users settings.access_folder g (Ok access) h
+      → ReadsRules reads settings.rule_folder h (Err cause) i
+      → Opens reads disk path clock words f d
+      (unused_entries settings.unused) (Err cause) i d
+  Unaimed : (settings : Settings) (access : Access) (files : List FolderFile) (g h i : F) (a : D)
+      → ReadsSettings reads path f (Ok settings) g
+      → OpensTo reads settings.users settings.access_folder g (Ok access) h
+      → ReadsRules reads settings.rule_folder h (Ok files) i
       → IsSameDisk disk d a
       → Opens reads disk path clock words f d
-      (unused_entries settings.unused) (Err why.Memory) h a
-  From_rules : (settings : Settings) (access : Access) (g h : F) (a b : D)
-      (result : Result DaemonState StartFault)
+      (unused_entries settings.unused) (Err why.Memory) i a
+  From_rules : (settings : Settings) (access : Access) (files : List FolderFile) (g h i : F)
+      (a b : D) (result : Result DaemonState NotStarted)
       → ReadsSettings reads path f (Ok settings) g
       → OpensTo reads settings.users settings.access_folder g (Ok access) h
+      → ReadsRules reads settings.rule_folder h (Ok files) i
       → IsAimed disk settings.rule_file d a
-      → Starts disk.keeps disk.told disk.faults
-      (outset_of settings access.acl clock words) a result b
+      → StartsDaemon disk (outset_of settings access.acl clock words) files a result b
       → Opens reads disk path clock words f d
-      (unused_entries settings.unused) (with_cause access.principals result) h b
+      (unused_entries settings.unused) (with_principals access.principals result) i b

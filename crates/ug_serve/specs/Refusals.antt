@@ -1,5 +1,6 @@
 -- What of a configuration isn't taken, by the texts of its files.
-use Rattle.std.specs.Prelude.{◌≡◌, ℕ, nat_le, List, [], ◌∷◌, length, Option, Some, None, Result, Ok, Err, if◌then◌else◌}
+use Rattle.std.specs.Prelude.{◌≡◌, ℕ, ◌+◌, nat_le, List, [], ◌∷◌, length, map, Option, Some, None, Result, Ok, Err, if◌then◌else◌}
+use Rattle.std.specs.List.{filter, sum_by}
 use Rattle.ug_types.specs.Elements.{Has}
 use Rattle.ug_types.specs.Principals.{Named, principal_of}
 use Rattle.ug_types.specs.declared.rule.Rule.{Rule}
@@ -8,14 +9,18 @@ use Rattle.ug_acl.specs.Pairs.{Pair}
 use Rattle.ug_acl.specs.Texts.{access_read}
 use Rattle.ug_rule.specs.Files.{file_read}
 use Rattle.ug_print.specs.RuleTexts.{rules_text_of}
+use Rattle.ug_policy.specs.Rules.{most_rules}
 use Rattle.ug_conf.specs.Files.{Tree, text_at, names_at, conf_limit}
+use Rattle.ug_conf.specs.FolderFiles.{folder_length, is_rule_file_name}
 use Rattle.ug_conf.specs.Texts.{conf_read}
+use Rattle.ug_conf.specs.declared.folder_file.FolderFile.{FolderFile}
 use Rattle.ug_conf.specs.declared.settings.Settings.{Settings}
 use Rattle.ug_store.specs.Disk.{Disk}
 use Rattle.ug_store.specs.DiskCalls.{file_limit}
 use Rattle.ug_audit.specs.declared.entry.ConfigPart.TheVariants as part
 use Rattle.ug_serve.specs.Access.{path_in, refused_name}
-use Rattle.ug_serve.specs.Causes.{refused_whole}
+use Rattle.ug_serve.specs.Causes.{part_of_file, refused_whole}
+use Rattle.ug_serve.specs.Folders.{folder_file}
 use Rattle.ug_serve.specs.declared.not_started.NotStarted.{NotStarted}
 use Rattle.ug_serve.specs.declared.not_started.NotStarted.TheVariants as why
 
@@ -67,30 +72,80 @@ abbrev pub refusal_of_folder : Tree → List ℕ → Option (List (List ℕ)) �
 refusal_of_folder tree folder None = None
 refusal_of_folder tree folder (Some names) = refusal_of_files tree folder names
 
--- at most 65,536 rules, whose canonical text fits into a rule file
-abbrev pub refusal_of_read : Result (List Rule) TextFault → Option NotStarted
-refusal_of_read (Err bad) = Some (why.Refused part.Rules bad)
-refusal_of_read (Ok rules) =
-    if nat_le (length rules) 65536
+-- ---- the folder of rules
+
+abbrev pub or_empty : Option (List ℕ) → List ℕ
+or_empty None = []
+or_empty (Some text) = text
+
+-- the folder's file of that name, of which an absent one is empty
+abbrev pub file_in : Tree → List ℕ → List ℕ → FolderFile
+file_in tree folder name = folder_file name (or_empty (text_at tree (path_in folder name)))
+
+-- the files that count of those that are listed; an absent folder has none
+abbrev pub files_listed : Tree → List ℕ → Option (List (List ℕ)) → List FolderFile
+files_listed tree folder None = []
+files_listed tree folder (Some names) = map (file_in tree folder) (filter is_rule_file_name names)
+
+-- without a path there is no folder
+abbrev pub rule_files : Tree → List ℕ → List FolderFile
+rule_files tree [] = []
+rule_files tree (b ∷ bytes) = files_listed tree (b ∷ bytes) (names_at tree (b ∷ bytes))
+
+-- a file's first bad line
+abbrev pub refusal_in_file : List ℕ → Result (List Rule) TextFault → Option NotStarted
+refusal_in_file name (Ok rules) = None
+refusal_in_file name (Err bad) = Some (why.Refused (part_of_file name) bad)
+
+abbrev pub refusal_of_each : List FolderFile → Option NotStarted
+refusal_of_each [] = None
+refusal_of_each (file ∷ files) =
+    first_refusal (refusal_in_file file.name (file_read file.text)) (refusal_of_each files)
+
+-- files that are too long together aren't taken
+abbrev pub refusal_of_rule_files : List FolderFile → Option NotStarted
+refusal_of_rule_files files =
+    if nat_le (folder_length files) conf_limit then refusal_of_each files
+    else Some (refused_whole part.Folder)
+
+-- ---- the rules
+
+abbrev pub rules_of_read : Result (List Rule) TextFault → List Rule
+rules_of_read (Ok rules) = rules
+rules_of_read (Err bad) = []
+
+-- how many rules a folder's files have
+abbrev pub rules_of_files : List FolderFile → ℕ
+rules_of_files files = sum_by (λ file. length (rules_of_read (file_read file.text))) files
+
+-- at most 65,536 rules with so many before them, whose canonical text fits into a rule file
+abbrev pub refusal_of_read : ℕ → Result (List Rule) TextFault → Option NotStarted
+refusal_of_read before (Err bad) = Some (why.Refused part.Rules bad)
+refusal_of_read before (Ok rules) =
+    if nat_le (before + length rules) most_rules
     then
     (if nat_le (length (rules_text_of rules)) file_limit then None
     else Some (refused_whole part.Rules))
     else Some (refused_whole part.Rules)
 
-abbrev pub refusal_of_rules_text : List ℕ → Option NotStarted
-refusal_of_rules_text text =
-    if nat_le (length text) file_limit then refusal_of_read (file_read text)
+abbrev pub refusal_of_rules_text : ℕ → List ℕ → Option NotStarted
+refusal_of_rules_text before text =
+    if nat_le (length text) file_limit then refusal_of_read before (file_read text)
     else Some (refused_whole part.Rules)
+
+abbrev pub refusal_of_rules : List FolderFile → List ℕ → Option NotStarted
+refusal_of_rules files text =
+    first_refusal (refusal_of_rule_files files) (refusal_of_rules_text (rules_of_files files) text)
 
 abbrev pub refusal_behind : Tree → List ℕ → Result Settings NotStarted → Option NotStarted
 refusal_behind tree rules (Err cause) = Some cause
 refusal_behind tree rules (Ok settings) =
     first_refusal
     (refusal_of_folder tree settings.access_folder (names_at tree settings.access_folder))
-    (refusal_of_rules_text rules)
+    (refusal_of_rules (rule_files tree settings.rule_folder) rules)
 
--- Whether a part isn't taken of the settings at that path, the access files and the text of the
--- rule file.
+-- Whether a part isn't taken of the settings at that path, the access files, the folder of rules
+-- and the text of the rule file.
 abbrev pub refusal_of_texts : Tree → List ℕ → List ℕ → Option NotStarted
 refusal_of_texts tree rules path = refusal_behind tree rules (settings_of_text (text_at tree path))
 

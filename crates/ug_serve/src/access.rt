@@ -43,7 +43,7 @@ impl Added {
 }
 
 /// The path of a folder's file.
-fn path_in(alloc: Global, folder: &[u8], name: &[u8]) -> Result<Text, NoMemory>
+pub fn path_in(alloc: Global, folder: &[u8], name: &[u8]) -> Result<Text, NoMemory>
     ensures { IfOk result (λ path. path ≡ path_in folder.now name.now) }
 {
     let mut path = Vec::new(alloc);
@@ -141,7 +141,8 @@ fn add_files<F: ConfFiles>(
     Ok(())
 }
 
-fn in_byte_order(names: List<Text>) -> Vec<Text>
+/// The names in byte order.
+pub fn in_byte_order(names: List<Text>) -> Vec<Text>
     ensures { AreInByteOrder names result.items }
 {
     let mut names = names.into_vec();

@@ -116,8 +116,9 @@ fn serve_from<Y: Sysfs, D: RuleDisk, F: ConfFiles, N: Links, W: Waiter, C: Clock
             alloc, first, sysfs, disk, links, waiter, clock, panel, turns,
         ),
         Err(why) => {
+            let status = why.status();
             note_refusal(panel, entries, why);
-            why.status()
+            status
         }
     }
 }

@@ -4,6 +4,7 @@
 mod access;
 mod daemon;
 mod events;
+mod folder;
 mod listed;
 mod listening;
 mod not_started;

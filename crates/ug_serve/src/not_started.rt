@@ -1,10 +1,11 @@
 // Why a daemon doesn't start.
 ghost use Rattle.std.specs.Prelude.{◌≡◌};
-ghost use Rattle.ug_serve.specs.Causes.{refusal_of_fault, refused_whole, start_status};
+ghost use Rattle.ug_serve.specs.Causes.{part_at, part_of_file, refusal_of_fault, refusal_of_start, refused_whole, start_status};
 
-use ug_audit::ConfigPart;
+use ug_audit::{ConfigPart, FileName};
+use ug_conf::is_rule_file_name;
 use ug_core::StartFault;
-use ug_types::{FileFault, NoMemory, TextFault};
+use ug_types::{FileFault, NoMemory, Text, TextFault};
 
 /// What keeps a daemon from its first turn.
 #[derive(Clone, Copy, Debug, PartialEq, Eq)]
@@ -16,6 +17,27 @@ pub enum NotStarted {
     /// The rule file couldn't be read.
     DiskFailed,
     Memory,
+}
+
+// The folder's file of that name, where the name counts.
+fn part_of_file(name: &[u8]) -> ConfigPart
+    ensures { result ≡ part_of_file name.now }
+{
+    if is_rule_file_name(name) {
+        ConfigPart::FolderFile(FileName::holding(name))
+    } else {
+        ConfigPart::Folder
+    }
+}
+
+// That of the name at that place.
+fn part_at(names: &[Text], place: u64) -> ConfigPart
+    ensures { result ≡ part_at names.now place }
+{
+    match names.get(place as usize) {
+        Some(name) => part_of_file(name.bytes()),
+        None => ConfigPart::Folder,
+    }
 }
 
 impl NotStarted {
@@ -43,9 +65,25 @@ impl NotStarted {
         }
     }
 
+    /// No daemon starts, for that fault, with the files of those names in its folder of rules.
+    pub fn of_start(names: &[Text], fault: StartFault) -> NotStarted
+        ensures { result ≡ refusal_of_start names.now fault }
+    {
+        match fault {
+            StartFault::Disk(_) => NotStarted::DiskFailed,
+            StartFault::BadFolder { file, fault } => {
+                NotStarted::Refused(part_at(names, file), fault)
+            }
+            StartFault::FolderTooLong => NotStarted::whole(ConfigPart::Folder),
+            StartFault::BadRules(bad) => NotStarted::Refused(ConfigPart::Rules, bad),
+            StartFault::TooLong | StartFault::TooMany => NotStarted::whole(ConfigPart::Rules),
+            StartFault::Memory => NotStarted::Memory,
+        }
+    }
+
     /// The daemon's exit status.
-    pub fn status(self) -> u8
-        ensures { result ≡ start_status self }
+    pub fn status(&self) -> u8
+        ensures { result ≡ start_status self.now }
     {
         match self {
             NotStarted::Refused(_, _) => 3,
@@ -64,21 +102,5 @@ impl From<NoMemory> for NotStarted {
 
     fn from(_error: NoMemory) -> NotStarted {
         NotStarted::Memory
-    }
-}
-
-impl From<StartFault> for NotStarted {
-    ghost use Rattle.std.specs.Prelude.{◌≡◌};
-    ghost use Rattle.ug_serve.specs.Causes.{refusal_of_rules};
-
-    ghost from_gives = { λ error why. why ≡ refusal_of_rules error };
-
-    fn from(error: StartFault) -> NotStarted {
-        match error {
-            StartFault::Disk(_) => NotStarted::DiskFailed,
-            StartFault::BadRules(bad) => NotStarted::Refused(ConfigPart::Rules, bad),
-            StartFault::TooLong | StartFault::TooMany => NotStarted::whole(ConfigPart::Rules),
-            StartFault::Memory => NotStarted::Memory,
-        }
     }
 }

@@ -1,5 +1,5 @@
 // The daemon's start.
-ghost use Rattle.std.specs.Prelude.{◌≡◌, ◌≤◌, ◌<◌, ◌^◌, List, Err, IfOk, length};
+ghost use Rattle.std.specs.Prelude.{◌≡◌, ◌≤◌, ◌<◌, ◌^◌, List, Err, IfOk, length, map};
 ghost use Rattle.ug_types.specs.Ends.{Rose};
 ghost use Rattle.ug_store.specs.Store.{seen_by};
 ghost use Rattle.ug_audit.specs.Journal.{members};
@@ -8,10 +8,11 @@ ghost use Rattle.ug_core.specs.Event.{daemon_of};
 ghost use Rattle.ug_core.specs.Policy.{clock_of};
 ghost use Rattle.ug_serve.specs.Lines.{AreNoted};
 ghost use Rattle.ug_core.specs.Starting.{Starts};
-ghost use Rattle.ug_serve.specs.Opening.{Opens, outset_of, started, words_of_seed};
+ghost use Rattle.ug_serve.specs.Opening.{Opens, StartsDaemon, outset_of, started, words_of_seed};
 ghost use Rattle.ug_serve.specs.declared.not_started.NotStarted.TheVariants.{FilesFailed, DiskFailed};
 
 use crate::access::read_access;
+use crate::folder::read_folder;
 use crate::not_started::NotStarted;
 use crate::noting::note_unused;
 use crate::settings::read_settings;
@@ -21,10 +22,10 @@ use rand_core::SeedableRng;
 use std::alloc::Global;
 use ug_acl::Acl;
 use ug_audit::{Auditor, Entries, Panel};
-use ug_conf::{ConfFiles, Settings};
+use ug_conf::{ConfFiles, FolderFile, Settings};
 use ug_core::{Daemon, StartFault};
 use ug_store::RuleDisk;
-use ug_types::{List, Principal};
+use ug_types::{List, NoMemory, Principal, Text};
 
 /// A daemon that started, and those that it is open to.
 #[derive(Drop)]
@@ -33,24 +34,59 @@ pub struct Started<'z> {
     pub principals: List<Principal>,
 }
 
-/// Starts a daemon from the disk's rule file.
+/// The files' names.
+fn names_of(alloc: Global, files: &[FolderFile]) -> Result<List<Text>, NoMemory>
+    ensures { IfOk result (λ names. names ≡ map (λ file. file.name) files.now) }
+{
+    let mut names = List::new(alloc);
+    for file in files {
+        names.push(Text::of(alloc, file.name.bytes())?)?;
+    }
+    Ok(names)
+}
+
+/// Starts a daemon from the files of the folder of rules and the disk's rule file.
+fn start_from<'z, D: RuleDisk>(
+    alloc: Global,
+    settings: Settings,
+    acl: Acl,
+    seed: [u8; 32],
+    zone: TimeZone<'z>,
+    folder: List<FolderFile>,
+    disk: &mut D,
+) -> Result<Daemon<'z, ChaCha20Rng>, StartFault>
+    ensures starts { Starts D.keeps D.told D.faults
+        (outset_of settings acl (clock_of zone.entry) (words_of_seed seed)) folder
+        disk.old (seen_by (λ d. daemon_of d) result) disk.new }
+{
+    let rng = ChaCha20Rng::from_seed(seed);
+    Daemon::start(alloc, settings, acl, rng, zone, 1, folder, disk)
+}
+
+/// The same, with the part that isn't taken where it is refused.
 fn start_daemon<'z, D: RuleDisk>(
     alloc: Global,
     settings: Settings,
     acl: Acl,
     seed: [u8; 32],
     zone: TimeZone<'z>,
+    folder: List<FolderFile>,
     disk: &mut D,
-) -> Result<Daemon<'z, ChaCha20Rng>, StartFault>
-    ensures starts { Starts D.keeps D.told D.faults
-        (outset_of settings acl (clock_of zone.entry) (words_of_seed seed))
+) -> Result<Daemon<'z, ChaCha20Rng>, NotStarted>
+    ensures starts { StartsDaemon D.RuleDisk
+        (outset_of settings acl (clock_of zone.entry) (words_of_seed seed)) folder
         disk.old (seen_by (λ d. daemon_of d) result) disk.new }
+    ensures not_files { ¬ (result ≡ Err FilesFailed) }
+    ensures cause { result ≡ Err DiskFailed → Rose (D.faults disk.old) (D.faults disk.new) }
 {
-    let rng = ChaCha20Rng::from_seed(seed);
-    Daemon::start(alloc, settings, acl, rng, zone, 1, disk)
+    let names = names_of(alloc, folder.as_slice())?;
+    match start_from(alloc, settings, acl, seed, zone, folder, disk) {
+        Ok(daemon) => Ok(daemon),
+        Err(fault) => Err(NotStarted::of_start(names.as_slice(), fault)),
+    }
 }
 
-/// Reads the settings at that path, and starts a daemon from the rule file that they name. The auditors note the start's entries, but
+/// Reads the settings at that path, and starts a daemon from the folder of rules and the rule file that they name. The auditors note the start's entries, but
 /// for that of a part that isn't taken.
 pub fn start<'z, F: ConfFiles, D: RuleDisk>(
     alloc: Global,
@@ -78,8 +114,9 @@ pub fn start<'z, F: ConfFiles, D: RuleDisk>(
     let settings = read_settings(alloc, path, files)?;
     note_unused(panel, entries, settings.unused.as_slice());
     let access = read_access(alloc, &settings, files)?;
+    let folder = read_folder(alloc, settings.rule_folder.bytes(), files)?;
     disk.aim(alloc, settings.rule_file.bytes())?;
-    let daemon = start_daemon(alloc, settings, access.acl, seed, zone, disk)?;
+    let daemon = start_daemon(alloc, settings, access.acl, seed, zone, folder, disk)?;
     Ok(Started {
         daemon,
         principals: access.principals,

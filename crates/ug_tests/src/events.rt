@@ -10,7 +10,7 @@ use ug_conf::default_settings;
 use ug_core::{Daemon, Event, StartFault, line_of};
 use ug_store::{MemDisk, RuleDisk};
 use ug_sysfs::{SimKernel, Sysfs};
-use ug_types::Moment;
+use ug_types::{List, Moment};
 
 // Settings by default, nobody may do anything, the clock of UTC, and a seed of zeros.
 fn start(alloc: Global, disk: &mut MemDisk) -> Result<Daemon<'static, ChaCha20Rng>, StartFault> {
@@ -19,7 +19,8 @@ fn start(alloc: Global, disk: &mut MemDisk) -> Result<Daemon<'static, ChaCha20Rn
     };
     let rng = ChaCha20Rng::from_seed([0; 32]);
     let acl = Acl::new(alloc);
-    Daemon::start(alloc, settings, acl, rng, TimeZone::UTC, 7, disk)
+    let folder = List::new(alloc);
+    Daemon::start(alloc, settings, acl, rng, TimeZone::UTC, 7, folder, disk)
 }
 
 // Handles a sweep, before a panel without members.

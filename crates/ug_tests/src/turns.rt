@@ -107,7 +107,8 @@ fn daemon(alloc: Global, disk: &mut MemDisk) -> Option<Daemon<'static, ChaCha20R
     let acl = access(alloc)?;
     let settings = default_settings(alloc).ok()?;
     let rng = ChaCha20Rng::from_seed([0; 32]);
-    Daemon::start(alloc, settings, acl, rng, TimeZone::UTC, 1, disk).ok()
+    let folder = List::new(alloc);
+    Daemon::start(alloc, settings, acl, rng, TimeZone::UTC, 1, folder, disk).ok()
 }
 
 // The daemon and all that it serves over but its links.

@@ -1,6 +1,7 @@
 // What a daemon that has ended tells a person.
 use crate::shown::{Spot, show_line};
 use crate::words::{access_fault, rule_fault, settings_fault};
+use std::alloc::AllocError;
 use std::{fs, str};
 use ug_host::{RefusedPart, StartRefusal};
 use ug_types::Principal;
@@ -21,8 +22,37 @@ fn fault_of(refusal: StartRefusal) -> &'static str {
     match refusal.part {
         RefusedPart::Settings => settings_fault(refusal.kind),
         RefusedPart::Access => access_fault(refusal.kind),
-        RefusedPart::Rules => rule_fault(refusal.kind),
+        RefusedPart::Folder => "its files have more than 67,108,864 bytes together",
+        RefusedPart::FolderFile(_) | RefusedPart::Rules => rule_fault(refusal.kind),
     }
+}
+
+// The folder in which a file lies.
+fn folder_of(path: &str) -> &str {
+    match path.rsplit_once('/') {
+        Some((folder, _name)) => folder,
+        None => ".",
+    }
+}
+
+// The path of the part that isn't taken. The folder of rules is that of the file which was read last.
+fn path_of(
+    rt: &HostRuntime,
+    refusal: StartRefusal,
+    paths: &LastPaths<'_>,
+) -> Result<String, AllocError> {
+    let files = text_of(paths.files);
+    let path = match refusal.part {
+        RefusedPart::Settings | RefusedPart::Access => files,
+        RefusedPart::Folder | RefusedPart::FolderFile(_) => folder_of(files),
+        RefusedPart::Rules => text_of(paths.rules),
+    };
+    let mut path = String::from_str(rt.alloc(), path)?;
+    if let RefusedPart::FolderFile(name) = refusal.part {
+        path.push('/')?;
+        path.push_str(text_of(name.bytes()))?;
+    }
+    Ok(path)
 }
 
 // The first name in a folder, in byte order, that is none of a user or a group.
@@ -66,7 +96,10 @@ fn tell_refusal(rt: &HostRuntime, refusal: StartRefusal, path: &str) -> std::io:
         let spot = Spot {
             line,
             place: refusal.place,
-            counts_blanks: refusal.part == RefusedPart::Rules,
+            counts_blanks: matches!(
+                refusal.part,
+                RefusedPart::Rules | RefusedPart::FolderFile(_)
+            ),
         };
         if let Some(shown) = show_line(rt, path, spot) {
             let shown = shown.as_str();
@@ -74,7 +107,7 @@ fn tell_refusal(rt: &HostRuntime, refusal: StartRefusal, path: &str) -> std::io:
         }
         return Ok(());
     }
-    if refusal.part == RefusedPart::Access && refusal.kind > 0 {
+    if matches!(refusal.part, RefusedPart::Access) && refusal.kind > 0 {
         return tell_name(rt, path, fault);
     }
     eprintln!(rt; "usbguard: {path} isn't taken: {fault}.")
@@ -103,13 +136,10 @@ pub fn tell_end(
     paths: &LastPaths<'_>,
 ) {
     let _told = match refusal {
-        Some(refusal) if status == 3 => {
-            let path = match refusal.part {
-                RefusedPart::Rules => paths.rules,
-                RefusedPart::Settings | RefusedPart::Access => paths.files,
-            };
-            tell_refusal(rt, refusal, text_of(path))
-        }
+        Some(refusal) if status == 3 => match path_of(rt, refusal, paths) {
+            Ok(path) => tell_refusal(rt, refusal, path.as_str()),
+            Err(_) => Ok(()),
+        },
         _ => tell_status(rt, status, paths),
     };
 }

@@ -38,7 +38,9 @@ pub fn rule_fault(kind: u64) -> &'static str {
         10 => "this can't be part of a condition, or the condition is missing",
         11 => "if can't stand in a query",
         12 => "an attribute, or if, was expected in place of a string or mark",
-        _ => "the rules have more than 67,108,864 bytes, or are more than 65,536",
+        _ => {
+            "the rules have more than 67,108,864 bytes, or with those of the folder are more than 65,536"
+        }
     }
 }
 
@@ -58,6 +60,7 @@ pub fn order_fault(reason: u64) -> &'static str {
         11 => "the verdict stands, but a call on the device failed: the daemon tries again",
         12 => "the daemon's memory was short",
         13 => "the device couldn't be looked at, and nothing was changed",
+        14 => "the rules of the folder stay in front, and only their files change them",
         _ => "the daemon gave no reason that is known",
     }
 }

@@ -1,5 +1,5 @@
 use Rattle.std.proofs.lemmas.Result.{err_from_is_err_and}
-use Rattle.ug_proto.proofs.RefusalNumbers.{at_number, bad_request, denied, bad_rule, no_device, no_rule, bad_parameter, bad_value, malformed_device, rules_full, store_fault, device_fault, memory, probe_fault}
+use Rattle.ug_proto.proofs.RefusalNumbers.{at_number, bad_request, denied, bad_rule, no_device, no_rule, bad_parameter, bad_value, malformed_device, rules_full, store_fault, device_fault, memory, probe_fault, folder_rule}
 use Rattle.ug_proto.proofs.parse.take_numbered.Goals as goal
 
 pub returns-in_err-place-in-1-clause-err : goal.returns-in_err-place-in-1-clause-err
@@ -66,3 +66,8 @@ pub returns-in_err-count-in-13-clause-err : goal.returns-in_err-count-in-13-clau
 returns-in_err-count-in-13-clause-err c =
     let p = err_from_is_err_and c.from_residual-in_err-count-in-13.result c.from_residual-in_err-count-in-13.ensures.1 in
     rw (p.1, p.2) (at_number c.args.number 13 c.args.text.now c.in_err-count-in-13.field-0.0 c.in-13.is (probe_fault c.args.text.now c.in_err-count-in-13.field-0.0 c.in_err-count-in-13.ensures.err))
+
+pub returns-in_err-id-in-14-clause-err : goal.returns-in_err-id-in-14-clause-err
+returns-in_err-id-in-14-clause-err c =
+    let p = err_from_is_err_and c.from_residual-in_err-id-in-14.result c.from_residual-in_err-id-in-14.ensures.1 in
+    rw (p.1, p.2) (at_number c.args.number 14 c.args.text.now c.in_err-id-in-14.field-0.0 c.in-14.is (folder_rule c.args.text.now c.in_err-id-in-14.field-0.0 c.in_err-id-in-14.ensures.err))

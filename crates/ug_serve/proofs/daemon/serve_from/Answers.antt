@@ -11,7 +11,7 @@ returns-in-Err-clause-runs g c =
     let starts = c.in-Err.ensures.starts in
     runs_refused g.F.ConfFiles.gives g.Y.Sysfs g.D.RuleDisk g.N.Links g.W.Waiter g.C.Clock
     c.args.turns (clock_of c.args.zone) (words_of_seed c.args.seed) c.args.files.now (objects c.args.sysfs.now c.args.disk.now c.args.links.now c.args.waiter.now c.args.clock.now (members (λ b. goal.Auditor-dyn g (b.vtable, b.value)) c.args.panel.now)) c.args.path.now
-    starts.0 c.in-Err.why c.start.new.files c.start.new.disk (members (λ b. goal.Auditor-dyn g (b.vtable, b.value)) c.start.new.panel) (members (λ b. goal.Auditor-dyn g (b.vtable, b.value)) c.note_refusal.new.panel) c.status.result starts.1 starts.2 c.note_refusal.ensures c.status.ensures
+    starts.0 c.in-Err.why c.start.new.files c.start.new.disk (members (λ b. goal.Auditor-dyn g (b.vtable, b.value)) c.start.new.panel) (members (λ b. goal.Auditor-dyn g (b.vtable, b.value)) c.note_refusal.new.panel) c.status-status.result starts.1 starts.2 c.note_refusal.ensures c.status-status.ensures
 
 pub returns-in-Ok-clause-runs : goal.returns-in-Ok-clause-runs
 returns-in-Ok-clause-runs g c =

@@ -9,4 +9,4 @@ use Rattle.ug_core.proofs.daemon.Daemon.choose_place.Goals as goal
 pub returns-clause-can_make : goal.returns-clause-can_make
 returns-clause-can_make g c =
     let rules = c.args.self.now.policy.rules.entries in
-    subst (λ (v : Choice). CanMake rules v.change) (sym c.change.ensures) (place_free c.args.after rules (sym c.refuse_rule.ensures ∙ c.in_default.is), sym (ap rule_read c.in-Ok.ensures.text) ∙ c.in-Ok.ensures.reads (read_well c.args.rule (c.args.text.now, c.requires)))
+    subst (λ (v : Choice). CanMake rules v.change) (sym c.change.ensures) (place_free c.args.after c.args.permanent rules (sym c.refuse_rule.ensures ∙ c.in_default.is), sym (ap rule_read c.in-Ok.ensures.text) ∙ c.in-Ok.ensures.reads (read_well c.args.rule (c.args.text.now, c.requires)))
