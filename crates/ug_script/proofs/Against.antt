@@ -4,7 +4,7 @@ use Rattle.std.proofs.lemmas.Bool.{both_ways}
 use Rattle.std.proofs.lemmas.Option.{same_Some}
 use Rattle.std.specs.Cmp.Lexicographic.{pointwise, same_text}
 use Rattle.ug_numerals.proofs.Numerals.{text_itself}
-use Rattle.ug_sysfs.specs.World.{World, moved}
+use Rattle.ug_sysfs.specs.World.{World, carried}
 use Rattle.ug_command_io.specs.Fold.{LineRefusal, BadLine, InputTooLong, Writes, Refused, Stage, Going, Halted, of_first, plays}
 use Rattle.ug_command_io.specs.Refusals.{AtEnd, AtLine, RefusesLines, fault_in}
 use Rattle.ug_command_io.specs.Runs.{Steps}
@@ -17,7 +17,7 @@ use Rattle.ug_script.specs.declared.step.Step.TheVariants as step
 use Rattle.ug_script.specs.Against.{AreRefused, BehindSetup, LacksNumbers, NoHeader, NoRoom, NoStep, NotTaken, RefusesScript, SpeaksAgainst, starts_daemon}
 use Rattle.ug_script.specs.Grammar.{step_of_line}
 use Rattle.ug_script.specs.Laws.{StaysLawful}
-use Rattle.ug_script.specs.Replay.{StartsAgain, bad, event_by, header, in_script, line_added, planned, quiet, restarted, script_end, script_step, taken_if, with_devices, with_plan}
+use Rattle.ug_script.specs.Replay.{StartsAgain, bad, event_by, header, in_script, line_added, planned, quiet, restarted, script_end, script_step, taken_if, with_plan}
 use Rattle.ug_script.specs.Script.{Phase, SettingUp, Unstarted, Started, Script, can_start, daemon_in, disk_in, fits_file, fresh, has_started, takes_setup, with_setup_closed}
 use Rattle.ug_script.specs.Setup.{SetupState, one_line_more, rules_from}
 use Rattle.ug_script.specs.Summing.{Summary, no_totals, summary_end, summary_step}
@@ -79,7 +79,7 @@ step_fault : (s : Script) (w : World) (line : List ℕ) (next : Option Script ×
 step_fault s w line next h0 h1 r fault None is q why e = inl (subst (λ (f : LineRefusal). SpeaksAgainst (Some s, w) line f) (same_fault BadLine (Some s, w) next h0 h1 r fault q e) (NoStep s w line is))
 step_fault s w line next h0 h1 r fault (Some step.Skip) is q why e = absurd (unrefused [] (Some s, w) next h0 h1 r fault q e)
 step_fault s w line next h0 h1 r fault (Some (step.Setup setup)) is q why e = inl (setup_fault s w line setup next h0 h1 r fault (takes_setup s.phase) is refl q e)
-step_fault s w line next h0 h1 r fault (Some (step.Move action)) is q why e = absurd (unrefused [] (Some (with_setup_closed s), with_devices (moved action w.kernel.devices) w) next h0 h1 r fault q e)
+step_fault s w line next h0 h1 r fault (Some (step.Move action)) is q why e = absurd (unrefused [] (Some (with_setup_closed s), carried action w) next h0 h1 r fault q e)
 step_fault s w line next h0 h1 r fault (Some (step.Schedule plan)) is q why e = absurd (unrefused [] (Some (with_plan plan (with_setup_closed s)), planned plan w) next h0 h1 r fault q e)
 step_fault s w line next h0 h1 r fault (Some (step.Event event)) is q why e = start_fault s w line (step.Event event) fault is refl r (λ f. (event, is, why.0 f)) why.1 e
 step_fault s w line next h0 h1 r fault (Some step.Restart) is q why e = start_fault s w line step.Restart fault is refl r (λ f. absurd (why.0 f)) why.1 e

@@ -96,6 +96,7 @@ does_move (move.Unplug name) ds s = at (find name 0 ds) refl
     at (Some i) h =
         let f = find_some name i ds h in
         record { change = Unplugged name; move = refl; effect = refl; becomes = record { i = i; d = f.device; live = f.live; named = f.named; felled = unplugged_felled name ds i f.device s f.live f.named } }
+does_move (move.Iface change) ds s = record { change = Idle (move.Iface change); move = refl; effect = refl; becomes = (tt, refl) }
 
 sound_move : (action : Move) (ds : List Device) → IsSound ds → IsSound (moved action ds)
 sound_move action ds s = sound_happen 1 false (record { call = 0; after = false; action = action } ∷ []) ds s

@@ -10,7 +10,7 @@ use Rattle.ug_kernel.specs.Defaults.{HasOnEntries}
 use Rattle.ug_kernel.proofs.Defaults.{moves_on_entries}
 use Rattle.ug_kernel.specs.Kernel.{Kernel, IsKernel, Moves}
 use Rattle.ug_kernel.proofs.Stayed.{unmoving}
-use Rattle.ug_sysfs.specs.World.{IsUnfailing, World, event_begun, moved, over}
+use Rattle.ug_sysfs.specs.World.{IsUnfailing, World, event_begun, carried, over}
 use Rattle.ug_sysfs.specs.Begins.{moved_moves, happened_moves}
 use Rattle.ug_audit.specs.declared.entry.Entry.{Entry}
 use Rattle.ug_audit.specs.declared.entry.Entry.TheVariants as entry
@@ -64,7 +64,7 @@ use Rattle.ug_script.specs.declared.step.Step.TheVariants.{Skip, Setup, Move, Sc
 use Rattle.ug_script.specs.Grammar.{step_of_line}
 use Rattle.ug_script.specs.Setup.{Beside, SetupState, no_setup, one_line_more, beside_of, after_reading, policy_of, rules_disk, setup_rule, rules_from, rules_if_read, first_started, started_at, steps_of, with_rules}
 use Rattle.ug_script.specs.Script.{Script, Phase, fresh, takes_setup, has_started, closed_phase, with_setup_closed, daemon_by, daemon_in, disk_by, disk_in, can_start}
-use Rattle.ug_script.specs.Replay.{header, outcome_of, outcome_text, quiet, bad, line_added, with_devices, with_plan, with_played, with_restart, planned, Played, order_played_by, answered_from, answered_of, begun_again, came_of, disk_of, event_from, event_of, finished, halted, in_script, left_played, restarted, stopped_of, stopped_text, taken, taken_if, tried_by, script_step}
+use Rattle.ug_script.specs.Replay.{header, outcome_of, outcome_text, quiet, bad, line_added, with_plan, with_played, with_restart, planned, Played, order_played_by, answered_from, answered_of, begun_again, came_of, disk_of, event_from, event_of, finished, halted, in_script, left_played, restarted, stopped_of, stopped_text, taken, taken_if, tried_by, script_step}
 use Rattle.ug_script.specs.Laws.{calls_of, faults_of, StaysLawful}
 use Rattle.ug_script.specs.Journal.{happened_at, left_by, left_behind, EventsOfRuns, RunEnd, no_events, with_end, with_events, with_stop, runs_by, runs_after, runs_in, stop_of, text_to_stop, journals, journal_of, events_text, run_text, runs_text, text_of_runs, RunStart, first_start, HoldsAtStart, IsDaemonRun, EndedRun, AreSuccessive, JudgesOnce, is_quiet, AreQuiet, Recorded, StaysRecorded}
 use Rattle.ug_script.proofs.FileTexts.{StandsBehind, event_file, event_stands, event_text, in_force_stands, readable_front, stands_so}
@@ -637,7 +637,7 @@ step_kept first n done runs text (Setup line) s w lt h =
     kept_when first (n + 1) (done ++ step ∷ []) runs text (takes_setup s.phase) (line_added (one_line_more line s.setup) s w) s w (λ opened. added_kept first n done runs text s w step (one_line_more line s.setup) lt opened h (given_added n done line s.setup lt h.given))
 step_kept first n done runs text (Move action) s w lt h =
     let step : Option Step = Some (Move action) in
-    let v : World = with_devices (moved action w.kernel.devices) w in
+    let v : World = carried action w in
     kept_still first (n + 1) (done ++ step ∷ []) runs text (with_setup_closed s) v
     (on_kept first n done runs text s w v step (closed_phase s.phase) s.planned lt h (closed_daemon s.setup s.phase) (closed_disk s.setup s.phase) (closed_started s.phase) (given_still n done step s.setup refl refl refl refl refl h.given) (move_holds action (daemon_in s) w h.holds) (moved_moves action w.kernel) refl (λ q. h.unfailing (quiet_front done step q).0) (λ q. h.unmoved (quiet_front done step q).0) (λ q. h.unplanned (quiet_front done step q).0))
 step_kept first n done runs text (Schedule p) s w lt h = plan_kept p

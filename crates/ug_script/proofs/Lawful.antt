@@ -4,7 +4,7 @@ use Rattle.std.proofs.lemmas.Option.{same_Some}
 use Rattle.ug_kernel.specs.Kernel.{Kernel, IsKernel, Moves}
 use Rattle.ug_kernel.proofs.Grow.{quiet_grows}
 use Rattle.ug_kernel.proofs.Quiet.{moves_quiet}
-use Rattle.ug_sysfs.specs.World.{IsUnfailing, World, Gives, scripted_answer, event_begun, over, moved, told}
+use Rattle.ug_sysfs.specs.World.{IsUnfailing, World, Gives, scripted_answer, event_begun, carried, over, told}
 use Rattle.ug_sysfs.specs.declared.script.Move.{Move}
 use Rattle.ug_sysfs.specs.Count.{counts_each}
 use Rattle.ug_sysfs.specs.Law.{does_what_it_may}
@@ -48,7 +48,7 @@ use Rattle.ug_core.proofs.Answered.{Answered, answering_made, answering_told, an
 use Rattle.ug_core.proofs.Failures.{event_tells, event_names}
 use Rattle.ug_script.specs.declared.step.Plan.{Plan}
 use Rattle.ug_script.specs.declared.step.Plan.TheVariants as plan
-use Rattle.ug_script.specs.Replay.{order_played_by, answered_from, event_from, halted, tried_by, with_devices, planned}
+use Rattle.ug_script.specs.Replay.{order_played_by, answered_from, event_from, halted, tried_by, planned}
 use Rattle.ug_script.specs.Laws.{calls_of, faults_of}
 use Rattle.ug_script.proofs.Answers.{SweepsSo, handling_ways}
 use Rattle.ug_script.proofs.Halts.{answered_unplanned, answered_unstopped, halted_calls, halted_kernel, halted_not, halted_told}
@@ -181,11 +181,11 @@ event_holds event d w o h =
 pub event_disk : (event : Event) (d : DaemonState) (w : World) (o : DiskWorld) → o.ran_out ≡ false → (event_from event d w o).disk.ran_out ≡ false
 event_disk event d w o out = answered_told event (ready event (tried_by d o).0 d) (halted (tried_by d o).1 (event_begun w)) (tried_by d o).1 (play_stays_told (trying d) o out)
 
-pub move_holds : (action : Move) (d : DaemonState) (w : World) → HoldsOf d w → HoldsOf d (with_devices (moved action w.kernel.devices) w)
+pub move_holds : (action : Move) (d : DaemonState) (w : World) → HoldsOf d w → HoldsOf d (carried action w)
 move_holds action d w h = record {
   told = h.told;
   sound = moved_sound action w.kernel h.sound;
-  stand = moves_on d.sweep.standings d.sweep.next w.kernel (with_devices (moved action w.kernel.devices) w).kernel (moved_moves action w.kernel) h.stand;
+  stand = moves_on d.sweep.standings d.sweep.next w.kernel (carried action w).kernel (moved_moves action w.kernel) h.stand;
 }
 
 -- what is scheduled changes no device

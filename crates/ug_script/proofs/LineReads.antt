@@ -184,6 +184,7 @@ so_move line (move.Plug device) p =
     move_reads word.Plug line d.0 (move.Plug device) d.1 (ap (option_map move.Plug) d.2)
 so_move line (move.Unplug name) (is, named) =
     move_reads word.Unplug line name (move.Unplug name) is (ap (option_map move.Unplug) ((name_text name name).1 (named.0, named.1, refl)))
+so_move line (move.Iface change) p = absurd p
 
 -- ---- what is scheduled
 
@@ -511,6 +512,7 @@ so_moved : (line : List ℕ) (action : Move) → IsMoveLine line action → step
 unfolding step_behind
 so_moved line (move.Plug device) p = let d = so_plug line device p in line_reads word.Plug line d.0 _ d.1 (ap (option_map (λ device. step.Move (move.Plug device))) d.2)
 so_moved line (move.Unplug name) (is, named) = line_reads word.Unplug line name _ is (ap (option_map (λ name. step.Move (move.Unplug name))) ((name_text name name).1 (named.0, named.1, refl)))
+so_moved line (move.Iface change) p = absurd p
 
 so_passed : (line : List ℕ) → IsPassedOver line → step_of_line line ≡ Some step.Skip
 unfolding step_of_line

@@ -1,27 +1,33 @@
 -- A line of a move does it at once.
-use Rattle.std.proofs.Common.{ℕ, List, Option, ap}
+use Rattle.std.proofs.Common.{ℕ, List, Option, ap, refl}
 use Rattle.ug_kernel.specs.declared.device.Device.{Device}
 use Rattle.ug_kernel.specs.Kernel.{IsSound}
 use Rattle.ug_sysfs.specs.declared.script.Move.{Move}
 use Rattle.ug_sysfs.specs.declared.script.Move.TheVariants as move
 use Rattle.ug_sysfs.specs.Below.{unplugged_felled, unplugged_nobody}
 use Rattle.ug_sysfs.specs.Birth.{plugged_born, plugged_not}
-use Rattle.ug_sysfs.specs.World.{World, moved}
+use Rattle.ug_sysfs.specs.World.{World, carried, moved}
 use Rattle.ug_script.specs.declared.step.Step.{Step}
 use Rattle.ug_script.specs.declared.step.Step.TheVariants as step
 use Rattle.ug_script.specs.LineGrammar.{AsksFor}
 use Rattle.ug_script.specs.Replay.{taken_if}
-use Rattle.ug_script.specs.Schedules.{Does, DoesAtOnce}
+use Rattle.ug_script.specs.Schedules.{Does, DoesAtOnce, LeavesElse}
 use Rattle.ug_script.specs.Script.{Script}
 use Rattle.ug_script.proofs.LineReads.{so_line}
 
 does : (action : Move) (ds : List Device) → IsSound ds → Does action ds (moved action ds)
 does (move.Plug device) ds sound = (plugged_born device ds, plugged_not device ds)
 does (move.Unplug name) ds sound = (λ i d live named. unplugged_felled name ds i d sound live named, unplugged_nobody name ds)
+does (move.Iface change) ds sound = refl
+
+leaves : (action : Move) (w : World) → LeavesElse action w (carried action w)
+leaves (move.Plug device) w = refl
+leaves (move.Unplug name) w = refl
+leaves (move.Iface change) w = refl
 
 pub at_once : (line : List ℕ) (action : Move) (s : Script) (w : World) → AsksFor line (step.Move action) → IsSound w.kernel.devices → DoesAtOnce line action s w
 at_once line action s w asks sound = record {
-  devices = moved action w.kernel.devices;
   does = does action w.kernel.devices sound;
+  leaves = leaves action w;
   leads = ap (λ (o : Option Step). taken_if o s w) (so_line line (step.Move action) asks);
 }

@@ -63,10 +63,12 @@ abbrev pub birth_in : Change → List NewDevice
 birth_in (Born device) = device ∷ []
 birth_in change = []
 
--- its name is live, its parent isn't, or 65,536 devices are; or nobody bears the name
+-- its name is live, its parent isn't, or 65,536 devices are; nobody bears the name; or it is of an
+-- interface
 abbrev pub IsIdle : Move → List Device → Type 0
 IsIdle (move.Plug device) ds = ¬ CanBeBorn device ds
 IsIdle (move.Unplug name) ds = (i : ℕ) (d : Device) → Live ds i d → d.name ≡ name → ⊥
+IsIdle (move.Iface change) ds = Unit {0}
 
 -- the live device of the name goes, with those below it, and no other
 pub record HasGone (name : List ℕ) (ds es : List Device) : Type 0 where

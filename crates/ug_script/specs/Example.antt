@@ -54,6 +54,9 @@ abbrev pub hub_world : World
 hub_world =
     record {
       kernel = record { devices = plugged hub []; held = []; log = [] };
+      interfaces = [];
+      iface_files = [];
+      iface_log = [];
       moves = [];
       fails = [];
       halted = false;

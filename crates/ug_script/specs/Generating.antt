@@ -7,7 +7,7 @@ use Rattle.ug_types.specs.declared.rule.Rule.{Rule}
 use Rattle.ug_kernel.specs.declared.device.Device.{Device}
 use Rattle.ug_kernel.specs.Kernel.{Live}
 use Rattle.ug_sysfs.specs.declared.script.Move.{Move}
-use Rattle.ug_sysfs.specs.World.{World, moved}
+use Rattle.ug_sysfs.specs.World.{World, carried, moved}
 use Rattle.ug_conf.specs.Draft.{Draft, draft_of}
 use Rattle.ug_conf.specs.Settings.{defaults}
 use Rattle.ug_conf.specs.Texts.{setting_line}
@@ -21,7 +21,7 @@ use Rattle.ug_script.specs.declared.step.Step.TheVariants as step
 use Rattle.ug_script.specs.Grammar.{step_of_line}
 use Rattle.ug_script.specs.Script.{Script, with_setup_closed}
 use Rattle.ug_script.specs.Setup.{SetupState, conf_asked, steps_of}
-use Rattle.ug_script.specs.Replay.{bad, first_step, interpreter_state, line_taken, quiet, with_devices}
+use Rattle.ug_script.specs.Replay.{bad, first_step, interpreter_state, line_taken, quiet}
 
 abbrev pub generator_state : Generator → Option Script
 generator_state generator = interpreter_state generator.script
@@ -35,7 +35,7 @@ abbrev pub skimmed : Step → Script → World → LineOutcome (Option Script ×
 skimmed step.Skip s w = quiet s w
 skimmed (step.Setup line) s w = line_taken line s w
 skimmed (step.Move action) s w =
-    quiet (with_setup_closed s) (with_devices (moved action w.kernel.devices) w)
+    quiet (with_setup_closed s) (carried action w)
 skimmed (step.Schedule plan) s w = quiet (with_setup_closed s) w
 skimmed (step.Event event) s w = quiet (with_setup_closed s) w
 skimmed step.Restart s w = quiet (with_setup_closed s) w

@@ -85,6 +85,7 @@ IsUnplug line name = (line ≡ codes "unplug " ++ name) × IsShortName name
 abbrev pub IsMoveLine : List ℕ → Move → Type 0
 IsMoveLine line (move.Plug device) = IsPlug line device
 IsMoveLine line (move.Unplug name) = IsUnplug line name
+IsMoveLine line (move.Iface change) = ⊥
 
 -- ---- what is scheduled for a call of the next event
 

@@ -6,7 +6,7 @@ use Rattle.ug_types.specs.declared.rule.Rule as types
 use Rattle.ug_types.specs.declared.saved.Saved.{Saved}
 use Rattle.ug_kernel.specs.declared.device.Device.{Device}
 use Rattle.ug_sysfs.specs.Queue.{with_move}
-use Rattle.ug_sysfs.specs.World.{halting, World, event_begun, moved, over}
+use Rattle.ug_sysfs.specs.World.{halting, World, event_begun, carried, over}
 use Rattle.ug_audit.specs.declared.entry.Entry.{Entry}
 use Rattle.ug_audit.specs.Lines.{entry_line}
 use Rattle.ug_lines.specs.Lines.{lines_of}
@@ -333,7 +333,7 @@ abbrev pub taken : Step → Script → World → LineOutcome (Option Script × W
 taken step.Skip s w = quiet s w
 taken (step.Setup line) s w = line_taken line s w
 taken (step.Move action) s w =
-    quiet (with_setup_closed s) (with_devices (moved action w.kernel.devices) w)
+    quiet (with_setup_closed s) (carried action w)
 taken (step.Schedule plan) s w = quiet (with_plan plan (with_setup_closed s)) (planned plan w)
 taken (step.Event event) s w = event_taken event s w
 taken step.Restart s w = restart_taken s w

@@ -10,7 +10,7 @@ use Rattle.ug_sysfs.specs.declared.script.Move.TheVariants as move
 use Rattle.ug_sysfs.specs.declared.script.Scheduled.{Scheduled}
 use Rattle.ug_sysfs.specs.Below.{IsFelled}
 use Rattle.ug_sysfs.specs.Birth.{CanBeBorn, IsBorn}
-use Rattle.ug_sysfs.specs.World.{World}
+use Rattle.ug_sysfs.specs.World.{World, carried}
 use Rattle.ug_command_io.specs.Fold.{Going, Writes, plays}
 use Rattle.ug_script.specs.declared.step.Plan.TheVariants as plan
 use Rattle.ug_script.specs.declared.step.Step.{Step}
@@ -63,21 +63,28 @@ pub record IsSchedule (written ms : List Scheduled) : Type 0 where
 -- ---- moves that come at once
 
 -- A device is born as the newest, with the facts of the line, wherever it can be. A live device of
--- the name goes with those below it. Else nothing changes.
+-- the name goes with those below it. Else nothing changes. A move of an interface changes none.
 abbrev pub Does : Move → List Device → List Device → Type 0
 Does (move.Plug device) ds es =
     (CanBeBorn device ds → IsBorn device ds es) × (¬ CanBeBorn device ds → es ≡ ds)
 Does (move.Unplug name) ds es =
     ((i : ℕ) (d : Device) → Live ds i d → d.name ≡ name → IsFelled i ds es)
     × (((i : ℕ) (d : Device) → Live ds i d → d.name ≡ name → ⊥) → es ≡ ds)
+Does (move.Iface change) ds es = es ≡ ds
+
+-- nothing changes but the devices, or but the interfaces
+abbrev pub LeavesElse : Move → World → World → Type 0
+LeavesElse (move.Plug device) w v = v ≡ with_devices v.kernel.devices w
+LeavesElse (move.Unplug name) w v = v ≡ with_devices v.kernel.devices w
+LeavesElse (move.Iface change) w v = v ≡ record w { interfaces = v.interfaces }
 
 -- a line that asks for the move does it, writes nothing, and leaves all else, but that no line of
 -- setup may come any more
 pub record DoesAtOnce (line : List ℕ) (action : Move) (s : Script) (w : World) : Type 0 where
-  pub devices : List Device
-  pub does : Does action w.kernel.devices devices
+  pub does : Does action w.kernel.devices (carried action w).kernel.devices
+  pub leaves : LeavesElse action w (carried action w)
   pub leads : script_step (Some s, w) line
-      ≡ Writes [] (Some (with_setup_closed s), with_devices devices w)
+      ≡ Writes [] (Some (with_setup_closed s), carried action w)
 
 -- ---- wherever lines have led
 

@@ -2,7 +2,7 @@
 ghost use Rattle.std.specs.Prelude.{◌≡◌, ◌≤◌, ◌-◌, ◌++◌, ◌∷◌, [], ℕ, false, List, Option, Some, IfOk, OnOk};
 ghost use Rattle.ug_types.specs.Ends.{Rose};
 ghost use Rattle.ug_command_io.specs.Runs.{Steps};
-ghost use Rattle.ug_sysfs.specs.World.{World, moved};
+ghost use Rattle.ug_sysfs.specs.World.{World, carried};
 ghost use Rattle.ug_script.specs.Generating as generating;
 ghost use Rattle.ug_script.specs.Generating.{skimmed, skimmed_if};
 ghost use Rattle.ug_script.specs.Grammar.{AsksForRule, AsksForRules, step_of_line};
@@ -160,7 +160,7 @@ impl Running {
         ensures silent { ¬ (result ≡ Ran.SinkFailed) }
         ensures ran { (held : Option (List ℕ))
             → Steps (replay.quiet (with_setup_closed (script_of self.old))
-            (replay.with_devices (moved action kernel.old.kernel.devices) kernel.old))
+            (carried action kernel.old))
             (Some (script_of self.new), kernel.new) held held result }
     {
         self.close();

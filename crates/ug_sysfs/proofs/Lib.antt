@@ -1,4 +1,6 @@
 pub mod Plugs
+pub mod Ungone
+pub mod Apart
 pub mod Fates
 pub mod RanOut
 pub mod Finds

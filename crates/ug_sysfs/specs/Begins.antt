@@ -11,7 +11,7 @@ use Rattle.ug_kernel.proofs.Births.{moves_then}
 use Rattle.ug_kernel.proofs.Stayed.{begins, begins_then, begins_more, begins_at, unmoving}
 use Rattle.ug_sysfs.specs.declared.script.NewDevice.{NewDevice}
 use Rattle.ug_sysfs.specs.declared.script.Move.{Move}
-use Rattle.ug_sysfs.specs.declared.script.Move.TheVariants.{Plug, Unplug}
+use Rattle.ug_sysfs.specs.declared.script.Move.TheVariants.{Plug, Unplug, Iface}
 use Rattle.ug_sysfs.specs.declared.script.Scheduled.{Scheduled}
 use Rattle.ug_sysfs.specs.Devices.{controller_under, controller_default, starts_on, born_with, born_as, born, find, felled, fall, unplug_at, unplugged, born_under, placed, plug_at, plugged}
 use Rattle.ug_sysfs.specs.World.{moved, due, happen, happen_all}
@@ -76,6 +76,7 @@ begins_plug d ds =
 begins_moved : (m : Move) (ds : List Device) → BeginsWith ds (moved m ds)
 begins_moved (Plug d) ds = begins_plug d ds
 begins_moved (Unplug name) ds = begins_unplug (find name 0 ds) ds
+begins_moved (Iface change) ds = begins ds
 
 pub begins_happen : (n : ℕ) (after : Bool) (ms : List Scheduled) (ds : List Device)
     → BeginsWith ds (happen n after ms ds).1
@@ -200,6 +201,7 @@ unplugged_moves name k =
 pub moved_moves : (m : Move) (k : Kernel) → Moves k (record k { devices = moved m k.devices })
 moved_moves (Plug d) k = plugged_moves d k
 moved_moves (Unplug name) k = unplugged_moves name k
+moved_moves (Iface change) k = unmoving k
 
 pub happen_moves : (n : ℕ) (after : Bool) (ms : List Scheduled) (k : Kernel)
     → Moves k (record k { devices = (happen n after ms k.devices).1 })

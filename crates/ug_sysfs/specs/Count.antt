@@ -23,7 +23,7 @@ more_within n =
 more_rises : (n : ℕ) → n < 2 ^ 64 - 1 → n < one_fault_more n
 more_rises n lt = rw (lt-ltb n (2 ^ 64 - 1) lt) (omega arith)
 
-counted_by : {X : Type 0} (failed : X → Bool) (x : X) (c f d g : ℕ) → d ≡ raised c
+pub counted_by : {X : Type 0} (failed : X → Bool) (x : X) (c f d g : ℕ) → d ≡ raised c
     → g ≡ cond (failed x) (one_fault_more f) f
     → Counted failed (record { answer = x; number = d; count = g }) c f d g
 counted_by failed x c f d g call fault = pick (failed x) refl fault

@@ -26,13 +26,13 @@ use Rattle.ug_sysfs.specs.Find.{FoundDevice, find_some, find_none, listed_live, 
 use Rattle.ug_sysfs.specs.Sound.{sound_happen}
 
 -- what holds of the effect of a call
-record Ready (c : Call) (a : Answer c) (k l : Kernel) : Type 0 where
-  does : DoesCall c a k l
-  says : (x y : Kernel) → IsKernel x → IsKernel k → Moves x k → Moves l y → SaysAnswer c a x y
-  sound : IsKernel k → IsKernel l
+pub record Ready (c : Call) (a : Answer c) (k l : Kernel) : Type 0 where
+  pub does : DoesCall c a k l
+  pub says : (x y : Kernel) → IsKernel x → IsKernel k → Moves x k → Moves l y → SaysAnswer c a x y
+  pub sound : IsKernel k → IsKernel l
 
-none_lived : (name : List ℕ) (x k y : Kernel) → find name 0 k.devices ≡ None → Moves x k → Moves k y
-    → NoneLived name x y
+pub none_lived : (name : List ℕ) (x k y : Kernel) → find name 0 k.devices ≡ None → Moves x k
+    → Moves k y → NoneLived name x y
 none_lived name x k y h a b i d lived n =
     let p = lived_at x.devices k.devices y.devices i d a.devices b.devices lived in
     find_none name 0 k.devices h i p.0 p.1 (p.2.name ∙ n)
@@ -186,7 +186,7 @@ was_alive h i x k s a f =
       value = sym p.2.on;
     }
 
-ready_probe : (h : ℕ) (w : World) (k : Kernel) (o : Option ℕ) → live_held h k.held k.devices ≡ o
+pub ready_probe : (h : ℕ) (w : World) (k : Kernel) (o : Option ℕ) → live_held h k.held k.devices ≡ o
     → Ready (Ask_alive h) (told_as (Ask_alive h) (probed_at o k.devices) w) k k
 ready_probe h w k None e = record {
   does = refl;
@@ -298,7 +298,7 @@ ready_hidden (Ask_alive h) w k = ready_still (Ask_alive h) w k
 ready_hidden (Put h write) w k = ready_put_hidden h write w k (live_held h k.held k.devices) refl
 ready_hidden (Close h) w k = ready_still (Close h) w k
 
-ready_memory : (c : Call) (r : Reply c) (w : World) (k : Kernel) → IsMemory c r
+pub ready_memory : (c : Call) (r : Reply c) (w : World) (k : Kernel) → IsMemory c r
     → Ready c (told_as c r w) k k
 ready_memory Names r w k m =
     rw m (record { does = refl; says = λ x y sx sk a b. tt; sound = λ s. s })
@@ -310,11 +310,11 @@ ready_memory (Ask_alive h) r w k m = absurd m
 ready_memory (Put h write) r w k m = absurd m
 ready_memory (Close h) r w k m = absurd m
 
-ready : (f : Option Bool) (c : Call) (w : World) (k : Kernel)
+pub ready_effect : (f : Option Bool) (c : Call) (w : World) (k : Kernel)
     → Ready c (told_as c (effect f c k).0 w) k (effect f c k).1
-ready None c w k = ready_act c w k
-ready (Some true) c w k = ready_hidden c w k
-ready (Some false) c w k = ready_still c w k
+ready_effect None c w k = ready_act c w k
+ready_effect (Some true) c w k = ready_hidden c w k
+ready_effect (Some false) c w k = ready_still c w k
 
 -- moves of a script are moves
 shifts : (n : ℕ) (after : Bool) (w : World) → Moves w.kernel (shift n after w).kernel
@@ -369,7 +369,7 @@ from_script s c a t l run ea et el =
     let u = with_kernel (failure_counted w) (effect (fate_of w) c w.kernel).1 in
     let r = (effect (fate_of w) c w.kernel).0 in
     let ok : Ready c (told_as c r (call_ended c r u)) w.kernel u.kernel =
-    ready (fate_of w) c (call_ended c r u) w.kernel in
+    ready_effect (fate_of w) c (call_ended c r u) w.kernel in
     follows_by c a r s u l run (subst (λ (b : Answer c). Ready c b w.kernel u.kernel) (sym ea) ok)
     (ap (λ (x : World). x.kernel) (sym et) ∙ el)
 

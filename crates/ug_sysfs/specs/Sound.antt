@@ -1,5 +1,5 @@
 -- The moves of a script keep a kernel sound.
-use Rattle.std.proofs.Common.{◌≡◌, ℕ, ◌+◌, ◌<◌, ◌≤◌, Bool, true, false, ◌||◌, cond, eqb, nat_lt, List, [], ◌∷◌, ◌++◌, length, take, drop, Option, Some, None, refl, sym, ◌∙◌, ap, subst, arith, inl, inr, length-append}
+use Rattle.std.proofs.Common.{◌≡◌, ℕ, ◌<◌, ◌≤◌, Bool, true, false, ◌||◌, cond, eqb, nat_lt, List, [], ◌∷◌, ◌++◌, length, take, drop, Option, Some, None, refl, sym, ◌∙◌, ap, subst, arith, inl, inr, length-append}
 use Rattle.std.proofs.lemmas.Bool.{or_parts, ltb-true}
 use Rattle.std.proofs.lemmas.List.{take-append-drop}
 use Rattle.std.proofs.lemmas.Option.{none-some, same_Some}
@@ -12,7 +12,7 @@ use Rattle.ug_kernel.proofs.Stayed.{live_count_begins}
 use Rattle.ug_kernel.proofs.Sounds.{sound_push, Kept, sound_fewer, kernel_moves}
 use Rattle.ug_sysfs.specs.declared.script.NewDevice.{NewDevice}
 use Rattle.ug_sysfs.specs.declared.script.Move.{Move}
-use Rattle.ug_sysfs.specs.declared.script.Move.TheVariants.{Plug, Unplug}
+use Rattle.ug_sysfs.specs.declared.script.Move.TheVariants.{Plug, Unplug, Iface}
 use Rattle.ug_sysfs.specs.declared.script.Scheduled.{Scheduled}
 use Rattle.ug_sysfs.specs.Devices.{hub_under, find, born_as, is_unplugged, felled, falls, fall, unplug_at, unplugged, born_under, placed, plug_at, plugged}
 use Rattle.ug_sysfs.specs.World.{moved, due, happen, happen_all}
@@ -130,6 +130,7 @@ sound_plug d ds s = roomy (nat_lt (live_count ds) 65536) refl
 sound_moved : (m : Move) (ds : List Device) → IsSound ds → IsSound (moved m ds)
 sound_moved (Plug d) ds s = sound_plug d ds s
 sound_moved (Unplug name) ds s = sound_unplug (find name 0 ds) ds s
+sound_moved (Iface change) ds s = s
 
 pub sound_happen : (n : ℕ) (after : Bool) (ms : List Scheduled) (ds : List Device) → IsSound ds
     → IsSound (happen n after ms ds).1

@@ -20,16 +20,22 @@ use Rattle.ug_kernel.specs.Kernel.{Kernel, has_file}
 use Rattle.ug_kernel.specs.Called.{read_of, written_to}
 use Rattle.ug_sysfs.specs.declared.script.Failing.{Failing}
 use Rattle.ug_sysfs.specs.declared.script.Move.{Move}
-use Rattle.ug_sysfs.specs.declared.script.Move.TheVariants.{Plug, Unplug}
+use Rattle.ug_sysfs.specs.declared.script.Move.TheVariants.{Plug, Unplug, Iface}
 use Rattle.ug_sysfs.specs.declared.script.Scheduled.{Scheduled}
 use Rattle.ug_kernel.specs.declared.record.CallRecord.{CallRecord}
+use Rattle.ug_iface.specs.declared.interface.Interface.{Interface}
 use Rattle.ug_sysfs.specs.Devices.{find, plugged, unplugged}
+use Rattle.ug_sysfs.specs.Interfaces.{iface_moved, adds_in}
 use Rattle.ug_sysfs.specs.Reply.{Reply, failing_reply, is_failure, is_failed, IsMemory, calls_listed}
 
--- what is still to come, which calls fail, the event's calls, and whether an entry of the log or of
--- these calls found no memory
+-- devices, and interfaces with their held files and the log of those that were switched off; what
+-- is still to come, which calls fail, the event's calls, and whether an entry of a log or of these
+-- calls found no memory
 pub record World : Type 0 where
   pub kernel : Kernel
+  pub interfaces : List Interface
+  pub iface_files : List ℕ
+  pub iface_log : List ℕ
   pub moves : List Scheduled
   pub fails : List Failing
   pub halted : Bool
@@ -45,6 +51,13 @@ one_fault_more n = cond (nat_lt n (2 ^ 64 - 1)) (n + 1) n
 abbrev pub moved : Move → List Device → List Device
 moved (Plug d) ds = plugged d ds
 moved (Unplug name) ds = unplugged name ds
+moved (Iface change) ds = ds
+
+-- an interface goes with its device by itself
+abbrev pub ifaces_moved : Move → List Device → List Interface → List Interface
+ifaces_moved (Plug d) ds xs = xs
+ifaces_moved (Unplug name) ds xs = xs
+ifaces_moved (Iface change) ds xs = iface_moved change ds xs
 
 -- whether a move has its turn, before the effect of call n or after it
 abbrev pub due : ℕ → Bool → Scheduled → Bool
@@ -65,14 +78,38 @@ abbrev pub happen_all : List Scheduled → List Device → List Device
 happen_all [] ds = ds
 happen_all (m ∷ ms) ds = happen_all ms (moved m.action ds)
 
+-- what the same moves leave of the interfaces
+abbrev pub ifaces_happen : ℕ → Bool → List Scheduled → List Device → List Interface
+    → List Interface
+ifaces_happen n after [] ds xs = xs
+ifaces_happen n after (m ∷ ms) ds xs =
+    cond (due n after m)
+    (ifaces_happen n after ms (moved m.action ds) (ifaces_moved m.action ds xs)) xs
+
+abbrev pub ifaces_happen_all : List Scheduled → List Device → List Interface → List Interface
+ifaces_happen_all [] ds xs = xs
+ifaces_happen_all (m ∷ ms) ds xs =
+    ifaces_happen_all ms (moved m.action ds) (ifaces_moved m.action ds xs)
+
 abbrev pub plugs_of : Move → ℕ
 plugs_of (Plug d) = 1
 plugs_of (Unplug name) = 0
+plugs_of (Iface change) = 0
 
 -- how many devices are still to be born, at most
 abbrev pub plugs : List Scheduled → ℕ
 plugs [] = 0
 plugs (m ∷ ms) = plugs_of m.action + plugs ms
+
+abbrev pub iface_adds_of : Move → ℕ
+iface_adds_of (Plug d) = 0
+iface_adds_of (Unplug name) = 0
+iface_adds_of (Iface change) = adds_in change
+
+-- how many interfaces are still to be added, at most
+abbrev pub iface_adds : List Scheduled → ℕ
+iface_adds [] = 0
+iface_adds (m ∷ ms) = iface_adds_of m.action + iface_adds ms
 
 -- whether call n fails, and then whether it has its effect. The last line counts
 abbrev pub fate : ℕ → Option Bool → List Failing → Option Bool
@@ -172,6 +209,7 @@ effect (Some b) call k = (failing_reply call, cond b (hidden call k) k)
 abbrev pub shift : ℕ → Bool → World → World
 shift n after w = record w {
   kernel = record w.kernel { devices = (happen n after w.moves w.kernel.devices).1 };
+  interfaces = ifaces_happen n after w.moves w.kernel.devices w.interfaces;
   moves = (happen n after w.moves w.kernel.devices).0;
   calls = n;
 }
@@ -317,10 +355,18 @@ event_begun w = record w { calls = 0; made = [] }
 abbrev pub halting : World → World
 halting w = record w { halted = true }
 
+-- the kernel did something by itself
+abbrev pub carried : Move → World → World
+carried action w = record w {
+  kernel = record w.kernel { devices = moved action w.kernel.devices };
+  interfaces = ifaces_moved action w.kernel.devices w.interfaces;
+}
+
 -- an event is over: what is still to come happens, and no call fails any more
 abbrev pub over : World → World
 over w = record w {
   kernel = record w.kernel { devices = happen_all w.moves w.kernel.devices };
+  interfaces = ifaces_happen_all w.moves w.kernel.devices w.interfaces;
   moves = [];
   fails = [];
   halted = false;

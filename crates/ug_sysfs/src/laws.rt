@@ -8,7 +8,10 @@ ghost use Rattle.ug_sysfs.specs.declared.script.NewDevice.{NewDevice};
 ghost use Rattle.ug_sysfs.specs.Devices.{plugged, unplugged};
 ghost use Rattle.ug_sysfs.specs.Birth.{CanBeBorn, IsBorn};
 ghost use Rattle.ug_sysfs.specs.Below.{IsFelled};
-ghost use Rattle.ug_sysfs.specs.World.{World, Gives, fate, over};
+ghost use Rattle.ug_sysfs.specs.World.{World, Gives, carried, fate, over};
+ghost use Rattle.ug_iface.specs.Bus.{IsSoundBus, MovesBus};
+ghost use Rattle.ug_sysfs.specs.declared.script.Move.{Move};
+ghost use Rattle.ug_sysfs.specs.Serving.{bus_in};
 
 /// A device is born wherever it can be, as the newest, and else nothing changes. It is a move, and keeps a kernel sound.
 pub fn plug_law()
@@ -39,6 +42,22 @@ pub fn event_law()
     ensures new { IsKernel (record { devices = []; held = []; log = [] }) }
     ensures moves { (w : World) → Moves w.kernel (over w).kernel }
     ensures sound { (w : World) → IsKernel w.kernel → IsKernel (over w).kernel }
+{}
+
+/// Whatever the kernel does by itself is a move of devices and interfaces together, and keeps them sound; so is what
+/// happens at an event's end. Without devices and interfaces they are sound.
+pub fn bus_law()
+    ensures new { IsSoundBus (record {
+      kernel = record { devices = []; held = []; log = [] };
+      interfaces = [];
+      files = [];
+      log = [];
+    }) }
+    ensures moves { (m : Move) (w : World) → MovesBus (bus_in w) (bus_in (carried m w)) }
+    ensures sound { (m : Move) (w : World) → IsSoundBus (bus_in w)
+        → IsSoundBus (bus_in (carried m w)) }
+    ensures over_moves { (w : World) → MovesBus (bus_in w) (bus_in (over w)) }
+    ensures over_sound { (w : World) → IsSoundBus (bus_in w) → IsSoundBus (bus_in (over w)) }
 {}
 
 /// A call fails where it is scheduled to. The last word on it counts.

@@ -2,6 +2,7 @@
 ghost use Rattle.std.specs.Prelude.{◌≡◌, ◌+◌, ◌≤◌, length, IfSome, OnOk, OnErr};
 ghost use Rattle.std.specs.List.{position};
 ghost use Rattle.ug_sysfs.specs.Queue as queue;
+ghost use Rattle.ug_sysfs.specs.World.{iface_adds, iface_adds_of, plugs, plugs_of};
 
 use crate::script::Scheduled;
 use std::collections::VecDeque;
@@ -44,10 +45,12 @@ fn place_for(moves: &VecDeque<Scheduled>, action: &Scheduled) -> usize
 }
 
 /// Puts a move in front of those that come later.
-#[tactic(auto, using(crate::proofs::Plugs::length_with))]
+#[tactic(auto, using(crate::proofs::Plugs::plugs_with, crate::proofs::Plugs::adds_with))]
 pub fn put_in(moves: &mut VecDeque<Scheduled>, action: Scheduled) -> Result<(), NoMemory>
     ensures ok { OnOk result (moves.new.items ≡ queue.with_move action moves.old.items) }
-    ensures more { length moves.new.items ≤ length moves.old.items + 1 }
+    ensures room { plugs moves.new.items ≤ plugs_of action.action + plugs moves.old.items }
+    ensures places { iface_adds moves.new.items
+        ≤ iface_adds_of action.action + iface_adds moves.old.items }
     ensures err { OnErr result (moves.new.items ≡ moves.old.items) }
 {
     let at = place_for(moves, &action);

@@ -1,18 +1,53 @@
 // What a script has in store.
-ghost use Rattle.std.specs.Prelude.{◌≡◌, ◌+◌, ◌≤◌, []};
+ghost use Rattle.std.specs.Prelude.{◌≡◌, ◌+◌, ◌≤◌, [], IfOk};
 ghost use Rattle.ug_kernel.specs.Kernel.{live_count};
-ghost use Rattle.ug_sysfs.specs.World.{moved, plugs_of, first_is_due, happen, happen_all, plugs, one_fault_more};
+ghost use Rattle.ug_sysfs.specs.World.{moved, ifaces_moved, plugs_of, iface_adds_of, first_is_due, happen, happen_all, ifaces_happen, ifaces_happen_all, plugs, iface_adds, one_fault_more};
 
+use crate::beside::move_iface;
 use crate::census::Census;
+use crate::interfaces::Interfaces;
 use crate::parent::plug;
 use crate::script::{Move, Scheduled};
 use std::collections::VecDeque;
+use ug_types::NoMemory;
 
-fn carry_out(census: &mut Census, action: Move)
+/// Makes room for what is scheduled, and for one move more.
+#[tactic(auto, using(crate::proofs::Plugs::plugs_le, crate::proofs::Plugs::adds_le))]
+pub fn make_room(
+    census: &mut Census,
+    interfaces: &mut Interfaces,
+    moves: &VecDeque<Scheduled>,
+    action: &Move,
+) -> Result<(), NoMemory>
+    requires room { plugs moves.now.items ≤ census.old.room }
+    requires places { iface_adds moves.now.items ≤ interfaces.old.room }
+    ensures devices { census.new.devices ≡ census.old.devices }
+    ensures interfaces { interfaces.new.interfaces ≡ interfaces.old.interfaces }
+    ensures room { plugs moves.now.items ≤ census.new.room }
+    ensures places { iface_adds moves.now.items ≤ interfaces.new.room }
+    ensures more_room { IfOk result
+        (λ done. plugs_of action.now + plugs moves.now.items ≤ census.new.room) }
+    ensures more_places { IfOk result
+        (λ done. iface_adds_of action.now + iface_adds moves.now.items ≤ interfaces.new.room) }
+{
+    let room = moves.len().saturating_add(1);
+    match action {
+        Move::Plug(_) => census.reserve(room),
+        Move::Unplug(_) => census.reserve(room),
+        Move::Iface(_) => interfaces.reserve(room),
+    }
+}
+
+/// What the kernel does by itself. There is room for what comes.
+pub fn carry_out(census: &mut Census, interfaces: &mut Interfaces, action: Move)
     requires room { plugs_of action ≤ census.old.room }
+    requires places { iface_adds_of action ≤ interfaces.old.room }
     requires few { live_count census.old.devices ≤ 65536 }
     ensures devices { census.new.devices ≡ moved action census.old.devices }
+    ensures interfaces { interfaces.new.interfaces
+        ≡ ifaces_moved action census.old.devices interfaces.old.interfaces }
     ensures room { census.old.room ≤ census.new.room + plugs_of action }
+    ensures places { interfaces.old.room ≤ interfaces.new.room + iface_adds_of action }
     ensures few { live_count census.new.devices ≤ 65536 }
 {
     match action {
@@ -22,6 +57,7 @@ fn carry_out(census: &mut Census, action: Move)
                 census.unplug(i);
             }
         }
+        Move::Iface(change) => move_iface(census, interfaces, change),
     }
 }
 
@@ -35,32 +71,46 @@ fn is_due(moves: &VecDeque<Scheduled>, call: u64, after: bool) -> bool
 }
 
 /// The moves whose turn has come.
-pub fn happen(census: &mut Census, moves: &mut VecDeque<Scheduled>, call: u64, after: bool)
+pub fn happen(
+    census: &mut Census,
+    interfaces: &mut Interfaces,
+    moves: &mut VecDeque<Scheduled>,
+    call: u64,
+    after: bool,
+)
     requires room { plugs moves.old.items ≤ census.old.room }
+    requires places { iface_adds moves.old.items ≤ interfaces.old.room }
     requires few { live_count census.old.devices ≤ 65536 }
     ensures happened { (moves.new.items, census.new.devices)
         ≡ happen call after moves.old.items census.old.devices }
+    ensures interfaces { interfaces.new.interfaces
+        ≡ ifaces_happen call after moves.old.items census.old.devices
+        interfaces.old.interfaces }
     ensures room { plugs moves.new.items ≤ census.new.room }
+    ensures places { iface_adds moves.new.items ≤ interfaces.new.room }
     ensures few { live_count census.new.devices ≤ 65536 }
 {
     while is_due(moves, call, after) {
         match moves.pop_front() {
-            Some(next) => carry_out(census, next.action),
+            Some(next) => carry_out(census, interfaces, next.action),
             None => return,
         }
     }
 }
 
 /// All moves that are still to come.
-pub fn happen_all(census: &mut Census, moves: &mut VecDeque<Scheduled>)
+pub fn happen_all(census: &mut Census, interfaces: &mut Interfaces, moves: &mut VecDeque<Scheduled>)
     requires room { plugs moves.old.items ≤ census.old.room }
+    requires places { iface_adds moves.old.items ≤ interfaces.old.room }
     requires few { live_count census.old.devices ≤ 65536 }
     ensures devices { census.new.devices ≡ happen_all moves.old.items census.old.devices }
+    ensures interfaces { interfaces.new.interfaces
+        ≡ ifaces_happen_all moves.old.items census.old.devices interfaces.old.interfaces }
     ensures moves { moves.new.items ≡ [] }
     ensures few { live_count census.new.devices ≤ 65536 }
 {
     while let Some(next) = moves.pop_front() {
-        carry_out(census, next.action);
+        carry_out(census, interfaces, next.action);
     }
 }
 

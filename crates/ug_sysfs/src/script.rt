@@ -1,5 +1,6 @@
 // What is scheduled.
-use ug_types::{NodeName, Text};
+use ug_iface::IfaceName;
+use ug_types::{NodeName, Text, Triple};
 
 /// A device that is still to be born.
 #[derive(Drop)]
@@ -13,6 +14,25 @@ pub struct NewDevice {
     pub on: bool,
 }
 
+/// An interface that is still to be added.
+#[derive(Clone, Copy)]
+pub struct NewIface {
+    pub name: IfaceName,
+    pub triple: Triple,
+    /// The value of `authorized` that it starts with.
+    pub on: bool,
+}
+
+/// What becomes of an interface by itself.
+#[derive(Clone, Copy)]
+pub enum IfaceMove {
+    /// It is added to the live device of its name. Nothing happens if there is none, if it has configuration 0, if it
+    /// is there, or if 1,024 interfaces of that device are.
+    Add(NewIface),
+    /// The live interface of that name goes. Nothing happens if there is none.
+    Remove(IfaceName),
+}
+
 /// What the kernel does by itself.
 #[derive(Drop)]
 pub enum Move {
@@ -20,6 +40,8 @@ pub enum Move {
     Plug(NewDevice),
     /// The live device of that name goes, and what is below it.
     Unplug(NodeName),
+    /// An interface comes or goes.
+    Iface(IfaceMove),
 }
 
 /// A move that is still to come.

@@ -7,32 +7,44 @@ ghost use Rattle.ug_kernel.specs.Few.{HasFew, AreDistinct};
 ghost use Rattle.ug_sysfs.specs.Law.{does_what_it_may, begins_afresh};
 ghost use Rattle.ug_sysfs.specs.Queue.{with_move};
 ghost use Rattle.ug_sysfs.specs.Noted.{notes_itself, begins_empty};
-ghost use Rattle.ug_sysfs.specs.World.{halting, moved, Gives, Effects, RunsOut, PutsWrite, Ends, Enters, event_begun, over, fate_of, failure_counted, told};
+ghost use Rattle.ug_iface.specs.Calls as iface_calls;
+ghost use Rattle.ug_iface.specs.Calls.{Names_of, Ask_device, Ask, Put_off, HasFewIfaces, AreOf, AreDistinctIfaces};
+ghost use Rattle.ug_sysfs.specs.Serving.{ServesIfaces, IfaceEffects, PutsOff, bus_in, bus_told, left, live_file};
+ghost use Rattle.ug_sysfs.specs.IfaceLaw.{does_so, keeps_ifaces, begins_so, tells_its_kernel};
+ghost use Rattle.ug_sysfs.specs.IfaceCount.{counts_ifaces};
+ghost use Rattle.ug_sysfs.specs.World.{halting, carried, Gives, Effects, RunsOut, PutsWrite, Ends, Enters, event_begun, over, fate_of, failure_counted, told};
 
+use crate::beside::{find_iface, live_iface};
 use crate::census::Census;
 use crate::devices::{live_held, read_file, with_file};
 use crate::failures::Failures;
+use crate::interfaces::Interfaces;
 use crate::kinds::{kind_of_listing, kind_of_opened, kind_of_probe, kind_of_read, kind_of_wrote};
 use crate::parent::plug;
 use crate::queue::put_in;
-use crate::schedule::{happen, happen_all, one_more};
+use crate::schedule::{carry_out, happen, happen_all, make_room, one_more};
 use crate::script::{Failing, Move, NewDevice, Scheduled};
 use std::alloc::Global;
 use std::collections::VecDeque;
 use std::marker::Model;
+use ug_iface::{IfaceHeld, IfaceListing, IfaceName, IfaceOpened, IfaceRead, Ifaces, Interface};
 use ug_kernel::{
     Asked, Attr, CallRecord, Control, Device, Effect, Held, HeldFile, Kind, Listing, Opened, Probe,
     ReadOut, Sysfs, Write, Wrote,
 };
 use ug_types::{NoMemory, NodeName};
 
-/// A kernel in memory. Its script fixes each answer, except where memory is refused. Where an entry of the log
-/// or of the calls finds no memory, it runs out: its calls fail from then on, and it tells no kernel.
+/// A kernel in memory, with the interfaces of its devices. Its script fixes each answer, except where memory is
+/// refused. Where an entry of a log or of the calls finds no memory, it runs out: its calls fail from then on, and
+/// it tells no kernel.
 #[derive(Drop)]
 pub struct SimKernel {
     census: Census,
     held: Vec<HeldFile>,
     log: Vec<Effect>,
+    interfaces: Interfaces,
+    iface_files: Vec<usize>,
+    iface_log: Vec<usize>,
     moves: VecDeque<Scheduled>,
     fails: Failures,
     halted: bool,
@@ -45,12 +57,15 @@ pub struct SimKernel {
 impl Model for SimKernel {
     ghost use Rattle.std.specs.Prelude.{◌≤◌};
     ghost use Rattle.ug_kernel.specs.Kernel.{live_count};
-    ghost use Rattle.ug_sysfs.specs.World.{World, plugs};
+    ghost use Rattle.ug_sysfs.specs.World.{World, plugs, iface_adds};
 
     ghost Value = { World };
 
     ghost view = { λ s. record {
       kernel = record { devices = s.census.devices; held = s.held.items; log = s.log.items };
+      interfaces = s.interfaces.interfaces;
+      iface_files = s.iface_files.items;
+      iface_log = s.iface_log.items;
       moves = s.moves.items;
       fails = s.fails;
       halted = s.halted;
@@ -60,8 +75,9 @@ impl Model for SimKernel {
       ran_out = s.ran_out;
     } };
 
-    // each plug that is scheduled has its room
+    // each device and each interface that is scheduled has its room
     ghost invariant = { λ s. (plugs s.moves.items ≤ s.census.room)
+        × (iface_adds s.moves.items ≤ s.interfaces.room)
         × (live_count s.census.devices ≤ 65536) };
 }
 
@@ -70,6 +86,9 @@ impl SimKernel {
     pub fn new(alloc: Global) -> SimKernel
         ensures { result ≡ record {
           kernel = record { devices = []; held = []; log = [] };
+          interfaces = [];
+          iface_files = [];
+          iface_log = [];
           moves = [];
           fails = [];
           halted = false;
@@ -83,6 +102,9 @@ impl SimKernel {
             census: Census::new(alloc),
             held: Vec::new(alloc),
             log: Vec::new(alloc),
+            interfaces: Interfaces::new(alloc),
+            iface_files: Vec::new(alloc),
+            iface_log: Vec::new(alloc),
             moves: VecDeque::new(alloc),
             fails: Failures::new(alloc),
             halted: false,
@@ -109,23 +131,14 @@ impl SimKernel {
         Ok(())
     }
 
-    /// What the kernel does by itself: a device is born, as by `plug`, or goes.
+    /// What the kernel does by itself: a device is born, as by `plug`, or goes; or an interface comes or goes.
     pub fn carry_out(&mut self, action: Move) -> Result<(), NoMemory>
-        ensures ok { OnOk result
-            (self.new
-            ≡ record self.old {
-              kernel = record self.old.kernel
-                  { devices = moved action self.old.kernel.devices };
-            }) }
+        ensures ok { OnOk result (self.new ≡ carried action self.old) }
         ensures err { OnErr result (self.new ≡ self.old) }
     {
-        match action {
-            Move::Plug(device) => self.plug(device),
-            Move::Unplug(name) => {
-                self.unplug(&name);
-                Ok(())
-            }
-        }
+        make_room(&mut self.census, &mut self.interfaces, &self.moves, &action)?;
+        carry_out(&mut self.census, &mut self.interfaces, action);
+        Ok(())
     }
 
     /// The live device of that name goes, and what is below it.
@@ -142,14 +155,13 @@ impl SimKernel {
 
     /// A move that is to come at a call of the event, before its effect or after it. Moves of one place happen in the
     /// order in which they are scheduled; one whose call is past happens at the next.
-    #[tactic(auto, using(crate::proofs::Plugs::plugs_le))]
     pub fn schedule(&mut self, call: u64, after: bool, action: Move) -> Result<(), NoMemory>
         ensures ok { OnOk result (self.new ≡ record self.old {
           moves = with_move (record { call = call; after = after; action = action }) self.old.moves;
         }) }
         ensures err { OnErr result (self.new ≡ self.old) }
     {
-        self.census.reserve(self.moves.len().saturating_add(1))?;
+        make_room(&mut self.census, &mut self.interfaces, &self.moves, &action)?;
         put_in(
             &mut self.moves,
             Scheduled {
@@ -176,7 +188,7 @@ impl SimKernel {
     pub fn end_event(&mut self)
         ensures { self.new ≡ over self.old }
     {
-        happen_all(&mut self.census, &mut self.moves);
+        happen_all(&mut self.census, &mut self.interfaces, &mut self.moves);
         self.fails.clear();
         self.halted = false;
     }
@@ -216,7 +228,21 @@ impl SimKernel {
         self.log.as_slice()
     }
 
-    /// The calls of the event, without closings.
+    /// All interfaces that were made.
+    pub fn interfaces(&self) -> &[Interface]
+        ensures { result.now ≡ self.now.interfaces }
+    {
+        self.interfaces.as_slice()
+    }
+
+    /// The places of the interfaces that were switched off, in order.
+    pub fn iface_log(&self) -> &[usize]
+        ensures { result.now ≡ self.now.iface_log }
+    {
+        self.iface_log.as_slice()
+    }
+
+    /// The calls of the event to the devices' files, without closings.
     pub fn made(&self) -> &[CallRecord]
         ensures { result.now ≡ self.now.made }
     {
@@ -232,15 +258,34 @@ impl SimKernel {
             self.faults = one_more(self.faults);
             return false;
         }
-        happen(&mut self.census, &mut self.moves, self.calls, false);
+        happen(
+            &mut self.census,
+            &mut self.interfaces,
+            &mut self.moves,
+            self.calls,
+            false,
+        );
         true
+    }
+
+    // The moves after a call's effect happen.
+    fn leave(&mut self)
+        ensures { self.new ≡ left self.old }
+    {
+        happen(
+            &mut self.census,
+            &mut self.interfaces,
+            &mut self.moves,
+            self.calls,
+            true,
+        );
     }
 
     // The moves after its effect happen, and the call is noted if there is memory for that.
     fn end(&mut self, asked: Asked, kind: Kind) -> bool
         ensures { Ends self.old (record { asked = asked; kind = kind }) result self.new }
     {
-        happen(&mut self.census, &mut self.moves, self.calls, true);
+        self.leave();
         match self.made.push(CallRecord { asked, kind }) {
             Ok(_) => true,
             Err(_) => {
@@ -370,6 +415,138 @@ impl SimKernel {
             },
         }
     }
+
+    fn list_ifaces_now(&mut self, alloc: Global, name: &NodeName) -> IfaceListing
+        ensures effects { IfaceEffects self.old (Names_of name.now) result self.new }
+        ensures few { HasFewIfaces result }
+        ensures named { AreOf name.now result }
+        ensures distinct { AreDistinctIfaces result }
+    {
+        match self.fate() {
+            Some(_) => IfaceListing::Failed,
+            None => match self.census.find(name) {
+                Some(device) => match self.interfaces.names(alloc, device, name) {
+                    Ok(names) => IfaceListing::Names(names),
+                    Err(_) => IfaceListing::Memory,
+                },
+                None => IfaceListing::Absent,
+            },
+        }
+    }
+
+    fn open_iface_now(&mut self, name: &IfaceName) -> IfaceOpened
+        ensures { IfaceEffects self.old (iface_calls.Open name.now) result self.new }
+    {
+        match self.fate() {
+            Some(_) => IfaceOpened::Failed,
+            None => match find_iface(&self.census, &self.interfaces, name) {
+                Some(place) => {
+                    let number = self.iface_files.len() as u64;
+                    match self.iface_files.push(place) {
+                        Ok(_) => IfaceOpened::Token(IfaceHeld(number)),
+                        Err(_) => IfaceOpened::Memory,
+                    }
+                }
+                None => IfaceOpened::Absent,
+            },
+        }
+    }
+
+    fn read_iface_now(&mut self, name: &IfaceName) -> IfaceRead
+        ensures { IfaceEffects self.old (iface_calls.Read name.now) result self.new }
+    {
+        match self.fate() {
+            Some(_) => IfaceRead::Failed,
+            None => match find_iface(&self.census, &self.interfaces, name) {
+                Some(place) => match self.interfaces.as_slice().get(place) {
+                    Some(interface) => IfaceRead::Is(interface.triple),
+                    None => IfaceRead::Absent,
+                },
+                None => IfaceRead::Absent,
+            },
+        }
+    }
+
+    fn probe_device_now(&mut self, held: Held) -> Probe
+        ensures { IfaceEffects self.old (Ask_device held.0) result self.new }
+    {
+        match self.fate() {
+            Some(_) => Probe::Failed,
+            None => match live_held(self.census.devices(), &self.held, held.0 as usize) {
+                Some(i) => match self.census.devices().get(i) {
+                    Some(device) => Probe::Alive(device.on),
+                    None => Probe::Gone,
+                },
+                None => Probe::Gone,
+            },
+        }
+    }
+
+    // The place of the interface of a held file, where it is live.
+    fn held_iface(&self, held: IfaceHeld) -> Option<usize>
+        ensures { result ≡ live_file held.0 (bus_in self.now) }
+    {
+        live_iface(
+            self.census.devices(),
+            self.interfaces.as_slice(),
+            &self.iface_files,
+            held.0 as usize,
+        )
+    }
+
+    fn probe_iface_now(&mut self, held: IfaceHeld) -> Probe
+        ensures { IfaceEffects self.old (Ask held.0) result self.new }
+    {
+        match self.fate() {
+            Some(_) => Probe::Failed,
+            None => match self.held_iface(held) {
+                Some(place) => match self.interfaces.as_slice().get(place) {
+                    Some(interface) => Probe::Alive(interface.on),
+                    None => Probe::Gone,
+                },
+                None => Probe::Gone,
+            },
+        }
+    }
+
+    // What switching off does where it has its effect. There may be no memory for its entry.
+    fn put_off(&mut self, held: IfaceHeld) -> Option<Wrote>
+        ensures { MatchOption result (RunsOut self.old self.new)
+            (λ reply. PutsOff self.old held.0 reply self.new) }
+    {
+        match self.held_iface(held) {
+            Some(place) => match self.iface_log.push(place) {
+                Ok(_) => {
+                    self.interfaces.switch_off(place);
+                    Some(Wrote::Done)
+                }
+                Err(_) => {
+                    self.ran_out = true;
+                    None
+                }
+            },
+            None => Some(Wrote::Gone),
+        }
+    }
+
+    fn write_off_now(&mut self, held: IfaceHeld) -> Wrote
+        ensures { IfaceEffects self.old (Put_off held.0) result self.new }
+    {
+        match self.fate() {
+            Some(true) => {
+                let _ = self.put_off(held);
+                Wrote::Failed
+            }
+            Some(false) => Wrote::Failed,
+            None => match self.put_off(held) {
+                Some(answer) => answer,
+                None => {
+                    self.faults = one_more(self.faults);
+                    Wrote::Failed
+                }
+            },
+        }
+    }
 }
 
 impl Sysfs for SimKernel {
@@ -474,4 +651,76 @@ impl Sysfs for SimKernel {
     }
 
     fn close(&mut self, _held: Held) {}
+}
+
+impl Ifaces for SimKernel {
+    ghost serves = { ServesIfaces };
+
+    ghost bus = { bus_told };
+
+    ghost did_so = { does_so };
+
+    ghost kept_so = { keeps_ifaces };
+
+    ghost began_so = { begins_so };
+
+    ghost one_kernel = { tells_its_kernel };
+
+    ghost counts_so = { counts_ifaces };
+
+    fn list_ifaces(&mut self, alloc: Global, name: &NodeName) -> IfaceListing {
+        if !self.enter() {
+            return IfaceListing::Failed;
+        }
+        let answer = self.list_ifaces_now(alloc, name);
+        self.leave();
+        answer
+    }
+
+    fn open_iface(&mut self, alloc: Global, name: &IfaceName) -> IfaceOpened {
+        if !self.enter() {
+            return IfaceOpened::Failed;
+        }
+        let answer = self.open_iface_now(name);
+        self.leave();
+        answer
+    }
+
+    fn read_iface(&mut self, name: &IfaceName) -> IfaceRead {
+        if !self.enter() {
+            return IfaceRead::Failed;
+        }
+        let answer = self.read_iface_now(name);
+        self.leave();
+        answer
+    }
+
+    fn probe_device(&mut self, held: Held) -> Probe {
+        if !self.enter() {
+            return Probe::Failed;
+        }
+        let answer = self.probe_device_now(held);
+        self.leave();
+        answer
+    }
+
+    fn probe_iface(&mut self, held: IfaceHeld) -> Probe {
+        if !self.enter() {
+            return Probe::Failed;
+        }
+        let answer = self.probe_iface_now(held);
+        self.leave();
+        answer
+    }
+
+    fn write_off(&mut self, held: IfaceHeld) -> Wrote {
+        if !self.enter() {
+            return Wrote::Failed;
+        }
+        let answer = self.write_off_now(held);
+        self.leave();
+        answer
+    }
+
+    fn close_iface(&mut self, _held: IfaceHeld) {}
 }

@@ -6,6 +6,9 @@ use Rattle.ug_sysfs.specs.World.{World}
 abbrev pub new_world : World
 new_world = record {
   kernel = record { devices = []; held = []; log = [] };
+  interfaces = [];
+  iface_files = [];
+  iface_log = [];
   moves = [];
   fails = [];
   halted = false;
