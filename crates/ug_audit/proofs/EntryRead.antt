@@ -1,16 +1,13 @@
 -- What is printed of an entry is read back from its line.
-use Rattle.std.proofs.Common.{◌≡◌, ℕ, ◌<◌, ◌^◌, Bool, true, nat_eq, nat_lt, List, [], ◌∷◌, ◌++◌, get_or, take, drop, refl, sym, ap, ◌∙◌, append_assoc, arith}
+use Rattle.std.proofs.Common.{◌≡◌, ℕ, ◌<◌, ◌^◌, Bool, true, nat_eq, List, [], ◌∷◌, ◌++◌, get_or, drop, refl, sym, ap, ◌∙◌, append_assoc, arith}
 use Rattle.std.specs.Prelude.{codes, decimal, if◌then◌else◌, Ok, Err}
 use Rattle.std.specs.Cmp.Lexicographic.{pointwise}
 use Rattle.std.specs.Str.Parse.{digits_value}
-use Rattle.std.specs.List.{list_all}
-use Rattle.std.proofs.lemmas.Bool.{and_parts}
-use Rattle.std.proofs.lemmas.Bool.Decides.{nat_tests}
 use Rattle.std.proofs.lemmas.List.{append-nil}
 use Rattle.ug_types.specs.Elements.{Has}
 use Rattle.ug_types.specs.NodeNames.{IsNodeName}
 use Rattle.ug_parameter.specs.Parameters.{inserted_word, parameter_name, parameter_set, value_word}
-use Rattle.ug_types.specs.Principals.{is_name_byte, principal_text}
+use Rattle.ug_types.specs.Principals.{principal_text}
 use Rattle.ug_refusal.specs.Refusals.{refusal_words}
 use Rattle.ug_types.specs.declared.saved.Saved.{Saved}
 use Rattle.ug_types.specs.declared.saved.Saved.TheVariants as saved
@@ -39,7 +36,7 @@ use Rattle.ug_audit.specs.declared.entry.ConfigPart.TheVariants as part
 use Rattle.ug_audit.specs.declared.entry.Entry.{Entry}
 use Rattle.ug_audit.specs.declared.entry.Entry.TheVariants as entry
 use Rattle.ug_audit.specs.Lines.{and_words, write_word, wrote_word, saved_word, change_word, part_word, cause_words, fault_words, entry_line}
-use Rattle.ug_audit.specs.Printed.{IsCause, IsUnsettling, IsConfigPart, IsEntry, as_printed}
+use Rattle.ug_audit.specs.Printed.{IsCause, IsUnsettling, IsEntry, as_printed}
 
 -- ---- a line and its words
 
@@ -98,11 +95,7 @@ parameter_read name value =
     parameter.InsertedDevicePolicy (inserted_read value)
 
 abbrev part_read : List ℕ → ConfigPart
-part_read word =
-    if same_word word (codes "settings") then part.Settings else
-    if same_word word (codes "folder") then part.Folder else
-    if same_word (take 7 word) (codes "folder/") then part.FolderFile (drop 7 word) else
-    if same_word word (codes "rules") then part.Rules else part.Access
+part_read word = if same_word word (codes "settings") then part.Settings else if same_word word (codes "rules") then part.Rules else part.Access
 
 abbrev cause_read : List (List ℕ) → Cause
 cause_read words =
@@ -181,20 +174,11 @@ parameter_back : (p : Parameter) → AllGraphic (parameter_name (parameter_set p
 parameter_back (parameter.ImplicitPolicyTarget to) = ((refl, ((target_back to).0, tt)), ap parameter.ImplicitPolicyTarget (target_back to).1)
 parameter_back (parameter.InsertedDevicePolicy to) = ((refl, ((inserted_back to).0, tt)), ap parameter.InsertedDevicePolicy (inserted_back to).1)
 
-graphic_byte : (b : ℕ) → is_name_byte b ≡ true → nat_lt 32 b ≡ true
-graphic_byte b h = grind (arith, nat_tests)
-
-graphic_name : (name : List ℕ) → list_all is_name_byte name ≡ true → is_graphic name ≡ true
-graphic_name [] h = refl
-graphic_name (b ∷ name) h = let s = and_parts (is_name_byte b) (list_all is_name_byte name) h in rw (graphic_byte b s.0) (graphic_name name s.1)
-
-part_back : (p : ConfigPart) → IsConfigPart p → (is_graphic (part_word p) ≡ true) × (part_read (part_word p) ≡ p)
+part_back : (p : ConfigPart) → (is_graphic (part_word p) ≡ true) × (part_read (part_word p) ≡ p)
 unfolding part_word
-part_back part.Settings h = (refl, refl)
-part_back part.Folder h = (refl, refl)
-part_back (part.FolderFile name) h = (graphic_name name h, refl)
-part_back part.Rules h = (refl, refl)
-part_back part.Access h = (refl, refl)
+part_back part.Settings = (refl, refl)
+part_back part.Rules = (refl, refl)
+part_back part.Access = (refl, refl)
 
 byte_number : (n : ℕ) → n < 256 → n < 2 ^ 64
 byte_number n h = omega (arith, h)
@@ -287,10 +271,9 @@ entry_back (entry.End number) h =
 entry_back (entry.UnusedKey line) h =
     read_as (codes "note") (codes "unused-key" ∷ decimal line ∷ []) (entry.UnusedKey line) refl (refl, (number_graphic line h, tt)) (ap entry.UnusedKey (number_back line h))
 entry_back (entry.StartRefused what line kind place) h =
-    let k = byte_number kind h.2 in
-    let back = part_back what h.0 in
-    read_as (codes "start-refused") (part_word what ∷ decimal line ∷ decimal kind ∷ decimal place ∷ []) (entry.StartRefused what line kind place) refl (back.0, (number_graphic line h.1, (number_graphic kind k, (number_graphic place h.3, tt))))
-    (λ i. entry.StartRefused (back.1 i) (number_back line h.1 i) (number_back kind k i) (number_back place h.3 i))
+    let k = byte_number kind h.1 in
+    read_as (codes "start-refused") (part_word what ∷ decimal line ∷ decimal kind ∷ decimal place ∷ []) (entry.StartRefused what line kind place) refl ((part_back what).0, (number_graphic line h.0, (number_graphic kind k, (number_graphic place h.2, tt))))
+    (λ i. entry.StartRefused ((part_back what).1 i) (number_back line h.0 i) (number_back kind k i) (number_back place h.2 i))
 
 pub one_entry : (a b : Entry) → IsEntry a → IsEntry b → entry_line a ≡ entry_line b → as_printed a ≡ as_printed b
 one_entry a b h k e = sym (entry_back a h).0 ∙ ap (λ (line : List ℕ). entry_read (split_words line)) e ∙ (entry_back b k).0

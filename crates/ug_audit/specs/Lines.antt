@@ -50,8 +50,6 @@ change_word change.Changed = codes "changed"
 
 unfoldable pub part_word : ConfigPart → List ℕ
 part_word part.Settings = codes "settings"
-part_word part.Folder = codes "folder"
-part_word (part.FolderFile name) = codes "folder/" ++ name
 part_word part.Rules = codes "rules"
 part_word part.Access = codes "access"
 

@@ -1,16 +1,13 @@
 -- Which entries there are, and what of an entry is printed.
 use Rattle.std.specs.Prelude.{ℕ, ◌<◌, ◌^◌, IsTrue, Ok, Err}
-use Rattle.std.specs.List.{list_all}
 use Rattle.ug_types.specs.NodeNames.{IsNodeName}
-use Rattle.ug_types.specs.Principals.{is_name, is_name_byte}
+use Rattle.ug_types.specs.Principals.{is_name}
 use Rattle.ug_refusal.specs.Refusals.{IsRefusal}
 use Rattle.ug_types.specs.declared.saved.Saved.TheVariants as saved
 use Rattle.ug_types.specs.declared.verdict.Cause.{Cause}
 use Rattle.ug_types.specs.declared.verdict.Cause.TheVariants as cause
 use Rattle.ug_audit.specs.declared.entry.Fault.{Fault}
 use Rattle.ug_audit.specs.declared.entry.Fault.TheVariants as fault
-use Rattle.ug_audit.specs.declared.entry.ConfigPart.{ConfigPart}
-use Rattle.ug_audit.specs.declared.entry.ConfigPart.TheVariants as part
 use Rattle.ug_audit.specs.declared.entry.Entry.{Entry}
 use Rattle.ug_audit.specs.declared.entry.Entry.TheVariants as entry
 
@@ -26,13 +23,6 @@ IsCause (cause.Order who) = IsTrue (is_name who.name)
 abbrev pub IsUnsettling : Fault → Type 0
 IsUnsettling (fault.Call failed) = (failed.call < 2 ^ 64) × (failed.count < 2 ^ 64)
 IsUnsettling fault.Memory = Unit {0}
-
-abbrev pub IsConfigPart : ConfigPart → Type 0
-IsConfigPart part.Settings = Unit {0}
-IsConfigPart part.Folder = Unit {0}
-IsConfigPart (part.FolderFile name) = IsTrue (list_all is_name_byte name)
-IsConfigPart part.Rules = Unit {0}
-IsConfigPart part.Access = Unit {0}
 
 -- the numbers, names and principals that an entry can have: each value of the type is so
 abbrev pub IsEntry : Entry → Type 0
@@ -54,8 +44,8 @@ IsEntry (entry.Reply (Err refusal)) = IsRefusal refusal
 IsEntry (entry.Dropped member) = member < 256
 IsEntry (entry.End number) = number < 2 ^ 64
 IsEntry (entry.UnusedKey line) = line < 2 ^ 64
-IsEntry (entry.StartRefused what line kind place) =
-    IsConfigPart what × (line < 2 ^ 64) × (kind < 256) × (place < 2 ^ 64)
+IsEntry (entry.StartRefused part line kind place) =
+    (line < 2 ^ 64) × (kind < 256) × (place < 2 ^ 64)
 
 -- the held file of a verdict and the count of a failed save aren't printed: the entry with 0 in
 -- their place

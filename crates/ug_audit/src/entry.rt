@@ -1,5 +1,4 @@
 // What the daemon notes of an event.
-use crate::file_name::FileName;
 use ug_kernel::{FailedCall, Held, Write, Wrote};
 use ug_parameter::Parameter;
 use ug_refusal::Refusal;
@@ -20,15 +19,10 @@ pub enum RuleChange {
     Changed,
 }
 
-/// A part of the daemon's configuration: usbguard-daemon.conf(5), usbguard-rules.conf(5), the folder of rules, and the files that grant
-/// access.
+/// A part of the daemon's configuration: usbguard-daemon.conf(5), usbguard-rules.conf(5), and the files that grant access.
 #[derive(Clone, Copy, Debug, PartialEq, Eq)]
 pub enum ConfigPart {
     Settings,
-    /// The folder of rules, as a whole.
-    Folder,
-    /// A file of the folder of rules.
-    FolderFile(FileName),
     Rules,
     Access,
 }

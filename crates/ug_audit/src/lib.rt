@@ -4,7 +4,6 @@
 mod auditor;
 mod entries;
 mod entry;
-mod file_name;
 mod journal;
 mod laws;
 mod lines;
@@ -14,7 +13,6 @@ mod text_auditor;
 pub use auditor::{Auditor, Noted};
 pub use entries::Entries;
 pub use entry::{ConfigPart, Entry, Fault, RuleChange};
-pub use file_name::FileName;
 pub use journal::Journal;
 pub use laws::{entries_law, noted_law};
 pub use lines::line_of;

@@ -83,20 +83,14 @@ fn word_of_change(change: RuleChange) -> &'static [u8]
 }
 
 #[tactic(auto, unfolding(crate::specs::Lines::part_word))]
-fn text_of_part(part: ConfigPart) -> Line
-    ensures text { result ≡ part_word part }
-    ensures length { length result ≤ 262 }
+fn word_of_part(part: ConfigPart) -> &'static [u8]
+    ensures text { result.now ≡ part_word part }
+    ensures length { length result.now ≤ 8 }
 {
     match part {
-        ConfigPart::Settings => Line::of(b"settings"),
-        ConfigPart::Folder => Line::of(b"folder"),
-        ConfigPart::FolderFile(name) => {
-            let mut line = Line::of(b"folder/");
-            line.push(name.bytes());
-            line
-        }
-        ConfigPart::Rules => Line::of(b"rules"),
-        ConfigPart::Access => Line::of(b"access"),
+        ConfigPart::Settings => b"settings",
+        ConfigPart::Rules => b"rules",
+        ConfigPart::Access => b"access",
     }
 }
 
@@ -288,8 +282,7 @@ fn line_of_start_refused(part: ConfigPart, number: u64, kind: u8, place: u64) ->
         (part_word part ∷ decimal number ∷ decimal kind ∷ decimal place ∷ []) }
 {
     let mut line = Line::of(b"start-refused");
-    let what = text_of_part(part);
-    line.push_word(what.bytes());
+    line.push_word(word_of_part(part));
     line.push_number(number);
     line.push_number(kind as u64);
     line.push_number(place);
