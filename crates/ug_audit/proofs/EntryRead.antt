@@ -1,9 +1,6 @@
 -- What is printed of an entry is read back from its line.
-use Rattle.std.proofs.Common.{◌≡◌, ℕ, ◌<◌, ◌^◌, Bool, true, nat_eq, List, [], ◌∷◌, ◌++◌, get_or, drop, refl, sym, ap, ◌∙◌, append_assoc, arith}
+use Rattle.std.proofs.Common.{◌≡◌, ℕ, Bool, true, false, List, [], ◌∷◌, drop, refl, sym, ap, ◌∙◌}
 use Rattle.std.specs.Prelude.{codes, decimal, if◌then◌else◌, Ok, Err}
-use Rattle.std.specs.Cmp.Lexicographic.{pointwise}
-use Rattle.std.specs.Str.Parse.{digits_value}
-use Rattle.std.proofs.lemmas.List.{append-nil}
 use Rattle.ug_types.specs.Elements.{Has}
 use Rattle.ug_types.specs.NodeNames.{IsNodeName}
 use Rattle.ug_parameter.specs.Parameters.{inserted_word, parameter_name, parameter_set, value_word}
@@ -24,52 +21,20 @@ use Rattle.ug_kernel.specs.declared.control.Write.{Write}
 use Rattle.ug_kernel.specs.declared.control.Write.TheVariants as write
 use Rattle.ug_types.proofs.NameWords.{node_graphic, node_no_star, principal_graphic, principal_read, principal_back}
 use Rattle.ug_refusal.proofs.RefusalRead.{number_back, refusal_read, refusal_first, refusal_back, refusal_on_line}
-use Rattle.ug_types.proofs.SpacedWords.{is_graphic, is_line, split_words, split_one, split_then, graphic_line, both_lines, line_no_newline, number_graphic}
+use Rattle.ug_types.proofs.SpacedWords.{is_graphic, is_line, split_words, line_no_newline, number_graphic}
 use Rattle.ug_kernel.specs.declared.calls.Wrote.{Wrote}
 use Rattle.ug_kernel.specs.declared.calls.Wrote.TheVariants as wrote
 use Rattle.ug_audit.specs.declared.entry.Fault.{Fault}
 use Rattle.ug_audit.specs.declared.entry.Fault.TheVariants as fault
 use Rattle.ug_audit.specs.declared.entry.RuleChange.{RuleChange}
 use Rattle.ug_audit.specs.declared.entry.RuleChange.TheVariants as change
-use Rattle.ug_audit.specs.declared.entry.ConfigPart.{ConfigPart}
-use Rattle.ug_audit.specs.declared.entry.ConfigPart.TheVariants as part
 use Rattle.ug_audit.specs.declared.entry.Entry.{Entry}
 use Rattle.ug_audit.specs.declared.entry.Entry.TheVariants as entry
-use Rattle.ug_audit.specs.Lines.{and_words, write_word, wrote_word, saved_word, change_word, part_word, cause_words, fault_words, entry_line}
+use Rattle.ug_audit.specs.Lines.{and_words, write_word, wrote_word, saved_word, change_word, cause_words, fault_words, entry_line}
+use Rattle.ug_audit.proofs.LineWords.{AllGraphic, same_word, nth, nth_number, byte_number, told_of_words, is_one_line}
 use Rattle.ug_audit.specs.Printed.{IsCause, IsUnsettling, IsEntry, as_printed}
 
--- ---- a line and its words
-
-abbrev AllGraphic : List (List ℕ) → Type 0
-AllGraphic [] = Unit {0}
-AllGraphic (word ∷ words) = (is_graphic word ≡ true) × AllGraphic words
-
-abbrev behind : List (List ℕ) → List ℕ
-behind [] = []
-behind (word ∷ words) = 32 ∷ (word ++ behind words)
-
-words_behind : (text : List ℕ) (words : List (List ℕ)) → and_words text words ≡ text ++ behind words
-words_behind text [] = sym (append-nil text)
-words_behind text (word ∷ words) = words_behind (text ++ 32 ∷ word) words ∙ append_assoc text (32 ∷ word) (behind words)
-
-split_behind : (word : List ℕ) (words : List (List ℕ)) → is_graphic word ≡ true → AllGraphic words → split_words (word ++ behind words) ≡ word ∷ words
-split_behind word [] g h = ap split_words (append-nil word) ∙ split_one word g
-split_behind word (next ∷ words) g h = split_then word (next ++ behind words) g ∙ ap (λ (ws : List (List ℕ)). word ∷ ws) (split_behind next words h.0 h.1)
-
-line_behind : (word : List ℕ) (words : List (List ℕ)) → is_graphic word ≡ true → AllGraphic words → is_line (word ++ behind words) ≡ true
-line_behind word [] g h = ap is_line (append-nil word) ∙ graphic_line word g
-line_behind word (next ∷ words) g h = both_lines word (32 ∷ (next ++ behind words)) (graphic_line word g) (line_behind next words h.0 h.1)
-
 -- ---- the entry of a line's words
-
-abbrev same_word : List ℕ → List ℕ → Bool
-same_word a b = pointwise nat_eq a b
-
-abbrev nth : List (List ℕ) → ℕ → List ℕ
-nth words i = get_or words i []
-
-abbrev nth_number : List (List ℕ) → ℕ → ℕ
-nth_number words i = digits_value 10 (get_or words i [])
 
 abbrev target_read : List ℕ → Target
 target_read word = if same_word word (codes "allow") then target.Allow else if same_word word (codes "block") then target.Block else target.Reject
@@ -93,9 +58,6 @@ abbrev parameter_read : List ℕ → List ℕ → Parameter
 parameter_read name value =
     if same_word name (codes "ImplicitPolicyTarget") then parameter.ImplicitPolicyTarget (target_read value) else
     parameter.InsertedDevicePolicy (inserted_read value)
-
-abbrev part_read : List ℕ → ConfigPart
-part_read word = if same_word word (codes "settings") then part.Settings else if same_word word (codes "rules") then part.Rules else part.Access
 
 abbrev cause_read : List (List ℕ) → Cause
 cause_read words =
@@ -134,9 +96,11 @@ entry_read words =
     if same_word (nth words 0) (codes "parameter") then entry.Parameter (parameter_read (nth words 1) (nth words 2)) else
     if same_word (nth words 0) (codes "reply") then reply_read words else
     if same_word (nth words 0) (codes "dropped") then entry.Dropped (nth_number words 1) else
-    if same_word (nth words 0) (codes "end") then entry.End (nth_number words 1) else
-    if same_word (nth words 0) (codes "note") then entry.UnusedKey (nth_number words 2) else
-    entry.StartRefused (part_read (nth words 1)) (nth_number words 2) (nth_number words 3) (nth_number words 4)
+    entry.End (nth_number words 1)
+
+-- whether the words are those of an entry of the start
+abbrev pub tells_start : List (List ℕ) → Bool
+tells_start words = if same_word (nth words 0) (codes "note") then true else same_word (nth words 0) (codes "start-refused")
 
 -- ---- each word is read back
 
@@ -174,15 +138,6 @@ parameter_back : (p : Parameter) → AllGraphic (parameter_name (parameter_set p
 parameter_back (parameter.ImplicitPolicyTarget to) = ((refl, ((target_back to).0, tt)), ap parameter.ImplicitPolicyTarget (target_back to).1)
 parameter_back (parameter.InsertedDevicePolicy to) = ((refl, ((inserted_back to).0, tt)), ap parameter.InsertedDevicePolicy (inserted_back to).1)
 
-part_back : (p : ConfigPart) → (is_graphic (part_word p) ≡ true) × (part_read (part_word p) ≡ p)
-unfolding part_word
-part_back part.Settings = (refl, refl)
-part_back part.Rules = (refl, refl)
-part_back part.Access = (refl, refl)
-
-byte_number : (n : ℕ) → n < 256 → n < 2 ^ 64
-byte_number n h = omega (arith, h)
-
 cause_back : (c : Cause) → IsCause c → AllGraphic (cause_words c) × (cause_read (cause_words c) ≡ c)
 unfolding cause_words
 cause_back (cause.Rule id) h = ((refl, (number_graphic id h, tt)), ap cause.Rule (number_back id h))
@@ -206,22 +161,20 @@ fault_back fault.Memory h = ((refl, tt), refl)
 -- ---- each line
 
 abbrev IsReadAs : List ℕ → Entry → Type 0
-IsReadAs line e = (entry_read (split_words line) ≡ e) × (is_line line ≡ true)
+IsReadAs line e = (entry_read (split_words line) ≡ e) × (is_line line ≡ true) × (tells_start (split_words line) ≡ false)
 
-read_as : (word : List ℕ) (words : List (List ℕ)) (e : Entry) → is_graphic word ≡ true → AllGraphic words → entry_read (word ∷ words) ≡ e → IsReadAs (and_words word words) e
-read_as word words e g h r = (
-  ap (λ (line : List ℕ). entry_read (split_words line)) (words_behind word words) ∙ ap entry_read (split_behind word words g h) ∙ r,
-  ap is_line (words_behind word words) ∙ line_behind word words g h,
-)
+read_as : (word : List ℕ) (words : List (List ℕ)) (e : Entry) → (is_graphic word ≡ true) × (tells_start (word ∷ words) ≡ false) → AllGraphic words → entry_read (word ∷ words) ≡ e → IsReadAs (and_words word words) e
+read_as word words e g h r =
+    (told_of_words entry_read word words g.0 h ∙ r, is_one_line word words g.0 h, told_of_words tells_start word words g.0 h ∙ g.1)
 
 abbrev read_saved : Saved → Entry
 read_saved became = as_printed (entry.Save became)
 
 save_back : (became : Saved) → IsReadAs (entry_line (entry.Save became)) (read_saved became)
 unfolding entry_line saved_word
-save_back saved.Done = (refl, refl)
-save_back (saved.Failed count) = (refl, refl)
-save_back saved.Memory = (refl, refl)
+save_back saved.Done = (refl, refl, refl)
+save_back (saved.Failed count) = (refl, refl, refl)
+save_back saved.Memory = (refl, refl, refl)
 
 unsettled_back : (name : List ℕ) (why : Fault) → IsNodeName name → IsUnsettling why → entry_read (codes "unsettled" ∷ name ∷ fault_words why) ≡ entry.Unsettled name why
 unsettled_back name why n h = rw (node_no_star name n) (ap (entry.Unsettled name) (fault_back why h).1)
@@ -229,54 +182,52 @@ unsettled_back name why n h = rw (node_no_star name n) (ap (entry.Unsettled name
 entry_back : (e : Entry) → IsEntry e → IsReadAs (entry_line e) (as_printed e)
 unfolding entry_line
 entry_back (entry.Event number moment) h =
-    read_as (codes "event") (decimal number ∷ codes "sweep" ∷ decimal moment.0 ∷ []) (entry.Event number moment) refl (number_graphic number h.0, (refl, (number_graphic moment.0 h.1, tt)))
+    read_as (codes "event") (decimal number ∷ codes "sweep" ∷ decimal moment.0 ∷ []) (entry.Event number moment) (refl, refl) (number_graphic number h.0, (refl, (number_graphic moment.0 h.1, tt)))
     (λ i. entry.Event (number_back number h.0 i) (record { 0 = number_back moment.0 h.1 i }))
 entry_back (entry.Order number moment who) h =
-    read_as (codes "event") (decimal number ∷ codes "order" ∷ decimal moment.0 ∷ principal_text who ∷ []) (entry.Order number moment who) refl (number_graphic number h.0, (refl, (number_graphic moment.0 h.1, (principal_graphic who h.2, tt))))
+    read_as (codes "event") (decimal number ∷ codes "order" ∷ decimal moment.0 ∷ principal_text who ∷ []) (entry.Order number moment who) (refl, refl) (number_graphic number h.0, (refl, (number_graphic moment.0 h.1, (principal_graphic who h.2, tt))))
     (λ i. entry.Order (number_back number h.0 i) (record { 0 = number_back moment.0 h.1 i }) (principal_back who h.2 i))
 entry_back (entry.Save became) h = save_back became
 entry_back (entry.Judged number name held verdict why) h =
-    read_as (codes "judged") (decimal number ∷ name ∷ target_word verdict ∷ cause_words why) (entry.Judged number name (record { 0 = 0 }) verdict why) refl (number_graphic number h.0, (node_graphic name h.1, ((target_back verdict).0, (cause_back why h.2).0)))
+    read_as (codes "judged") (decimal number ∷ name ∷ target_word verdict ∷ cause_words why) (entry.Judged number name (record { 0 = 0 }) verdict why) (refl, refl) (number_graphic number h.0, (node_graphic name h.1, ((target_back verdict).0, (cause_back why h.2).0)))
     (λ i. entry.Judged (number_back number h.0 i) name (record { 0 = 0 }) ((target_back verdict).1 i) ((cause_back why h.2).1 i))
 entry_back (entry.Intent number name what) h =
-    read_as (codes "intent") (decimal number ∷ name ∷ write_word what ∷ []) (entry.Intent number name what) refl (number_graphic number h.0, (node_graphic name h.1, ((write_back what).0, tt)))
+    read_as (codes "intent") (decimal number ∷ name ∷ write_word what ∷ []) (entry.Intent number name what) (refl, refl) (number_graphic number h.0, (node_graphic name h.1, ((write_back what).0, tt)))
     (λ i. entry.Intent (number_back number h.0 i) name ((write_back what).1 i))
 entry_back (entry.Wrote number name what outcome) h =
-    read_as (codes "wrote") (decimal number ∷ name ∷ write_word what ∷ wrote_word outcome ∷ []) (entry.Wrote number name what outcome) refl (number_graphic number h.0, (node_graphic name h.1, ((write_back what).0, ((wrote_back outcome).0, tt))))
+    read_as (codes "wrote") (decimal number ∷ name ∷ write_word what ∷ wrote_word outcome ∷ []) (entry.Wrote number name what outcome) (refl, refl) (number_graphic number h.0, (node_graphic name h.1, ((write_back what).0, ((wrote_back outcome).0, tt))))
     (λ i. entry.Wrote (number_back number h.0 i) name ((write_back what).1 i) ((wrote_back outcome).1 i))
 entry_back (entry.Gone number name) h =
-    read_as (codes "gone") (decimal number ∷ name ∷ []) (entry.Gone number name) refl (number_graphic number h.0, (node_graphic name h.1, tt))
+    read_as (codes "gone") (decimal number ∷ name ∷ []) (entry.Gone number name) (refl, refl) (number_graphic number h.0, (node_graphic name h.1, tt))
     (λ i. entry.Gone (number_back number h.0 i) name)
 entry_back (entry.Unsettled name why) h =
-    read_as (codes "unsettled") (name ∷ fault_words why) (entry.Unsettled name why) refl (node_graphic name h.0, (fault_back why h.1).0) (unsettled_back name why h.0 h.1)
+    read_as (codes "unsettled") (name ∷ fault_words why) (entry.Unsettled name why) (refl, refl) (node_graphic name h.0, (fault_back why h.1).0) (unsettled_back name why h.0 h.1)
 entry_back (entry.UnsettledAll why) h =
-    read_as (codes "unsettled") (codes "*" ∷ fault_words why) (entry.UnsettledAll why) refl (refl, (fault_back why h).0) (ap entry.UnsettledAll (fault_back why h).1)
+    read_as (codes "unsettled") (codes "*" ∷ fault_words why) (entry.UnsettledAll why) (refl, refl) (refl, (fault_back why h).0) (ap entry.UnsettledAll (fault_back why h).1)
 entry_back (entry.Rules done id) h =
-    read_as (codes "rules") (change_word done ∷ decimal id ∷ []) (entry.Rules done id) refl ((change_back done).0, (number_graphic id h, tt))
+    read_as (codes "rules") (change_word done ∷ decimal id ∷ []) (entry.Rules done id) (refl, refl) ((change_back done).0, (number_graphic id h, tt))
     (λ i. entry.Rules ((change_back done).1 i) (number_back id h i))
 entry_back (entry.Parameter set) h =
-    read_as (codes "parameter") (parameter_name (parameter_set set) ∷ value_word set ∷ []) (entry.Parameter set) refl (parameter_back set).0 (ap entry.Parameter (parameter_back set).1)
-entry_back (entry.Reply (Ok done)) h = (refl, refl)
+    read_as (codes "parameter") (parameter_name (parameter_set set) ∷ value_word set ∷ []) (entry.Parameter set) (refl, refl) (parameter_back set).0 (ap entry.Parameter (parameter_back set).1)
+entry_back (entry.Reply (Ok done)) h = (refl, refl, refl)
 entry_back (entry.Reply (Err refusal)) h =
     let words = split_words (refusal_words refusal) in (
       ap (λ (w : List ℕ). if same_word w (codes "ok") then entry.Reply (Ok tt) else entry.Reply (Err (refusal_read words))) (refusal_first refusal)
           ∙ ap (λ r. entry.Reply (Err r)) (refusal_back refusal h),
       refusal_on_line refusal h,
+      refl,
     )
 entry_back (entry.Dropped member) h =
     let k = byte_number member h in
-    read_as (codes "dropped") (decimal member ∷ []) (entry.Dropped member) refl (number_graphic member k, tt) (ap entry.Dropped (number_back member k))
+    read_as (codes "dropped") (decimal member ∷ []) (entry.Dropped member) (refl, refl) (number_graphic member k, tt) (ap entry.Dropped (number_back member k))
 entry_back (entry.End number) h =
-    read_as (codes "end") (decimal number ∷ []) (entry.End number) refl (number_graphic number h, tt) (ap entry.End (number_back number h))
-entry_back (entry.UnusedKey line) h =
-    read_as (codes "note") (codes "unused-key" ∷ decimal line ∷ []) (entry.UnusedKey line) refl (refl, (number_graphic line h, tt)) (ap entry.UnusedKey (number_back line h))
-entry_back (entry.StartRefused what line kind place) h =
-    let k = byte_number kind h.1 in
-    read_as (codes "start-refused") (part_word what ∷ decimal line ∷ decimal kind ∷ decimal place ∷ []) (entry.StartRefused what line kind place) refl ((part_back what).0, (number_graphic line h.0, (number_graphic kind k, (number_graphic place h.2, tt))))
-    (λ i. entry.StartRefused ((part_back what).1 i) (number_back line h.0 i) (number_back kind k i) (number_back place h.2 i))
+    read_as (codes "end") (decimal number ∷ []) (entry.End number) (refl, refl) (number_graphic number h, tt) (ap entry.End (number_back number h))
 
 pub one_entry : (a b : Entry) → IsEntry a → IsEntry b → entry_line a ≡ entry_line b → as_printed a ≡ as_printed b
 one_entry a b h k e = sym (entry_back a h).0 ∙ ap (λ (line : List ℕ). entry_read (split_words line)) e ∙ (entry_back b k).0
 
 pub entry_on_line : (e : Entry) → IsEntry e → ¬ Has (entry_line e) 10
 entry_on_line e h = line_no_newline (entry_line e) (entry_back e h).1
+
+pub entry_not_start : (e : Entry) → IsEntry e → tells_start (split_words (entry_line e)) ≡ false
+entry_not_start e h = (entry_back e h).2

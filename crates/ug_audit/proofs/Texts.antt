@@ -38,7 +38,7 @@ took_line true false line m n h = absurd h
 took_line false false line m n h = (h.0, h.1.0)
 took_line false true line m n h = (h.0.0, h.0.1, h.0.2, h.0.3, h.1.0, h.2)
 
-took_all_line : (line : List ℕ) (ms ns : List Member) → NotesAll line ms ns → TookAll (line ++ 10 ∷ []) ms ns
+pub took_all_line : (line : List ℕ) (ms ns : List Member) → NotesAll line ms ns → TookAll (line ++ 10 ∷ []) ms ns
 took_all_line line [] [] h = tt
 took_all_line line [] (n ∷ ns) h = absurd h
 took_all_line line (m ∷ ms) [] h = absurd h
@@ -62,7 +62,7 @@ took_both false true true xs ys l m n h k =
     subst (λ (x : Member). TookAs false true (xs ++ ys) l x) (sym k)
     (h.0, h.1 ++ ys, ap (λ (t : List ℕ). t ++ ys) h.2 ∙ append_assoc h.0 h.1 ys, h.3, h.4, h.5)
 
-took_all_both : (xs ys : List ℕ) (ls ms ns : List Member) → TookAll xs ls ms → TookAll ys ms ns → TookAll (xs ++ ys) ls ns
+pub took_all_both : (xs ys : List ℕ) (ls ms ns : List Member) → TookAll xs ls ms → TookAll ys ms ns → TookAll (xs ++ ys) ls ns
 took_all_both xs ys [] [] [] h k = tt
 took_all_both xs ys [] [] (n ∷ ns) h k = absurd k
 took_all_both xs ys [] (m ∷ ms) ns h k = absurd h
@@ -71,7 +71,7 @@ took_all_both xs ys (l ∷ ls) (m ∷ ms) [] h k = absurd k
 took_all_both xs ys (l ∷ ls) (m ∷ ms) (n ∷ ns) h k =
     (took_both l.dropped m.dropped n.dropped xs ys l m n h.0 k.0, took_all_both xs ys ls ms ns h.1 k.1)
 
-took_each : (due : List ℕ) (es : List Entry) (before : List Member) (later : List ℕ) (after : List Member) → NotesEach due es before later after → TookAll (entries_text es) before after
+pub took_each : (due : List ℕ) (es : List Entry) (before : List Member) (later : List ℕ) (after : List Member) → NotesEach due es before later after → TookAll (entries_text es) before after
 took_each due [] before later after h = subst (λ (ms : List Member). TookAll [] before ms) (sym h.1) (took_none before)
 took_each due (e ∷ es) before later after h =
     took_all_both (entry_line e ++ 10 ∷ []) (entries_text es) before h.0 after (took_all_line (entry_line e) before h.0 h.2) (took_each (due_behind due (newly_dropped 0 before h.0)) es h.0 later after h.3)
@@ -81,7 +81,7 @@ took_entries es before after h = took_each [] es before [] after h
 
 -- ---- where no member is left
 
-empty : (xs : List ℕ) → length xs ≡ 0 → xs ≡ []
+pub empty : (xs : List ℕ) → length xs ≡ 0 → xs ≡ []
 empty [] h = refl
 empty (x ∷ xs) h = absurd (omega (arith, h))
 

@@ -1,5 +1,5 @@
 -- What auditors are given and take.
-use Rattle.std.specs.Prelude.{◌≡◌, ℕ, ◌+◌, List, [], ◌∷◌, ◌++◌, Option, Some, None}
+use Rattle.std.specs.Prelude.{◌≡◌, ℕ, List, [], ◌∷◌, ◌++◌, Option, Some, None}
 use Rattle.std.specs.Io.KnownBytes.{Appends}
 use Rattle.ug_audit.specs.declared.auditor.Noted.{Noted}
 use Rattle.ug_audit.specs.declared.auditor.Noted.TheVariants as noted

@@ -1,4 +1,4 @@
--- The journal's lines, without their newlines.
+-- The journal's lines of events, without their newlines.
 use Rattle.std.specs.Prelude.{ℕ, List, [], ◌∷◌, ◌++◌, Ok, Err, codes, decimal}
 use Rattle.ug_parameter.specs.Parameters.{parameter_name, parameter_set, value_word}
 use Rattle.ug_types.specs.Principals.{principal_text}
@@ -16,8 +16,6 @@ use Rattle.ug_audit.specs.declared.entry.Fault.{Fault}
 use Rattle.ug_audit.specs.declared.entry.Fault.TheVariants as fault
 use Rattle.ug_audit.specs.declared.entry.RuleChange.{RuleChange}
 use Rattle.ug_audit.specs.declared.entry.RuleChange.TheVariants as change
-use Rattle.ug_audit.specs.declared.entry.ConfigPart.{ConfigPart}
-use Rattle.ug_audit.specs.declared.entry.ConfigPart.TheVariants as part
 use Rattle.ug_audit.specs.declared.entry.Entry.{Entry}
 use Rattle.ug_audit.specs.declared.entry.Entry.TheVariants as entry
 
@@ -47,11 +45,6 @@ unfoldable pub change_word : RuleChange → List ℕ
 change_word change.Added = codes "added"
 change_word change.Removed = codes "removed"
 change_word change.Changed = codes "changed"
-
-unfoldable pub part_word : ConfigPart → List ℕ
-part_word part.Settings = codes "settings"
-part_word part.Rules = codes "rules"
-part_word part.Access = codes "access"
 
 unfoldable pub cause_words : Cause → List (List ℕ)
 cause_words (cause.Rule id) = codes "rule" ∷ decimal id ∷ []
@@ -90,8 +83,3 @@ entry_line (entry.Reply (Ok done)) = and_words (codes "reply") (codes "ok" ∷ [
 entry_line (entry.Reply (Err refusal)) = and_words (codes "reply") (refusal_words refusal ∷ [])
 entry_line (entry.Dropped member) = and_words (codes "dropped") (decimal member ∷ [])
 entry_line (entry.End number) = and_words (codes "end") (decimal number ∷ [])
-entry_line (entry.UnusedKey line) =
-    and_words (codes "note") (codes "unused-key" ∷ decimal line ∷ [])
-entry_line (entry.StartRefused what line kind place) =
-    and_words (codes "start-refused")
-    (part_word what ∷ decimal line ∷ decimal kind ∷ decimal place ∷ [])

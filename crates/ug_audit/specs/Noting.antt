@@ -2,7 +2,9 @@
 use Rattle.std.specs.Prelude.{◌≡◌, ℕ, Bool, true, false, List, [], ◌∷◌, ◌++◌, if◌then◌else◌}
 use Rattle.ug_audit.specs.declared.entry.Entry.{Entry}
 use Rattle.ug_audit.specs.declared.entry.Entry.TheVariants as entry
+use Rattle.ug_audit.specs.declared.start_entry.StartEntry.{StartEntry}
 use Rattle.ug_audit.specs.Lines.{entry_line}
+use Rattle.ug_audit.specs.StartLines.{start_line}
 use Rattle.ug_audit.specs.Panels.{Member, NotesAll, newly_dropped}
 
 abbrev pub tells_drop : Entry → Bool
@@ -36,3 +38,18 @@ NotesEach due (e ∷ es) before later after =
 -- the same, where no `dropped` entry is still to come, at the start and at the end
 abbrev pub NotesEntries : List Entry → List Member → List Member → Type 0
 NotesEntries es before after = NotesEach [] es before [] after
+
+-- the line is noted by the members that aren't dropped, and behind it stand `dropped` entries
+-- alone, one for each member that fails at it or at such an entry
+pub record NotesLine (line : List ℕ) (before after : List Member) : Type 0 where
+  pub failing : List Member
+  pub noted : NotesAll line before failing
+  pub drops : List Entry
+  pub alone : without_drops drops ≡ []
+  pub behind : NotesEach (newly_dropped 0 before failing) drops failing [] after
+
+-- each entry of the start, one after another
+abbrev pub NotesStart : List StartEntry → List Member → List Member → Type 0
+NotesStart [] before after = after ≡ before
+NotesStart (e ∷ es) before after =
+    (between : List Member) × NotesLine (start_line e) before between × NotesStart es between after

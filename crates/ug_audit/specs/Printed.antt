@@ -1,5 +1,5 @@
 -- Which entries there are, and what of an entry is printed.
-use Rattle.std.specs.Prelude.{ℕ, ◌<◌, ◌^◌, IsTrue, Ok, Err}
+use Rattle.std.specs.Prelude.{◌<◌, ◌^◌, IsTrue, Ok, Err}
 use Rattle.ug_types.specs.NodeNames.{IsNodeName}
 use Rattle.ug_types.specs.Principals.{is_name}
 use Rattle.ug_refusal.specs.Refusals.{IsRefusal}
@@ -43,9 +43,6 @@ IsEntry (entry.Reply (Ok done)) = Unit {0}
 IsEntry (entry.Reply (Err refusal)) = IsRefusal refusal
 IsEntry (entry.Dropped member) = member < 256
 IsEntry (entry.End number) = number < 2 ^ 64
-IsEntry (entry.UnusedKey line) = line < 2 ^ 64
-IsEntry (entry.StartRefused part line kind place) =
-    (line < 2 ^ 64) × (kind < 256) × (place < 2 ^ 64)
 
 -- the held file of a verdict and the count of a failed save aren't printed: the entry with 0 in
 -- their place

@@ -19,15 +19,7 @@ pub enum RuleChange {
     Changed,
 }
 
-/// A part of the daemon's configuration: usbguard-daemon.conf(5), usbguard-rules.conf(5), and the files that grant access.
-#[derive(Clone, Copy, Debug, PartialEq, Eq)]
-pub enum ConfigPart {
-    Settings,
-    Rules,
-    Access,
-}
-
-/// One line of the journal.
+/// One line of the journal, behind those of the start.
 #[derive(Clone, Copy)]
 pub enum Entry {
     /// A sweep begins.
@@ -94,16 +86,5 @@ pub enum Entry {
     /// The event ends.
     End {
         number: u64,
-    },
-    /// At the start: that line of the settings has a key that isn't used.
-    UnusedKey {
-        line: u64,
-    },
-    /// At the start this part was refused, by its first bad line. All three numbers are 0 if the part as a whole was refused.
-    StartRefused {
-        part: ConfigPart,
-        line: u64,
-        kind: u8,
-        place: u64,
     },
 }

@@ -1,5 +1,5 @@
 // What is noted of an event, while it goes on.
-ghost use Rattle.std.specs.Prelude.{◌≡◌, ◌≤◌, ◌<◌, ◌+◌, ◌++◌, ◌∷◌, [], false, MatchOption, OnOk, OnErr};
+ghost use Rattle.std.specs.Prelude.{◌≡◌, ◌≤◌, ◌<◌, ◌+◌, ◌++◌, ◌∷◌, [], false, OnOk, OnErr};
 ghost use Rattle.arrayvec.specs.ArrayVec.{array_vec_len};
 ghost use Rattle.ug_audit.specs.Lines.{entry_line};
 ghost use Rattle.ug_audit.specs.Panels.{NotesAll, newly_dropped};
@@ -7,7 +7,7 @@ ghost use Rattle.ug_audit.specs.Panels.{NotesAll, newly_dropped};
 use crate::entries::Entries;
 use crate::entry::Entry;
 use crate::lines::line_of;
-use crate::panel::Panel;
+use crate::panel::{Panel, take_first};
 use arrayvec::ArrayVec;
 use ug_types::NoMemory;
 
@@ -17,16 +17,6 @@ use ug_types::NoMemory;
 pub struct Journal<'a> {
     panel: &'a mut Panel,
     entries: &'a mut Entries,
-}
-
-/// Takes the first of the members that are due.
-fn take_first(due: &mut ArrayVec<u8, 64>) -> Option<u8>
-    ensures { MatchOption result (due.old.items ≡ []) (λ i. due.old.items ≡ i ∷ due.new.items) }
-{
-    if due.is_empty() {
-        return None;
-    }
-    Some(due.remove(0))
 }
 
 impl<'a> Journal<'a> {

@@ -1,9 +1,11 @@
 // What the lines of entries come to.
-ghost use Rattle.std.specs.Prelude.{◌≡◌, List, ◌++◌};
+ghost use Rattle.std.specs.Prelude.{◌≡◌, ℕ, List, [], ◌∷◌, ◌++◌};
 ghost use Rattle.ug_types.specs.Elements.{Has};
 ghost use Rattle.ug_audit.specs.declared.entry.Entry.{Entry};
+ghost use Rattle.ug_audit.specs.declared.start_entry.StartEntry.{StartEntry};
 ghost use Rattle.ug_audit.specs.Lines.{entry_line};
-ghost use Rattle.ug_audit.specs.Noting.{NotesEntries, without_drops};
+ghost use Rattle.ug_audit.specs.StartLines.{IsStartEntry, start_line};
+ghost use Rattle.ug_audit.specs.Noting.{NotesEntries, NotesLine, without_drops};
 ghost use Rattle.ug_audit.specs.Panels.{Member, live};
 ghost use Rattle.ug_audit.specs.Texts.{TookAll, entries_text};
 ghost use Rattle.ug_audit.specs.Printed.{IsEntry, as_printed};
@@ -26,4 +28,22 @@ pub fn noted_law()
     ensures behind { (es more : List Entry) (before between after : List Member)
         → NotesEntries es before between
         → NotesEntries more between after → NotesEntries (es ++ more) before after }
+{}
+
+/// No entry of the start has the line of another, or of an entry of an event. It is one line.
+pub fn start_entries_law()
+    ensures one { (a b : StartEntry) → IsStartEntry a → IsStartEntry b → start_line a ≡ start_line b
+        → a ≡ b }
+    ensures apart { (a : StartEntry) (e : Entry) → IsStartEntry a → IsEntry e
+        → ¬ (start_line a ≡ entry_line e) }
+    ensures line { (a : StartEntry) → IsStartEntry a → ¬ Has (start_line a) 10 }
+{}
+
+/// What the members of a panel took of a line and the `dropped` entries behind it. Where no member is left there are none of these.
+pub fn start_noted_law()
+    ensures texts { (line : List ℕ) (before after : List Member) (h : NotesLine line before after)
+        → TookAll ((line ++ 10 ∷ []) ++ entries_text h.drops) before after }
+    ensures none { (line : List ℕ) (before after : List Member) (h : NotesLine line before after)
+        → live before ≡ 0
+        → h.drops ≡ [] }
 {}

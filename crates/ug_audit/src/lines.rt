@@ -1,13 +1,13 @@
 // The text of an entry.
 ghost use Rattle.std.specs.Prelude.{◌≡◌, ◌≤◌, ◌<◌, ◌+◌, ◌++◌, [], ◌∷◌, length, codes, decimal};
-ghost use Rattle.ug_audit.specs.Lines.{and_words, cause_words, change_word, entry_line, fault_words, part_word, saved_word, wrote_word};
+ghost use Rattle.ug_audit.specs.Lines.{and_words, cause_words, change_word, entry_line, fault_words, saved_word, wrote_word};
 ghost use Rattle.ug_audit.specs.Lines as lines;
 ghost use Rattle.ug_parameter.specs.Parameters.{parameter_name, parameter_set, value_word};
 ghost use Rattle.ug_types.specs.Principals.{principal_text};
 ghost use Rattle.ug_refusal.specs.Refusals.{refusal_words};
 ghost use Rattle.ug_types.specs.Targets.{target_word};
 
-use crate::entry::{ConfigPart, Entry, Fault, RuleChange};
+use crate::entry::{Entry, Fault, RuleChange};
 use ug_kernel::{Write, Wrote};
 use ug_parameter::Parameter;
 use ug_refusal::Refusal;
@@ -79,18 +79,6 @@ fn word_of_change(change: RuleChange) -> &'static [u8]
         RuleChange::Added => b"added",
         RuleChange::Removed => b"removed",
         RuleChange::Changed => b"changed",
-    }
-}
-
-#[tactic(auto, unfolding(crate::specs::Lines::part_word))]
-fn word_of_part(part: ConfigPart) -> &'static [u8]
-    ensures text { result.now ≡ part_word part }
-    ensures length { length result.now ≤ 8 }
-{
-    match part {
-        ConfigPart::Settings => b"settings",
-        ConfigPart::Rules => b"rules",
-        ConfigPart::Access => b"access",
     }
 }
 
@@ -268,27 +256,6 @@ fn of_number(word: &[u8], number: u64) -> Line
     line
 }
 
-fn line_of_unused(number: u64) -> Line
-    ensures { result ≡ and_words (codes "note") (codes "unused-key" ∷ decimal number ∷ []) }
-{
-    let mut line = Line::of(b"note");
-    line.push_word(b"unused-key");
-    line.push_number(number);
-    line
-}
-
-fn line_of_start_refused(part: ConfigPart, number: u64, kind: u8, place: u64) -> Line
-    ensures { result ≡ and_words (codes "start-refused")
-        (part_word part ∷ decimal number ∷ decimal kind ∷ decimal place ∷ []) }
-{
-    let mut line = Line::of(b"start-refused");
-    line.push_word(word_of_part(part));
-    line.push_number(number);
-    line.push_number(kind as u64);
-    line.push_number(place);
-    line
-}
-
 /// The line of an entry in the journal, without a newline. It takes no memory.
 #[tactic(auto, unfolding(crate::specs::Lines::entry_line))]
 pub fn line_of(entry: &Entry) -> Line
@@ -329,12 +296,5 @@ pub fn line_of(entry: &Entry) -> Line
         Entry::Reply(Err(refusal)) => line_of_refusal(refusal),
         Entry::Dropped { member } => of_number(b"dropped", *member as u64),
         Entry::End { number } => of_number(b"end", *number),
-        Entry::UnusedKey { line } => line_of_unused(*line),
-        Entry::StartRefused {
-            part,
-            line,
-            kind,
-            place,
-        } => line_of_start_refused(*part, *line, *kind, *place),
     }
 }

@@ -1,11 +1,17 @@
 // The auditors of a journal.
-ghost use Rattle.std.specs.Prelude.{◌≡◌, ◌≤◌, ◌<◌, ◌+◌, ◌++◌, ◌^◌, false, length, replicate, slice_get, Some};
+ghost use Rattle.std.specs.Prelude.{◌≡◌, ◌≤◌, ◌<◌, ◌+◌, ◌++◌, ◌∷◌, [], ◌^◌, false, length, replicate, slice_get, MatchOption, Some};
 ghost use Rattle.std.specs.Option.{option_copied};
 ghost use Rattle.arrayvec.specs.ArrayVec.{array_vec_len};
 ghost use Rattle.ug_audit.specs.Auditors.{IsTextTaken};
+ghost use Rattle.ug_audit.specs.Noting.{NotesLine};
+ghost use Rattle.ug_audit.specs.StartLines.{start_line};
 ghost use Rattle.ug_audit.specs.Panels.{TakesAs, is_newly, live_of, newly, newly_dropped, one_live, NotesAll, members_of, dropped_between};
 
 use crate::auditor::{Auditor, Noted};
+use crate::entry::Entry;
+use crate::lines::line_of;
+use crate::start_entry::StartEntry;
+use crate::start_lines::line_of_start;
 use arrayvec::ArrayVec;
 
 /// At most 64 auditors, each of which is given each line until it fails.
@@ -77,6 +83,16 @@ fn give_all(
     failed as u64 + 2 * later
 }
 
+/// Takes the first of the members that are due.
+pub(crate) fn take_first(due: &mut ArrayVec<u8, 64>) -> Option<u8>
+    ensures { MatchOption result (due.old.items ≡ []) (λ i. due.old.items ≡ i ∷ due.new.items) }
+{
+    if due.is_empty() {
+        return None;
+    }
+    Some(due.remove(0))
+}
+
 fn text_of(auditor: &Box<dyn Auditor>) -> Option<&[u8]>
     ensures { IsTextTaken (option_copied result) (text auditor.now) }
 {
@@ -131,6 +147,19 @@ impl Panel {
             0,
             due,
         )
+    }
+
+    /// Gives an entry of the start to each member that isn't dropped, and behind it a `dropped` entry for each that fails at its line or
+    /// at the line of such an entry, in the order in which they fail. It takes no memory.
+    pub fn note_start(&mut self, entry: &StartEntry)
+        ensures { NotesLine (start_line entry.now) (members Auditor-box self.old)
+            (members Auditor-box self.new) }
+    {
+        let mut due = ArrayVec::new();
+        self.give_line(line_of_start(entry).bytes(), &mut due);
+        while let Some(member) = take_first(&mut due) {
+            self.give_line(line_of(&Entry::Dropped { member }).bytes(), &mut due);
+        }
     }
 
     /// How many members there are.

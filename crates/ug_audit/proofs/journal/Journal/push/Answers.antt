@@ -1,5 +1,5 @@
 -- The entry is noted, and then each `dropped` entry that is due.
-use Rattle.std.proofs.Common.{ℕ, List, [], length, ap, ◌∙◌, arith}
+use Rattle.std.proofs.Common.{ℕ, List, length, ap, ◌∙◌, arith}
 use Rattle.ug_audit.proofs.Noting.{live_few}
 use Rattle.ug_audit.proofs.Pushing.{first_pushed, next_pushed, pushed_one}
 use Rattle.ug_audit.proofs.journal.Journal.push.Goals as goal

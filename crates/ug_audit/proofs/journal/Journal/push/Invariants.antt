@@ -1,5 +1,5 @@
 -- The entry and the `dropped` entries so far are noted, and there is a place for each that is due.
-use Rattle.std.proofs.Common.{◌≡◌, ℕ, ◌+◌, ◌≤◌, [], length}
+use Rattle.std.proofs.Common.{◌≡◌, ◌+◌, ◌≤◌, length}
 use Rattle.ug_audit.proofs.Pushing.{IsPushed}
 use Rattle.ug_audit.specs.Journal.{live_in}
 use Rattle.ug_audit.proofs.journal.Journal.push.Given as goal
