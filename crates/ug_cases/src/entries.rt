@@ -1,6 +1,8 @@
 // Entries of a journal and their lines.
 use std::alloc::Global;
-use ug_audit::{ConfigPart, Entry, Fault, FileName, RuleChange, line_of};
+use ug_audit::{
+    ConfigPart, Entry, Fault, FileName, RuleChange, StartEntry, line_of, line_of_start,
+};
 use ug_casefile::{Answer, number_of};
 use ug_conf::is_rule_file_name;
 use ug_kernel::{FailedCall, Held, Write, Wrote};
@@ -155,18 +157,18 @@ fn entry_of_order(words: &[&str]) -> Option<Entry> {
     }
 }
 
-fn entry_of_start(words: &[&str]) -> Option<Entry> {
+fn start_entry(words: &[&str]) -> Option<StartEntry> {
     match words {
-        ["note", "unused-key", line] => Some(Entry::UnusedKey {
+        ["note", "unused-key", line] => Some(StartEntry::UnusedKey {
             line: number(line)?,
         }),
-        ["start-refused", what, line, kind, place] => Some(Entry::StartRefused {
+        ["start-refused", what, line, kind, place] => Some(StartEntry::Refused {
             part: part(what)?,
             line: number(line)?,
             kind: byte(kind)?,
             place: number(place)?,
         }),
-        _ => entry_of_order(words),
+        _ => None,
     }
 }
 
@@ -217,7 +219,7 @@ fn entry(words: &[&str]) -> Option<Entry> {
         ["dropped", member] => Some(Entry::Dropped {
             member: byte(member)?,
         }),
-        _ => entry_of_start(words),
+        _ => entry_of_order(words),
     }
 }
 
@@ -229,10 +231,17 @@ fn words_of(alloc: Global, line: &[u8]) -> Result<Vec<&str>, NoMemory> {
     Ok(words)
 }
 
+fn add_start_entry(told: &mut Answer, words: &[&str]) {
+    match start_entry(words) {
+        Some(entry) => told.add(line_of_start(&entry).bytes()),
+        None => told.add(b"no entry"),
+    }
+}
+
 fn add_entry(told: &mut Answer, words: &[&str]) {
     match entry(words) {
         Some(entry) => told.add(line_of(&entry).bytes()),
-        None => told.add(b"no entry"),
+        None => add_start_entry(told, words),
     }
 }
 

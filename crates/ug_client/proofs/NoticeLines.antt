@@ -472,8 +472,6 @@ line_read (entry.Rules done id) l h = absurd l
 line_read (entry.Reply answer) l h = absurd l
 line_read (entry.Dropped member) l h = absurd l
 line_read (entry.End number) l h = absurd l
-line_read (entry.UnusedKey line) l h = absurd l
-line_read (entry.StartRefused what line kind place) l h = absurd l
 
 -- ---- what is read is an entry's line
 

@@ -8,6 +8,9 @@ use Rattle.ug_audit.specs.Lines.{and_words, cause_words, fault_words, entry_line
 use Rattle.ug_types.specs.Targets.{target_word}
 use Rattle.ug_audit.specs.declared.entry.Entry.{Entry}
 use Rattle.ug_audit.specs.declared.entry.Entry.TheVariants as entry
+use Rattle.ug_audit.specs.declared.start_entry.StartEntry.{StartEntry}
+use Rattle.ug_audit.specs.declared.start_entry.StartEntry.TheVariants as start
+use Rattle.ug_audit.specs.StartLines.{start_line}
 use Rattle.ug_proto.specs.declared.reply.Reply.{Reply}
 use Rattle.ug_proto.specs.declared.reply.Reply.TheVariants.{Lines, Refused}
 use Rattle.ug_proto.specs.Replies.{reply_text}
@@ -49,8 +52,14 @@ entry_not (entry.Reply (Ok done)) more = refl
 entry_not (entry.Reply (Err refusal)) more = refl
 entry_not (entry.Dropped member) more = refl
 entry_not (entry.End number) more = refl
-entry_not (entry.UnusedKey line) more = refl
-entry_not (entry.StartRefused part line kind place) more = refl
 
 pub entry_or_reply : (e : Entry) (reply : Reply) (more rest : List ℕ) → entry_line e ++ more ≡ reply_text reply ++ rest → ⊥
 entry_or_reply e reply more rest h = false≢true (sym (entry_not e more) ∙ ap as_reply h ∙ reply_so reply rest)
+
+start_not : (e : StartEntry) (more : List ℕ) → as_reply (start_line e ++ more) ≡ false
+unfolding start_line
+start_not (start.UnusedKey line) more = refl
+start_not (start.Refused what line kind place) more = refl
+
+pub start_or_reply : (e : StartEntry) (reply : Reply) (more rest : List ℕ) → start_line e ++ more ≡ reply_text reply ++ rest → ⊥
+start_or_reply e reply more rest h = false≢true (sym (start_not e more) ∙ ap as_reply h ∙ reply_so reply rest)

@@ -1,6 +1,8 @@
 // What requests and replies mean.
 ghost use Rattle.std.specs.Prelude.{◌≡◌, ◌++◌, ◌↔◌, ◌≢◌, [], ℕ, List, Option, Result, Ok, Err, codes, false, true};
+ghost use Rattle.ug_audit.specs.declared.start_entry.StartEntry.{StartEntry};
 ghost use Rattle.ug_audit.specs.Lines.{entry_line};
+ghost use Rattle.ug_audit.specs.StartLines.{start_line};
 ghost use Rattle.ug_types.specs.declared.rule.After.TheVariants as after;
 ghost use Rattle.ug_types.specs.declared.verdict.Target.TheVariants as target;
 ghost use Rattle.ug_proto.specs.declared.request.Request.TheVariants as request;
@@ -62,8 +64,10 @@ pub fn replies_law()
 
 /// A line of the journal and a reply differ at a byte that both have, so neither is the other or begins it.
 pub fn entries_and_replies_law()
-    ensures { (entry : Entry) (reply : Reply) (more rest : List ℕ)
+    ensures entries { (entry : Entry) (reply : Reply) (more rest : List ℕ)
         → entry_line entry ++ more ≡ reply_text reply ++ rest → ⊥ }
+    ensures starts { (entry : StartEntry) (reply : Reply) (more rest : List ℕ)
+        → start_line entry ++ more ≡ reply_text reply ++ rest → ⊥ }
 {}
 
 /// A text reads in one way: it begins with the text of that one reply, or more of a reply is to come, or neither.
