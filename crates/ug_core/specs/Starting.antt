@@ -1,6 +1,9 @@
 -- The rules that a daemon starts with.
 use Rattle.std.specs.Option.{option_map}
 use Rattle.std.specs.Prelude.{◌≡◌, ◌⊎◌, ℕ, ◌+◌, ◌<◌, ◌≤◌, Bool, false, if◌then◌else◌, nat_le, nat_lt, List, [], ◌∷◌, ◌++◌, length, map, All, Option, Some, None, Result, Ok, Err}
+use Rattle.std.specs.Cmp.Lexicographic.{slice_cmp}
+use Rattle.std.specs.Ordering.{nat_cmp}
+use Rattle.std.specs.declared.cmp.Ordering.TheVariants.{Less}
 use Rattle.rand_core.specs.Stream.{Stream}
 use Rattle.ug_kernel.specs.declared.control.Write.{Write}
 use Rattle.ug_types.specs.declared.rule.Rule.{Rule}
@@ -112,6 +115,12 @@ AreAllListed (Some rules) all = (rules ≡ all) × (length all ≤ most_rules)
 AreAllListed None all = most_rules < length all
 
 -- ---- what the folder gives
+
+-- each name stands before the later ones, in byte order
+abbrev pub AreAscending : List FolderFile → Type 0
+AreAscending [] = Unit {0}
+AreAscending (file ∷ files) =
+    All (λ later. slice_cmp nat_cmp file.name later.name ≡ Less) files × AreAscending files
 
 -- a file whose text isn't rules, by its place among the folder's, and its first bad line
 pub record BadFile : Type 0 where

@@ -6,7 +6,7 @@ ghost use Rattle.ug_core.specs.Policy.{clock_of};
 ghost use Rattle.ug_ruleset.specs.RuleFile.{IsSaveable, ReadsBack};
 ghost use Rattle.ug_policy.specs.Rules.{rules_in};
 ghost use Rattle.ug_core.specs.Settings.{classes_of, hub_default};
-ghost use Rattle.ug_core.specs.Starting.{Starts, StartsWithRules};
+ghost use Rattle.ug_core.specs.Starting.{AreAscending, Starts, StartsWithRules};
 ghost use Rattle.ug_core.specs.Verdicts.{IsLater};
 
 use crate::classes::{Classes, hub_default};
@@ -79,8 +79,8 @@ impl<'z, R: Rng + Drop> Beside<'z, R> {
 }
 
 impl<'z, R: Rng + Drop> Daemon<'z, R> {
-    /// A daemon with the rules of the folder's files, in their order, and then those of the disk's rule file; its first event has that
-    /// number. The folder is tried before anything is asked of the disk. It makes the room of an event's entries.
+    /// A daemon with the rules of the folder's files, in byte order of their names, and then those of the disk's rule file; its first event has
+    /// that number. The folder is tried before anything is asked of the disk. It makes the room of an event's entries.
     pub fn start<D: RuleDisk>(
         alloc: Global,
         settings: Settings,
@@ -91,6 +91,7 @@ impl<'z, R: Rng + Drop> Daemon<'z, R> {
         folder: List<FolderFile>,
         disk: &mut D,
     ) -> Result<Daemon<'z, R>, StartFault>
+        requires { AreAscending folder }
         ensures starts { Starts D.keeps D.told D.faults (record {
           classes = classes_of settings;
           hub = hub_default settings.default;
