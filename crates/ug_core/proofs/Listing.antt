@@ -1,6 +1,6 @@
 -- A text's rules are read right into a list, behind those of the folder.
-use Rattle.std.proofs.Common.{◌≡◌, ◌≤◌, ◌<◌, ℕ, suc, ◌+◌, add-one, Bool, true, false, ◌||◌, if◌then◌else◌, nat_le, nat_lt, List, [], ◌∷◌, ◌++◌, length, length-append, append_assoc, append-nil, take, drop, get_or, slice_get, Option, Some, None, Result, Ok, Err, inl, inr, refl, sym, subst, ap, ◌∙◌, arith}
-use Rattle.std.specs.Prelude.{All, OnErr, OnOk}
+use Rattle.std.proofs.Common.{◌≡◌, ◌≤◌, ◌<◌, ℕ, zero, suc, ◌+◌, add-one, Bool, true, false, ◌||◌, if◌then◌else◌, nat_le, nat_lt, List, [], ◌∷◌, ◌++◌, length, length-append, append_assoc, append-nil, take, drop, get_or, slice_get, Option, Some, None, Result, Ok, Err, inl, inr, refl, sym, subst, ap, ◌∙◌, arith}
+use Rattle.std.specs.Prelude.{All, IfSome, OnErr, OnOk}
 use Rattle.std.specs.List.{AllByRecursion, list_any}
 use Rattle.std.proofs.Math.Seq.{drop-cons}
 use Rattle.std.proofs.lemmas.Bool.Decides.{nat_tests}
@@ -8,6 +8,7 @@ use Rattle.std.proofs.lemmas.List.{length-map, length-take-le, map-append, take-
 use Rattle.std.proofs.lemmas.List.Elements.{All-from_recursion, recursion_from_All}
 use Rattle.std.proofs.lemmas.Option.{get_or_from_slice_get, slice_get_within}
 use Rattle.ug_types.specs.declared.rule.Rule.{Rule}
+use Rattle.ug_types.specs.declared.verdict.Target.TheVariants as target
 use Rattle.ug_types.specs.declared.text_fault.FileFault.{FileFault}
 use Rattle.ug_types.specs.declared.text_fault.FileFault.TheVariants as file
 use Rattle.ug_types.specs.declared.text_fault.TextFault.{TextFault}
@@ -137,7 +138,7 @@ pub folder_none : (list : Rules) → list.entries ≡ [] → list.next ≡ 1 →
 folder_none list entries next history =
     let none : marked_in list.entries ≡ [] = ap (λ (es : List RuleEntry). marked_in es) entries in
     let holds : HoldsJust [] list = record { entries = entries; next = omega (arith, next); history = history } in
-    let own : AreOfFolder [] = record { own = refl; back = All-from_recursion ReadsBack [] tt } in
+    let own : AreOfFolder [] = record { own = refl; few = omega arith; back = All-from_recursion ReadsBack [] tt } in
     (none, subst (λ (rs : List Marked). HoldsJust rs list) (sym none) holds, subst AreOfFolder (sym entries) own)
 
 -- none of them is permanent
@@ -152,8 +153,9 @@ back_more : (es : List RuleEntry) (e : RuleEntry) → AllByRecursion ReadsBack (
 back_more [] e h k = (k, tt)
 back_more (f ∷ es) e h k = (h.0, back_more es e h.1 k)
 
-own_more : (es : List RuleEntry) (id : ℕ) (rule : Rule) → AreOfFolder es → ReadsBack rule → AreOfFolder (es ++ new_entry id rule mark.Folder ∷ [])
-own_more es id rule h k = record {
+own_more : (es : List RuleEntry) (id : ℕ) (rule : Rule) → AreOfFolder es → length es < most_rules → ReadsBack rule → AreOfFolder (es ++ new_entry id rule mark.Folder ∷ [])
+own_more es id rule h room k = record {
+  few = let more : length (es ++ new_entry id rule mark.Folder ∷ []) ≡ length es + 1 = length-append es (new_entry id rule mark.Folder ∷ []) in omega (arith, room, more);
   own = same_marked es (record { mark = mark.Folder; rule = rule }) id
       ∙ ap (λ (ms : List Marked). ms ++ record { mark = mark.Folder; rule = rule } ∷ []) h.own
       ∙ sym (map-append (λ (r : Rule). record { mark = mark.Folder; rule = r }) (rules_in es) (rule ∷ []))
@@ -161,9 +163,9 @@ own_more es id rule h k = record {
   back = All-from_recursion ReadsBack (rules_in (es ++ new_entry id rule mark.Folder ∷ [])) (back_more es (new_entry id rule mark.Folder) (recursion_from_All ReadsBack (rules_in es) h.back) k);
 }
 
-pub own_once_tried : {X E : Type 0} (rule : Rule) (list new : Rules) (result : Result X E) → AreOfFolder list.entries → ReadsBack rule → OnOk result (new.entries ≡ list.entries ++ new_entry list.next rule mark.Folder ∷ []) → OnErr result (new ≡ list) → AreOfFolder new.entries
-own_once_tried rule list new (Ok done) h back entries err = subst AreOfFolder (sym entries) (own_more list.entries list.next rule h back)
-own_once_tried rule list new (Err refused) h back entries err = subst (λ (l : Rules). AreOfFolder l.entries) (sym err) h
+pub own_once_tried : {X E : Type 0} (rule : Rule) (list new : Rules) (result : Result X E) → AreOfFolder list.entries → length list.entries < most_rules → ReadsBack rule → OnOk result (new.entries ≡ list.entries ++ new_entry list.next rule mark.Folder ∷ []) → OnErr result (new ≡ list) → AreOfFolder new.entries
+own_once_tried rule list new (Ok done) h room back entries err = subst AreOfFolder (sym entries) (own_more list.entries list.next rule h room back)
+own_once_tried rule list new (Err refused) h room back entries err = subst (λ (l : Rules). AreOfFolder l.entries) (sym err) h
 
 -- ---- the folder, file by file
 
@@ -222,8 +224,8 @@ files_bad files i f start last (file.Bad bad) at h read =
     let within : i < length files = slice_get_within files i f at in
     let reads : file_read f.text ≡ Err bad = first_fault (marked_rules mark.Folder h.rules) mark.Folder f.text start bad h.all read in
     let long : 0 + length (take i files) ≡ i = omega (arith, length-take-le i files (omega (arith, within))) in
-    let split : files ≡ take i files ++ f ∷ drop (i + 1) files =
-    sym (take-append-drop i files) ∙ ap (λ (v : List FolderFile). take i files ++ v) (rw (add-one, drop-cons files i f) (ap (λ (x : FolderFile). x ∷ drop (suc i) files) (get_or_from_slice_get files i f f at))) in
+    let rest : drop i files ≡ f ∷ drop (i + 1) files = rw (add-one, drop-cons files i f) (ap (λ (x : FolderFile). x ∷ drop (suc i) files) (get_or_from_slice_get files i f f at)) in
+    let split : files ≡ take i files ++ f ∷ drop (i + 1) files = sym (take-append-drop i files) ∙ ap (λ (v : List FolderFile). take i files ++ v) rest in
     ap (folder_read 0) split
     ∙ folder_bad (take i files) (drop (i + 1) files) f 0 h.rules bad h.reads reads
     ∙ ap (λ (n : ℕ). Err (record { file = n; fault = bad })) long
@@ -303,5 +305,37 @@ no_list folder text (fault.BadFolder place bad) h = absurd h
 no_list folder text fault.FolderTooLong h = absurd h
 
 -- the folder's rules are those of its list
-pub own_listed : (list : Rules) → AreOfFolder list.entries → length list.entries ≤ most_rules → AreAllListed (marked_of (Some list)) (marked_rules mark.Folder (rules_in list.entries))
-own_listed list h few = (h.own, let long : length (marked_rules mark.Folder (rules_in list.entries)) ≡ length list.entries = length-map (rules_in list.entries) (λ (r : Rule). record { mark = mark.Folder; rule = r }) ∙ length-map list.entries (λ (e : RuleEntry). e.rule) in omega (arith, few, long))
+own_listed : (list : Rules) → AreOfFolder list.entries → AreAllListed (marked_of (Some list)) (marked_rules mark.Folder (rules_in list.entries))
+own_listed list h =
+    let long : length (marked_rules mark.Folder (rules_in list.entries)) ≡ length list.entries = length-map (rules_in list.entries) (λ (r : Rule). record { mark = mark.Folder; rule = r }) ∙ length-map list.entries (λ (e : RuleEntry). e.rule) in
+    let few : length list.entries ≤ most_rules = h.few in
+    (h.own, omega (arith, few, long))
+
+a_rule : Rule
+a_rule = record {
+  target = target.Allow;
+  query = record { id = None; serial = None; name = None; hash = None; parent_hash = None; via_port = None; interface = None; connect = None; label = None };
+  conds = None;
+}
+
+-- there are as many rules as one likes
+so_many : (n : ℕ) → (rules : List Rule) × (length rules ≡ n)
+so_many zero = ([], refl)
+so_many (suc n) = let less = so_many n in (a_rule ∷ less.0, ap suc less.1)
+
+-- rules of a folder behind which a text's are listed, each of which reads again
+pub record ReadBehind (text : List ℕ) (list : Rules) : Type 0 where
+  pub folder : List Rule
+  pub lists : ListsText folder text list
+  pub back : All ReadsBack folder
+
+-- there is a list only where there is one of the folder
+pub behind_folder : (o : Option Rules) (text : List ℕ) (list : Rules) → IfSome o (λ l. AreOfFolder l.entries) → ((rules : List Rule) → AreAllListed (marked_of o) (marked_rules mark.Folder rules) → ListsText rules text list) → ReadBehind text list
+behind_folder (Some l) text list own lists = record { folder = rules_in l.entries; lists = lists (rules_in l.entries) (own_listed l own); back = own.back }
+behind_folder None text list own lists =
+    let many = so_many 65537 in
+    let long : length (marked_rules mark.Folder many.0) ≡ length many.0 = length-map many.0 (λ (r : Rule). record { mark = mark.Folder; rule = r }) in
+    let count : length many.0 ≡ 65537 = many.1 in
+    let found : ListsText many.0 text list = lists many.0 (omega (arith, long, count)) in
+    let few : length many.0 + length found.rules ≤ most_rules = found.few in
+    absurd (omega (arith, count, few))

@@ -7,7 +7,7 @@ use Rattle.ug_policy.specs.declared.entry.RuleEntry.{RuleEntry}
 use Rattle.ug_policy.specs.Edits.{new_entry}
 use Rattle.ug_policy.specs.Kept.{StandsFor}
 use Rattle.ug_policy.specs.Rules.{Rules}
-use Rattle.ug_core.specs.Starting.{HoldsJust, Marked, entries_from, start_rules}
+use Rattle.ug_core.specs.Starting.{HoldsJust, Marked, entries_from, marked_rules, start_rules}
 
 entries_more : (id : ℕ) (rules : List Marked) (m : Marked) → entries_from id (rules ++ m ∷ []) ≡ entries_from id rules ++ new_entry (id + length rules) m.rule m.mark ∷ []
 entries_more id [] m = let none : id ≡ id + 0 = omega arith in ap (λ (n : ℕ). new_entry n m.rule m.mark ∷ []) none
@@ -21,10 +21,10 @@ entries_length id (r ∷ rules) = omega (arith, entries_length (id + 1) rules)
 
 -- the folder's and the file's
 pub start_length : (folder rules : List Rule) → length (start_rules folder rules) ≡ length folder + length rules
-start_length [] rules =
-    let of_file : Rule → Marked = λ rule. record { mark = mark.File; rule = rule } in
-    omega (arith, length-map rules of_file)
-start_length (rule ∷ folder) rules = omega (arith, start_length folder rules)
+start_length folder rules =
+    let of_folder : length (marked_rules mark.Folder folder) ≡ length folder = length-map folder (λ rule. record { mark = mark.Folder; rule = rule }) in
+    let of_file : length (marked_rules mark.File rules) ≡ length rules = length-map rules (λ rule. record { mark = mark.File; rule = rule }) in
+    length-append (marked_rules mark.Folder folder) (marked_rules mark.File rules) ∙ ap (λ n. n + length (marked_rules mark.File rules)) of_folder ∙ ap (λ n. length folder + n) of_file
 
 -- one rule more, behind the others
 pub holds_more : (rules : List Marked) (m : Marked) (list new : Rules) → HoldsJust rules list → new.entries ≡ list.entries ++ new_entry list.next m.rule m.mark ∷ [] → new.next ≡ list.next + 1 → (StandsFor list.entries list.next [] → StandsFor new.entries new.next []) → HoldsJust (rules ++ m ∷ []) new

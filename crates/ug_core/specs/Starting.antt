@@ -86,9 +86,10 @@ pub record HoldsJust (rules : List Marked) (list : Rules) : Type 0 where
   pub next : list.next ≡ length rules + 1
   pub history : StandsFor list.entries list.next []
 
--- they are the folder's, and each reads again from its text
+-- they are the folder's, no more than a list takes, and each reads again from its text
 pub record AreOfFolder (entries : List RuleEntry) : Type 0 where
   pub own : marked_in entries ≡ marked_rules mark.Folder (rules_in entries)
+  pub few : length entries ≤ most_rules
   pub back : All ReadsBack (rules_in entries)
 
 -- ---- rules that are read right into a list: None where there are more than it takes
