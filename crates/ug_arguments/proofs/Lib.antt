@@ -1,2 +1,3 @@
 pub mod SimpleApps
 pub mod Found
+pub mod RequestLengths

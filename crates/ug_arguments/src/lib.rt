@@ -9,6 +9,7 @@ mod laws;
 mod matches;
 mod meaning;
 mod requests;
+mod sending;
 mod simple;
 mod values;
 

@@ -86,7 +86,7 @@ fn ask(alloc: Global, matches: &ArgMatches, request: Request) -> Result<Command,
         ≡ Some c) }
     ensures err { IfErr result (NotRead (ask_in (Some request) (rows_of (found_of matches.now)))) }
 {
-    let request = sendable(alloc, request)?;
+    let request = sendable(request)?;
     let socket = socket(alloc, matches)?;
     Ok(Command::Ask { socket, request })
 }

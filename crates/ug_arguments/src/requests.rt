@@ -6,10 +6,11 @@ ghost use Rattle.ug_arguments.specs.Commands.{NotRead, append_rule_in, device_in
 
 use crate::command::WordsFault;
 use crate::matches::is_set;
+use crate::sending::is_sendable;
 use crate::values::{after, number, rule, word};
 use clap::ArgMatches;
 use std::alloc::Global;
-use ug_proto::{Request, print_request};
+use ug_proto::Request;
 use ug_types::Target;
 
 pub fn get_parameter(alloc: Global, matches: &ArgMatches) -> Result<Request, WordsFault>
@@ -63,12 +64,11 @@ pub fn remove_rule(matches: &ArgMatches) -> Result<Request, WordsFault>
 }
 
 /// The request, where it isn't too long to be sent.
-pub fn sendable(alloc: Global, request: Request) -> Result<Request, WordsFault>
+pub fn sendable(request: Request) -> Result<Request, WordsFault>
     ensures ok { IfOk result (λ r. commands.sendable request ≡ Some r) }
     ensures err { IfErr result (NotRead (commands.sendable request)) }
 {
-    let text = print_request(alloc, &request)?;
-    if text.bytes().len() <= 65535 {
+    if is_sendable(&request) {
         return Ok(request);
     }
     Err(WordsFault::Bad)

@@ -21,11 +21,10 @@ use std::alloc::Global;
 use ug_kernel::{Probe, Sysfs};
 use ug_parameter::{Parameter, ParameterName};
 use ug_policy::Mark;
-use ug_print::print_rule;
 use ug_proto::{Request, RequestFault, parse_request};
 use ug_refusal::Refusal;
 use ug_rule::{RuleFault, parse_rule};
-use ug_ruleset::Edit;
+use ug_ruleset::{Edit, stay_readable};
 use ug_types::{After, DeviceRecord, Judged, List, NoMemory, Principal, Rule, Target, Text};
 
 /// What is done of an order once its change is in force.
@@ -299,9 +298,7 @@ impl<'z, R: Rng> Daemon<'z, R> {
             return refuse(refusal);
         }
         // A rule that is kept reads again from its canonical text.
-        let Ok(_) = print_rule(alloc, &rule) else {
-            return refuse(Refusal::Memory { stands: false });
-        };
+        stay_readable(&rule);
         let Ok(lines) = id_line(alloc, self.policy.next_id()) else {
             return refuse(Refusal::Memory { stands: false });
         };

@@ -15,10 +15,11 @@ use Rattle.ug_policy.specs.Marks.{folder_end, is_permanent}
 use Rattle.ug_policy.specs.declared.entry.RuleEntry.{RuleEntry}
 use Rattle.ug_rule.specs.Files.{file_read}
 use Rattle.ug_rule.specs.Grammar.{WellFormed}
-use Rattle.ug_rule.proofs.RuleCuts.{read_well}
-use Rattle.ug_print.specs.Bytes.{RuleOfBytes}
+use Rattle.ug_rule.proofs.RuleCuts.{read_well, says_line}
+use Rattle.ug_print.specs.Bytes.{CondsOfBytes, QueryOfBytes, RuleOfBytes}
 use Rattle.ug_print.specs.RuleTexts.{rules_limit, rules_text_of}
 use Rattle.ug_print.specs.Words.{rule_text}
+use Rattle.ug_print.proofs.Printed.{printed}
 use Rattle.ug_print.proofs.RuleTexts.{text_read}
 use Rattle.ug_ruleset.specs.RuleEdits.{CanEdit, EditReads, IsButForTarget, edited_by}
 use Rattle.ug_ruleset.specs.RuleFile.{CanSave, FitsFile, IsRuleFile, IsSaveable, ReadsBack, permanent_rules, permanent_text}
@@ -208,3 +209,7 @@ few_edited edit next es can d few =
 -- what can be saved is a rule file's text
 pub saved_file : (rules : List Rule) → CanSave rules → IsRuleFile rules (rules_text_of rules)
 saved_file rules h = record { reads = h.reads; within = h.fits; fits = h.fits; few = h.few }
+
+-- a rule in memory, of which each text is bytes
+pub reads_back : (rule : Rule) → QueryOfBytes rule.query → CondsOfBytes rule.conds → WellFormed rule → ReadsBack rule
+reads_back rule q c well = says_line (rule_text rule) rule (printed rule well (record { query = q; conds = c }))

@@ -5,6 +5,7 @@ mod edit;
 mod file_text;
 mod kept_rules;
 mod laws;
+mod reading_back;
 mod rows;
 mod rule_list;
 
@@ -12,4 +13,5 @@ pub use edit::Edit;
 pub use file_text::list_text;
 pub use kept_rules::KeptRules;
 pub use laws::made_rule_law;
+pub use reading_back::stay_readable;
 pub use rows::print_row;
