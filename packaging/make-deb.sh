@@ -28,7 +28,7 @@ install -m 644 packaging/lintian-overrides "$root/usr/share/lintian/overrides/$n
 # What postinst puts where it is missing: dpkg doesn't know settings and rules.
 install -d -m 755 "$root/usr/share/$name"
 install -m 644 packaging/usbguard-daemon.conf packaging/usbguard.service "$root/usr/share/$name"
-rm -r "$root/etc"
+rm -r "${root:?}/etc"
 
 # The packages of the libraries that ldd names, which is libc6 alone. The program needs the version of glibc whose symbols it cites.
 packages=
@@ -37,6 +37,7 @@ for library in $(ldd "$PROGRAM" | grep -o '/[^ ]*'); do
     packages="$packages ${owner%%:*}"
 done
 glibc=$(grep -ao 'GLIBC_2\.[0-9.]*' "$PROGRAM" | cut -d _ -f 2 | sort -V | tail -n 1)
+# shellcheck disable=SC2086 # a word each
 depends=$(printf '%s\n' $packages | sort -u | sed "s/^libc6\$/libc6 (>= $glibc)/" | paste -sd , | sed 's/,/, /g')
 
 cat >"$root/DEBIAN/control" <<END

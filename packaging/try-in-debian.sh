@@ -5,6 +5,7 @@
 #
 # FOLDER, which must not exist, is made and removed; without it that is a new one under /tmp. SUITE and MIRROR choose another Debian. BASE
 # is a root that debootstrap made with the packages below, which is then copied.
+# shellcheck disable=SC2059 # bytes are given as printf has them
 set -eu
 export LC_ALL=C
 usage='usage: packaging/try-in-debian.sh PACKAGE.deb [FOLDER]'
@@ -340,7 +341,7 @@ types() {
 }
 mkdir -p "$root/run/usbguard"
 touch "$root/run/usbguard/root.socket"
-echo '. /usr/share/bash-completion/bash_completion; PS1=; usbguard() { printf "<%s>\n" "usbguard $*"; }' >"$root/tmp/rc"
+printf '%s\n' '. /usr/share/bash-completion/bash_completion; PS1=; usbguard() { printf "<%s>\n" "usbguard $*"; }' >"$root/tmp/rc"
 shell='bash --rcfile /tmp/rc -i'
 types bash 'usbguard list-ru\t --sock\t' 'usbguard list-rules --socket'
 types bash 'usbguard list-rules --socket=/run/usbg\t' 'usbguard list-rules --socket=/run/usbguard/root.socket'

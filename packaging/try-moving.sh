@@ -7,6 +7,7 @@
 # FOLDER, which must not exist, is made and removed; without it that is a new one under /tmp. SUITE and MIRROR choose another Debian. BASE
 # is a root that an earlier run kept: with KEEP=FOLDER it is copied there. Plain files take the place of sysfs: a root hub, a key that the
 # rules of the original allow, and a stranger.
+# shellcheck disable=SC2059 # bytes are given as printf has them
 set -eu
 export LC_ALL=C
 usage='usage: packaging/try-moving.sh PACKAGE.deb [FOLDER]'

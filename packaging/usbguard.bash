@@ -2,19 +2,18 @@
 
 # The files whose names begin like the word; the folders alone with -d behind it.
 _usbguard_files() {
-    local IFS=$'\n'
     compopt -o filenames 2>/dev/null
-    COMPREPLY=($(compgen "${2:--f}" -- "$1"))
+    mapfile -t COMPREPLY < <(compgen "${2:--f}" -- "$1")
 }
 
 # The words that begin like the first one.
 _usbguard_words() {
-    COMPREPLY=($(compgen -W "${*:2}" -- "$1"))
+    mapfile -t COMPREPLY < <(compgen -W "${*:2}" -- "$1")
 }
 
 # Lists with commas between, whose last word begins like that of the first list: the words that it has not yet.
 _usbguard_lists() {
-    local written= last=$1 word
+    local written='' last=$1 word
     [[ $1 != *,* ]] || written=${1%,*}, last=${1##*,}
     COMPREPLY=()
     for word in "${@:2}"; do
