@@ -24,11 +24,26 @@ planned_call number = 1 + number / 2 ^ 8 % 16
 
 -- The lines.
 
--- setup with an allowed and a blocked device, and a root hub
-unfoldable pub opening_lines : List ℕ
-opening_lines =
-    codes
-    "usbguard-replay 1\nseed 0000000000000000000000000000000000000000000000000000000000000000\nrule allow id 1050:0011\nrule block id *:*\nplug usb1 1 12010002090001406b1d020006060302010109021900010100e0000904000001090000000705810304000c - - -\n"
+-- the setup: one device is allowed, and all others are blocked
+unfoldable pub setup_lines : List ℕ
+setup_lines =
+    codes "usbguard-replay 1\n" ++
+    codes "seed 0000000000000000000000000000000000000000000000000000000000000000\n" ++
+    codes "rule allow id 1050:0011\n" ++
+    codes "rule block id *:*\n"
+
+-- the descriptors of a root hub: its device's, and its configuration's
+abbrev pub hub_descriptors : List ℕ
+hub_descriptors =
+    codes "12010002090001406b1d0200060603020101" ++
+    codes "09021900010100e0000904000001090000000705810304000c"
+
+unfoldable pub hub_line : List ℕ
+hub_line = codes "plug usb1 1 " ++ hub_descriptors ++ codes " - - -\n"
+
+-- what stands before the first event
+abbrev pub opening_lines : List ℕ
+opening_lines = setup_lines ++ hub_line
 
 unfoldable pub unplug_line : ℕ → List ℕ
 unplug_line port = codes "unplug 1-" ++ decimal port ++ 10 ∷ []

@@ -3,7 +3,7 @@ ghost use Rattle.std.specs.Prelude.{◌≡◌, ◌≤◌, ◌<◌, ◌^◌, ◌+
 ghost use Rattle.ug_types.specs.Ends.{Puts, Rose};
 ghost use Rattle.ug_commands.specs.GeneratedScripts.{generated_script, line_before, number_behind, opening_lines, sweep_line};
 
-use crate::generating_lines::{line_before, push_sweep};
+use crate::generating_lines::{line_before, opening_lines, push_sweep};
 use ug_types::{Put, Sink};
 
 fn number_behind(number: u64) -> u64
@@ -27,15 +27,12 @@ fn put_event<K: Sink>(out: &mut K, number: u64, event: u64) -> Put
     out.put(line.bytes())
 }
 
-#[tactic(auto, unfolding(crate::specs::GeneratedScripts::opening_lines))]
 fn put_opening<K: Sink>(out: &mut K) -> Put
     ensures put { Puts (K.held out.old) (K.held out.new) opening_lines result }
     ensures counted { K.faults out.old ≤ K.faults out.new }
     ensures cause { result ≡ Put.Failed → Rose (K.faults out.old) (K.faults out.new) }
 {
-    out.put(
-        b"usbguard-replay 1\nseed 0000000000000000000000000000000000000000000000000000000000000000\nrule allow id 1050:0011\nrule block id *:*\nplug usb1 1 12010002090001406b1d020006060302010109021900010100e0000904000001090000000705810304000c - - -\n",
-    )
+    out.put(opening_lines().bytes())
 }
 
 /// Writes a script of so many events, each a sweep behind one thing that happens: a device is plugged at a port of one

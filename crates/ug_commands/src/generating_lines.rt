@@ -4,6 +4,38 @@ ghost use Rattle.ug_commands.specs.GeneratedScripts as lines;
 
 use ug_types::Line;
 
+#[tactic(auto, unfolding(crate::specs::GeneratedScripts::setup_lines))]
+fn setup_lines() -> Line
+    ensures text { result ≡ lines.setup_lines }
+    ensures length { length result ≤ 150 }
+{
+    let mut line = Line::of(b"usbguard-replay 1\n");
+    line.push(b"seed 0000000000000000000000000000000000000000000000000000000000000000\n");
+    line.push(b"rule allow id 1050:0011\n");
+    line.push(b"rule block id *:*\n");
+    line
+}
+
+#[tactic(auto, unfolding(crate::specs::GeneratedScripts::hub_line))]
+fn push_hub(line: &mut Line)
+    requires { length line.old ≤ 150 }
+    ensures { line.new ≡ line.old ++ lines.hub_line }
+{
+    line.push(b"plug usb1 1 ");
+    line.push(b"12010002090001406b1d0200060603020101");
+    line.push(b"09021900010100e0000904000001090000000705810304000c");
+    line.push(b" - - -\n");
+}
+
+/// What a script begins with.
+pub fn opening_lines() -> Line
+    ensures { result ≡ lines.opening_lines }
+{
+    let mut line = setup_lines();
+    push_hub(&mut line);
+    line
+}
+
 #[tactic(auto, unfolding(crate::specs::GeneratedScripts::unplug_line))]
 fn unplug_line(port: u64) -> Line
     ensures text { result ≡ lines.unplug_line port }
