@@ -50,7 +50,7 @@ impl Model for Scripts {
     } };
 }
 
-fn next_arrival_of(arrivals: &mut [Script<Arrival>], listener: u32) -> Option<Arrival>
+fn next_arrival(arrivals: &mut [Script<Arrival>], listener: u32) -> Option<Arrival>
     ensures item { result ≡ arrival_at arrivals.old listener }
     ensures after { arrivals.new ≡ changed_at other_items listener arrivals.old }
 {
@@ -62,14 +62,7 @@ fn next_arrival_of(arrivals: &mut [Script<Arrival>], listener: u32) -> Option<Ar
     script.next()
 }
 
-fn next_arrival(arrivals: &mut Vec<Script<Arrival>>, listener: u32) -> Option<Arrival>
-    ensures item { result ≡ arrival_at arrivals.old.items listener }
-    ensures after { arrivals.new.items ≡ changed_at other_items listener arrivals.old.items }
-{
-    next_arrival_of(arrivals, listener)
-}
-
-fn read_peer_of(peers: &mut [Peer], id: LinkId, into: &mut [u8]) -> LinkRead
+fn read_peer(peers: &mut [Peer], id: LinkId, into: &mut [u8]) -> LinkRead
     requires room { 0 < length into.old }
     ensures size { FitsRead (length into.old) result }
     ensures answer { reading_given result into.new
@@ -84,18 +77,7 @@ fn read_peer_of(peers: &mut [Peer], id: LinkId, into: &mut [u8]) -> LinkRead
     peer.read(into)
 }
 
-fn read_peer(peers: &mut Vec<Peer>, id: LinkId, into: &mut [u8]) -> LinkRead
-    requires room { 0 < length into.old }
-    ensures size { FitsRead (length into.old) result }
-    ensures answer { reading_given result into.new
-        ≡ read_from_peer (length into.old) id.0 peers.old.items }
-    ensures after { peers.new.items
-        ≡ changed_at (read_after (length into.old)) id.0 peers.old.items }
-{
-    read_peer_of(peers, id, into)
-}
-
-fn write_peer_of(peers: &mut [Peer], id: LinkId, bytes: &[u8]) -> LinkWrote
+fn write_peer(peers: &mut [Peer], id: LinkId, bytes: &[u8]) -> LinkWrote
     requires { 0 < length bytes.now }
     ensures size { FitsWrite (length bytes.now) result }
     ensures answer { result ≡ written_to_peer (length bytes.now) id.0 peers.old }
@@ -107,15 +89,6 @@ fn write_peer_of(peers: &mut [Peer], id: LinkId, bytes: &[u8]) -> LinkWrote
     }
     let peer = &mut peers[i];
     peer.write(bytes)
-}
-
-fn write_peer(peers: &mut Vec<Peer>, id: LinkId, bytes: &[u8]) -> LinkWrote
-    requires { 0 < length bytes.now }
-    ensures size { FitsWrite (length bytes.now) result }
-    ensures answer { result ≡ written_to_peer (length bytes.now) id.0 peers.old.items }
-    ensures after { peers.new.items ≡ changed_at write_after id.0 peers.old.items }
-{
-    write_peer_of(peers, id, bytes)
 }
 
 impl Scripts {

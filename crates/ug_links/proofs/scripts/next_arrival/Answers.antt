@@ -1,7 +1,7 @@
 use Rattle.std.proofs.Common.{◌∙◌, arith}
 use Rattle.ug_links.proofs.Places.{changed_past, changed_in, arrival_past, arrival_in}
 use Rattle.ug_links.specs.Peers.{other_items}
-use Rattle.ug_links.proofs.scripts.next_arrival_of.Goals as goal
+use Rattle.ug_links.proofs.scripts.next_arrival.Goals as goal
 
 pub returns-then-i-arrivals-clause-item : goal.returns-then-i-arrivals-clause-item
 returns-then-i-arrivals-clause-item c = arrival_past c.args.listener c.args.arrivals.now (omega (arith, c.if-i-arrivals.true))

@@ -1,7 +1,7 @@
 use Rattle.std.proofs.Common.{◌∙◌, length, arith}
 use Rattle.ug_links.proofs.Places.{changed_past, changed_in, read_past, read_in}
 use Rattle.ug_links.specs.Peers.{read_after}
-use Rattle.ug_links.proofs.scripts.read_peer_of.Goals as goal
+use Rattle.ug_links.proofs.scripts.read_peer.Goals as goal
 
 pub returns-then-i-peers-clause-answer : goal.returns-then-i-peers-clause-answer
 returns-then-i-peers-clause-answer c = read_past (length c.args.into.now) c.args.id.0 c.args.peers.now (omega (arith, c.if-i-peers.true))
