@@ -1,6 +1,6 @@
 // Lines of the journal that are sent as notices.
 ghost use Rattle.std.specs.Prelude.{◌≡◌, ◌↔◌, IsTrue, IfSome, IfNone, Some, None};
-ghost use Rattle.ug_client.specs.Answers.{IsNotice, IsNoticedLine};
+ghost use Rattle.ug_client.specs.Answers.{IsNotice};
 ghost use Rattle.ug_client.specs.NoticeLines as lines;
 
 use ug_numerals::parse_decimal;
@@ -228,6 +228,7 @@ fn is_behind(word: &[u8], rest: &[u8]) -> bool
     false
 }
 
+/// Whether the text is the line of an entry that clients are told.
 #[tactic(auto, unfolding(crate::specs::NoticeLines::is_entry_text))]
 fn is_entry(text: &[u8]) -> bool
     ensures { result ≡ lines.is_entry_text text.now }
@@ -238,19 +239,12 @@ fn is_entry(text: &[u8]) -> bool
     }
 }
 
-/// Whether the text is the line of an entry that clients are told.
-fn is_noticed(text: &[u8]) -> bool
-    ensures { IsTrue result ↔ IsNoticedLine text.now }
-{
-    is_entry(text)
-}
-
 /// Whether the line is a notice: `! ` and the line of an entry that clients are told.
 pub fn is_notice(line: &[u8]) -> bool
     ensures { IsTrue result ↔ IsNotice line.now }
 {
     if line.starts_with(b"! ") {
-        return is_noticed(&line[2..]);
+        return is_entry(&line[2..]);
     }
     false
 }
