@@ -172,6 +172,7 @@ pub fn accept_all<N: Links>(
 }
 
 /// The same over the listeners that are kept.
+// (a function of its own, since the loop's proof goes over a slice)
 pub fn accept_kept<N: Links>(
     alloc: Global,
     ready: &[Ready],

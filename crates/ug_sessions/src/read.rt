@@ -179,6 +179,7 @@ pub fn read_all<N: Links>(
 }
 
 /// The same over the sessions that are kept.
+// (a function of its own, since the loop's proof goes over a slice)
 pub fn read_kept<N: Links>(
     alloc: Global,
     ready: &[Ready],

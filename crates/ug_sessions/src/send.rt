@@ -100,6 +100,7 @@ pub fn flush_all<N: Links>(sessions: &mut [Session], links: &mut N, turn: &mut T
 }
 
 /// The same over the sessions that are kept.
+// (a function of its own, since the loop's proof goes over a slice)
 pub fn flush_kept<N: Links>(sessions: &mut Vec<Session>, links: &mut N, turn: &mut Turn)
     ensures { Talks N.gives links.old (flushing_all sessions.old.items turn.old)
         (sessions.new.items, turn.new) links.new }

@@ -92,6 +92,7 @@ impl Server {
             × CountsTurn ready.now self.old steps self.new result
             × TurnTries ready.now self.old steps self.new }
     {
+        // (what is counted is proved of what was said, once for all ends of that function)
         self.try_all(ready, links)
     }
 
@@ -170,6 +171,7 @@ impl Server {
         ensures writes { (steps : List LinkStep) × Makes N.gives links.old steps links.new
             × FlushWrites self.old steps self.new result }
     {
+        // (what is written is proved of what was said, whatever that function's steps are)
         self.send_all(links)
     }
 
