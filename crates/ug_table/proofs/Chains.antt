@@ -86,7 +86,7 @@ module _ {J : Type 0} (answer : Answers J) (later : Laters J) where
   linked binds terms name names w x v ok more ms ns how p c =
       (p.rest ++ c.0, First name names how w x v ok more ms ns c.0 p c.1)
 
-  settling_chain : (names : List (List ℕ)) (terms : Terms) (w : State J)
+  pub settling_chain : (names : List (List ℕ)) (terms : Terms) (w : State J)
       → Ways (settling_all answer later names terms w) (Linked true terms names w)
   settling_chain [] terms w = ([], Over w)
   settling_chain (name ∷ names) terms w =
@@ -172,7 +172,7 @@ module _ {J : Type 0} (answer : Answers J) (later : Laters J) where
 
 -- the entries that are added
 
-chain_entries : {J : Type 0} {answer : Answers J} {later : Laters J} {binds : Bool} {terms : Terms}
+pub chain_entries : {J : Type 0} {answer : Answers J} {later : Laters J} {binds : Bool} {terms : Terms}
     {names : List (List ℕ)} {w v : State J} {ok : Bool} {ms : List Made} {es : List Entry}
     → Chain answer later binds terms names w ok ms es v → v.entries ≡ w.entries ++ es
 chain_entries (Over w) = sym (append-nil w.entries)

@@ -1,7 +1,7 @@
 -- A part is fair, and so is a sweep.
 use Rattle.std.proofs.Common.{◌≡◌, ℕ, Bool, true, false, not, ◌&&◌, List, [], ◌∷◌, ◌++◌, ◌⊎◌, Some, slice_get, inl, inr, refl, sym, ◌∙◌, ap, subst, append_assoc, append-nil, ◌+◌, ◌<◌, is_none, Option, None, arith, cond, map, true≢false}
 use Rattle.std.proofs.lemmas.Bool.{and_parts, and_cases, both_ways, not-true, not-false, cond_both, cases_Bool}
-use Rattle.ug_table.proofs.Common.{Has, IsOpenable, AllDistinct, Terms, terms_for, did_default, with_default, defaulted_known, default_due, default_write, Default, Target, Control, Authorized, Remove, Write, Wrote, Put, Close, ToldAnswer, Closing, Ask_alive, Names, Device, Kernel, Moves, IsKernel, Live, IsWritten, IsGoneAt, says_put, Called, says_listing, Grows, Quiet, calls, Runs, RemoveHold, Entry, State, Answers, Laters, known_of, standing_of, without, with_standing, place_for, lists, farewells, Tries, IsDevice, MayHave, MayHaveNot, wrote_entries, HasDone, WasDone, IsOnce, control_of, is_done, IsFirst, Account, Start, Had, Had_not, AreInOrder, none_before, IsProbed, Stand, numbers_of, Judge, IsOne, IsTold, HasStanding, IsFair, IsDoneMarked, swept_before, IsGone, Went as WentAway, gone_of, Standing, Settled, Made, made_with, Along, failure_of, FailedCall, parent_of, Judged, Held, Cause, Bound, Binding, Known, in_sweep_order, unlisted_files, Fault, Probe, Listing, names_of, parted, marked_listed, sweeping, unsettled_by, standing_for, judged_entry, tried_standings, dropped, has_right, distinct_one, has_map, has_new, has_old, filter_has, has_filter, write_of, is_reject, CallsFor, is_to_go, Way, way_runs, along_split, filter, some_same, called_grows, called_quiet, quiet_grows, grows_refl, HasHash, parent_standing, binding_for, judged_bound, bound_hash, map_has, distinct_filter}
+use Rattle.ug_table.proofs.Common.{Has, IsOpenable, AllDistinct, Terms, terms_for, did_default, with_default, defaulted_known, default_due, default_write, Default, Target, Control, Authorized, Remove, Write, Wrote, Put, Close, ToldAnswer, Closing, Ask_alive, Names, Device, Kernel, Moves, IsKernel, Live, IsWritten, IsGoneAt, says_put, Called, says_listing, Grows, Quiet, calls, Runs, RemoveHold, Entry, State, Answers, Laters, known_of, standing_of, without, with_standing, place_for, lists, farewells, Tries, IsDevice, MayHave, MayHaveNot, wrote_entries, HasDone, WasDone, IsOnce, control_of, is_done, IsFirst, Account, Start, Had, Had_not, none_before, IsProbed, Stand, numbers_of, Judge, IsOne, IsTold, HasStanding, IsFair, IsDoneMarked, swept_before, IsGone, Went as WentAway, gone_of, Standing, Settled, Made, made_with, Along, failure_of, FailedCall, parent_of, Judged, Held, Cause, Bound, Binding, Known, in_sweep_order, unlisted_files, Fault, Probe, Listing, names_of, parted, marked_listed, sweeping, unsettled_by, standing_for, judged_entry, tried_standings, dropped, has_right, distinct_one, has_map, has_new, has_old, filter_has, has_filter, write_of, is_reject, CallsFor, is_to_go, Way, way_runs, along_split, filter, some_same, called_grows, called_quiet, quiet_grows, grows_refl, HasHash, parent_standing, binding_for, judged_bound, bound_hash, map_has, distinct_filter}
 use Rattle.ug_kernel.specs.declared.device.HeldFile.{HeldFile}
 use Rattle.ug_kernel.specs.declared.device.Effect.{Effect}
 use Rattle.ug_node.specs.Removal.{holding, HoldSays}
@@ -16,7 +16,7 @@ use Rattle.ug_types.specs.declared.record.Attrs.{Attrs}
 use Rattle.ug_node.specs.Bound.{attrs_of, is_core_long, IsBoundBy, SaysBy}
 use Rattle.ug_record.specs.Records.{child_hash_of}
 use Rattle.ug_table.proofs.Above.{ParentsBy, kept_at, for_law, bound_record}
-use Rattle.ug_table.proofs.Marks.{order_new, keeps_filter, sweep_in_order, AreIn, dropped_in, AreSplit, AreFresh, split_in, parted_split, parted_fresh, part_split, part_fresh, flat_part, order_distinct}
+use Rattle.ug_table.proofs.Marks.{order_new, keeps_filter, sweep_in_order, AreIn, dropped_in, AreTried, sweep_tried, AreSplit, AreFresh, split_in, parted_split, parted_fresh, part_split, part_fresh, flat_part, order_distinct}
 use Rattle.ug_types.proofs.Sorting.{to_sweep_order}
 use Rattle.ug_kernel.proofs.HeldFiles.{live_before}
 use Rattle.ug_table.proofs.Chains.{closings_quiet, Chain, Over, First, Goes, Listed, Unlisted, sweeping_run}
@@ -519,22 +519,25 @@ piece_fair {J} {answer} {later} {terms = terms} {tried = tried} {name = name} {k
 -- The sweep is fair.
 
 -- what is so of the names still to come, where they are bound
-abbrev Awaits : {J : Type 0} → List (List ℕ) → State J → State J → Type 0
-Awaits names w u = AllDistinct names × AreInOrder names × AreSplit names w u × AreFresh names w u
+abbrev pub Awaits : {J : Type 0} → Tries → List (List ℕ) → State J → State J → Type 0
+Awaits tried names w u =
+    AllDistinct names × AreTried tried names × AreSplit tried names w u × AreFresh names w u
 
 -- the devices of those names keep their values
-abbrev AreOwned : List (List ℕ) → Kernel → Kernel → Type 0
+abbrev pub AreOwned : List (List ℕ) → Kernel → Kernel → Type 0
 AreOwned names k l = (name : List ℕ) → Has names name → Owned name k l
 
-chain_fair : {J : Type 0} {answer : Answers J} {later : Laters J} {binds : Bool} {terms : Terms}
-    {names : List (List ℕ)} {k m : Kernel} {w u v : State J} {ok : Bool} {ms : List Made}
-    {es : List Entry} (l : Kernel) → (binds ≡ true → Awaits names w u × AreOwned names k m)
-    → FairFrom answer later terms swept_before k w m u
+pub chain_fair : {J : Type 0} {answer : Answers J} {later : Laters J} {binds : Bool} {terms : Terms}
+    {tried : Tries} {names : List (List ℕ)} {k m : Kernel} {w u v : State J} {ok : Bool}
+    {ms : List Made} {es : List Entry} (l : Kernel)
+    → (binds ≡ true → Awaits tried names w u × AreOwned names k m)
+    → FairFrom answer later terms tried k w m u
     → Chain answer later binds terms names u ok ms es v → Along calls m ms l
-    → FairFrom answer later terms swept_before k w l v
-chain_fair {answer = answer} {later = later} {terms = terms} {k = k} {w = w} l so h (Over x) a =
-    subst (λ (n : Kernel). FairFrom answer later terms swept_before k w n x) (sym a) h
-chain_fair {k = k} {m = m} {w = w} l so h (First name names how u x v ok more ms ns es p c) a =
+    → FairFrom answer later terms tried k w l v
+chain_fair {answer = answer} {later = later} {terms = terms} {tried = tried} {k = k} {w = w} l so h
+    (Over x) a =
+    subst (λ (n : Kernel). FairFrom answer later terms tried k w n x) (sym a) h
+chain_fair {tried = tried} {k = k} {m = m} {w = w} l so h (First name names how u x v ok more ms ns es p c) a =
     let rest = h.fair.rest in
     let e = h.fair.entries in
     let cut = along_split calls ms ns m l a in
@@ -544,8 +547,8 @@ chain_fair {k = k} {m = m} {w = w} l so h (First name names how u x v ok more ms
     (λ b.
     let q = (so b).0 in
     let own : AreOwned names k cut.0 = λ n has. owned_apart n name k m cut.0 h.fair.grows (λ same. q.0.0 (subst (λ (v : List ℕ). Has names v) same has)) ((so b).1 n (inr has)) others in
-    ((q.0.1, q.1.1, part_split w u name names rest p.rest x e p.entries q.1 q.2 (q.3 rest e name (inl refl)) part, part_fresh w u name names rest p.rest x e p.entries q.0 q.3 part), own))
-    (piece_fair (λ b. let q = (so b).0 in (split_in name names w u q.1 q.2, (so b).1 name (inl refl))) h p cut.1) c cut.2
+    ((q.0.1, q.1.2, part_split tried w u name names rest p.rest x e p.entries q.1 q.2 (q.3 rest e name (inl refl)) part, part_fresh w u name names rest p.rest x e p.entries q.0 q.3 part), own))
+    (piece_fair (λ b. let q = (so b).0 in (split_in tried name names w u q.1 q.2, (so b).1 name (inl refl))) h p cut.1) c cut.2
 
 -- an entry for each standing that isn't listed
 
@@ -669,7 +672,12 @@ goes_fair {answer = answer} {later = later} {k = k} {l = l} {w = w} sound stand
     (parted_fair answer later (terms_for w) swept_before m w names f.fair.sound f.fair.stand gone) in
     let own : AreOwned names k cut.0 = λ n has. owned_quiet n k m cut.0 (owned_quiet n k k m (owned_refl n k) (called_quiet Names a k m tt b.1)) q.1 in
     chain_fair l (λ e. (
-      (order_distinct found b.1.says.1, sweep_in_order found b.1.says.1, parted_split names w, parted_fresh names w),
+      (
+        order_distinct found b.1.says.1,
+        sweep_tried names (sweep_in_order found b.1.says.1),
+        parted_split swept_before names w,
+        parted_fresh names w,
+      ),
       own,
     )) (then_quiet cut.0 q.0 q.1 (then_listed h))
     chain cut.2

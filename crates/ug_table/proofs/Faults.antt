@@ -19,7 +19,7 @@ chain_ending (Over w) = []
 chain_ending (First name names how w x v ok more ms ns es p c) =
     ending_calls name (kept_file name w.standings) ms ++ chain_ending c
 
-chain_parts : {J : Type 0} {answer : Answers J} {later : Laters J} {binds : Bool} {terms : Terms}
+pub chain_parts : {J : Type 0} {answer : Answers J} {later : Laters J} {binds : Bool} {terms : Terms}
     {names : List (List ℕ)} {w v : State J} {ok : Bool} {ms : List Made} {es : List Entry}
     → (c : Chain answer later binds terms names w ok ms es v)
     → InParts terms.hub binds names w.standings v.standings ms (chain_ending c) es
@@ -192,7 +192,7 @@ in_parts {w = w} a (Unlisted list failed room why ok made es v by c) =
     }
 
 -- each failed call is told in its part
-chain_tells : {J : Type 0} {answer : Answers J} {later : Laters J} {binds : Bool} {terms : Terms}
+pub chain_tells : {J : Type 0} {answer : Answers J} {later : Laters J} {binds : Bool} {terms : Terms}
     {names : List (List ℕ)} {w v : State J} {ok : Bool} {ms : List Made} {es : List Entry}
     → (c : Chain answer later binds terms names w ok ms es v) → failures_told es ≡ failures (chain_ending c)
 chain_tells (Over w) = refl

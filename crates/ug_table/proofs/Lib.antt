@@ -17,6 +17,7 @@ pub mod PartOrders
 pub mod OnePart
 pub mod Faults
 pub mod Once
+pub mod Several
 pub mod One
 pub mod Ordered
 pub mod Entries

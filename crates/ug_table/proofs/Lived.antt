@@ -448,7 +448,7 @@ step P Q n name names false e own other (inr p) = inr (other (λ is. let same = 
 
 -- the names
 
-chain_well : {J : Type 0} {answer : Answers J} {later : Laters J} {binds : Bool} {terms : Terms}
+pub chain_well : {J : Type 0} {answer : Answers J} {later : Laters J} {binds : Bool} {terms : Terms}
     {names : List (List ℕ)} {k l : Kernel} {w v : State J} {ok : Bool} {ms : List Made}
     {added : List Entry} (name : List ℕ) (i : ℕ) → IsKernel k → Files k w.standings
     → LiveAs k i name → LiveAs l i name → Has names name ⊎ Well terms.hub binds k w.standings i

@@ -130,7 +130,7 @@ flat_nobody {name = name} (Judged_so ms ns os es fs rs b x d how t opening way g
 -- The marks at the end of a sweep, and whether a listing has succeeded.
 
 -- it names none but these as unsettled, and no listing
-abbrev NamesIn : List (List ℕ) → Entry → Type 0
+abbrev pub NamesIn : List (List ℕ) → Entry → Type 0
 NamesIn names (Entry.Unsettled n why) = Has names n
 NamesIn names (Entry.UnsettledAll why) = ⊥
 NamesIn names e = Unit {0}
@@ -167,7 +167,7 @@ parts_more n names ss ms rs es fs distinct a b =
       mark = λ s h c. mark s h c;
     }
 
-chain_parts : {J : Type 0} {answer : Answers J} {later : Laters J} {binds : Bool} {terms : Terms}
+pub chain_parts : {J : Type 0} {answer : Answers J} {later : Laters J} {binds : Bool} {terms : Terms}
     {names : List (List ℕ)} {w v : State J} {ok : Bool} {ms : List Made} {es : List Entry}
     → AllDistinct names → Chain answer later binds terms names w ok ms es v
     → Parts names w.standings es v.standings × (v.listed ≡ w.listed)
@@ -305,26 +305,40 @@ order_with s ss o absent = subst (λ (v : List (List ℕ)). AreInOrder v) (sym (
 abbrev pub AreIn : {J : Type 0} → Tries → List ℕ → State J → State J → Type 0
 AreIn tried name w u = (rest : List Entry) → u.entries ≡ w.entries ++ rest → AreMarkedIn tried name w.standings rest u.standings
 
--- where these names are still to come: each standing is of a name that comes before them, marked as is told, or of one of them, and as it was
-abbrev pub IsSplit : List (List ℕ) → List Standing → List Entry → Standing → Type 0
-IsSplit names before rest s = (((n : List ℕ) → Has names n → swept_before s.name n ≡ true) × IsMarked rest s) ⊎ (Has names s.name × Has before s)
+-- the part of each of these names comes to its end before those of the names behind it begin
+abbrev pub AreTried : Tries → List (List ℕ) → Type 0
+AreTried tried [] = Unit {0}
+AreTried tried (name ∷ names) =
+    ((n : List ℕ) → Has names n → tried name n ≡ true) × ((n : List ℕ) → Has (name ∷ names) n → tried n name ≡ false) × AreTried tried names
 
-abbrev pub AreSplit : {J : Type 0} → List (List ℕ) → State J → State J → Type 0
-AreSplit names w u = (rest : List Entry) → u.entries ≡ w.entries ++ rest → (s : Standing) → Has u.standings s → IsSplit names w.standings rest s
+-- where these names are still to come: each standing is of a name whose part comes to its end before theirs, marked as is told; or
+-- of one of them, or of a name that has no part, and as it was
+abbrev pub IsSplit : Tries → List (List ℕ) → List Standing → List Entry → Standing → Type 0
+IsSplit tried names before rest s =
+    (((n : List ℕ) → Has names n → tried s.name n ≡ true) × IsMarked rest s)
+    ⊎ ((Has names s.name ⊎ ((n : List ℕ) → tried s.name n ≡ false)) × Has before s)
+
+abbrev pub AreSplit : {J : Type 0} → Tries → List (List ℕ) → State J → State J → Type 0
+AreSplit tried names w u = (rest : List Entry) → u.entries ≡ w.entries ++ rest → (s : Standing) → Has u.standings s → IsSplit tried names w.standings rest s
 
 -- and none of these names was told
 abbrev pub AreFresh : {J : Type 0} → List (List ℕ) → State J → State J → Type 0
 AreFresh names w u = (rest : List Entry) → u.entries ≡ w.entries ++ rest → (n : List ℕ) → Has names n → IsNamed rest n → ⊥
 
-not_first : (name : List ℕ) (names : List (List ℕ)) (n : List ℕ) → AreInOrder (name ∷ names) → Has (name ∷ names) n → swept_before n name ≡ false
+pub not_first : (name : List ℕ) (names : List (List ℕ)) (n : List ℕ) → AreInOrder (name ∷ names) → Has (name ∷ names) n → swept_before n name ≡ false
 not_first name names n o (inl e) = subst (λ (v : List ℕ). swept_before v name ≡ false) e (not_itself name)
 not_first name names n o (inr a) = not_behind name n (o.0 n a)
 
+-- names in sweep order are tried so
+pub sweep_tried : (names : List (List ℕ)) → AreInOrder names → AreTried swept_before names
+sweep_tried [] o = tt
+sweep_tried (name ∷ names) o = (o.0, λ n a. not_first name names n o a, sweep_tried names o.1)
+
 -- at the first of them
-pub split_in : {J : Type 0} (name : List ℕ) (names : List (List ℕ)) (w u : State J) → AreInOrder (name ∷ names) → AreSplit (name ∷ names) w u → AreIn swept_before name w u
-split_in name names w u o split rest e s a = elim (split rest e s a) [
+pub split_in : {J : Type 0} (tried : Tries) (name : List ℕ) (names : List (List ℕ)) (w u : State J) → AreTried tried (name ∷ names) → AreSplit tried (name ∷ names) w u → AreIn tried name w u
+split_in tried name names w u o split rest e s a = elim (split rest e s a) [
   | inl h ↦ inl (h.0 name (inl refl), h.1)
-  | inr h ↦ inr (not_first name names s.name o h.0, h.1)
+  | inr h ↦ inr (elim h.0 [ inl b ↦ o.1 s.name b | inr f ↦ f name ], h.1)
 ]
 
 added_rest : (es fs gs rest : List Entry) (more : List Entry) → fs ≡ es ++ gs → fs ++ more ≡ es ++ rest → gs ++ more ≡ rest
@@ -341,10 +355,10 @@ dropped_in tried w u name number gs e so rest f s a =
     ])
 
 -- the standings that are listed
-pub parted_split : {J : Type 0} (names : List (List ℕ)) (w : State J) → AreSplit names w (parted names w)
-parted_split names w rest e s a =
+pub parted_split : {J : Type 0} (tried : Tries) (names : List (List ℕ)) (w : State J) → AreSplit tried names w (parted names w)
+parted_split tried names w rest e s a =
     let f = filter_has (λ (v : Standing). lists names v.name) w.standings s a in
-    inr (lists_has names s.name f.1, f.0)
+    inr (inl (lists_has names s.name f.1), f.0)
 
 pub parted_fresh : {J : Type 0} (names : List (List ℕ)) (w : State J) → AreFresh names w (parted names w)
 parted_fresh names w rest e n a named =
@@ -353,20 +367,23 @@ parted_fresh names w rest e n a named =
     none_named bye n (farewell_none names w.standings) (subst (λ (v : List Entry). IsNamed v n) (sym same) named)
 
 -- one name's part
-part_mark : {J : Type 0} (w u : State J) (name : List ℕ) (names : List (List ℕ)) (gs more : List Entry) (z : State J) (s : Standing) (b : Bool) → same_name s.name name ≡ b → AreInOrder (name ∷ names) → ((s : Standing) → Has u.standings s → IsSplit (name ∷ names) w.standings gs s) → (IsNamed gs name → ⊥) → Part name u.standings more z.standings → Has z.standings s → IsSplit names w.standings (gs ++ more) s
-part_mark w u name names gs more z s true is o split fresh x a =
+part_mark : {J : Type 0} (tried : Tries) (w u : State J) (name : List ℕ) (names : List (List ℕ)) (gs more : List Entry) (z : State J) (s : Standing) (b : Bool) → same_name s.name name ≡ b → AreTried tried (name ∷ names) → ((s : Standing) → Has u.standings s → IsSplit tried (name ∷ names) w.standings gs s) → (IsNamed gs name → ⊥) → Part name u.standings more z.standings → Has z.standings s → IsSplit tried names w.standings (gs ++ more) s
+part_mark tried w u name names gs more z s true is o split fresh x a =
     let e = same_is s.name name is in
-    inl (λ n h. subst (λ (v : List ℕ). swept_before v n ≡ true) (sym e) (o.0 n h), marked_left gs more s (λ n. fresh (subst (λ (v : List ℕ). IsNamed gs v) e n)) (x.mark s a e))
-part_mark w u name names gs more z s false is o split fresh x a =
+    inl (λ n h. subst (λ (v : List ℕ). tried v n ≡ true) (sym e) (o.0 n h), marked_left gs more s (λ n. fresh (subst (λ (v : List ℕ). IsNamed gs v) e n)) (x.mark s a e))
+part_mark tried w u name names gs more z s false is o split fresh x a =
     let ne : s.name ≡ name → ⊥ = λ e. let same = is_same s.name name e in let none : ⊥ = cc in none in
     elim (split s (x.others s a ne)) [
       | inl h ↦ inl (λ n b. h.0 n (inr b), marked_right gs more s (λ n. ne (named_only name s.name more x.only n)) h.1)
-      | inr h ↦ elim h.0 [ inl e ↦ absurd (ne (sym e)) | inr b ↦ inr (b, h.1) ]
+      | inr h ↦ elim h.0 [
+        | inl c ↦ elim c [ inl e ↦ absurd (ne (sym e)) | inr b ↦ inr (inl b, h.1) ]
+        | inr f ↦ inr (inr f, h.1)
+      ]
     ]
 
-pub part_split : {J : Type 0} (w u : State J) (name : List ℕ) (names : List (List ℕ)) (gs more : List Entry) (z : State J) → u.entries ≡ w.entries ++ gs → z.entries ≡ u.entries ++ more → AreInOrder (name ∷ names) → AreSplit (name ∷ names) w u → (IsNamed gs name → ⊥) → Part name u.standings more z.standings → AreSplit names w z
-part_split w u name names gs more z e d o split fresh x rest f s a =
-    subst (λ (v : List Entry). IsSplit names w.standings v s) (added_rest w.entries u.entries gs rest more e (sym d ∙ f)) (part_mark w u name names gs more z s (same_name s.name name) refl o (split gs e) fresh x a)
+pub part_split : {J : Type 0} (tried : Tries) (w u : State J) (name : List ℕ) (names : List (List ℕ)) (gs more : List Entry) (z : State J) → u.entries ≡ w.entries ++ gs → z.entries ≡ u.entries ++ more → AreTried tried (name ∷ names) → AreSplit tried (name ∷ names) w u → (IsNamed gs name → ⊥) → Part name u.standings more z.standings → AreSplit tried names w z
+part_split tried w u name names gs more z e d o split fresh x rest f s a =
+    subst (λ (v : List Entry). IsSplit tried names w.standings v s) (added_rest w.entries u.entries gs rest more e (sym d ∙ f)) (part_mark tried w u name names gs more z s (same_name s.name name) refl o (split gs e) fresh x a)
 
 pub part_fresh : {J : Type 0} (w u : State J) (name : List ℕ) (names : List (List ℕ)) (gs more : List Entry) (z : State J) → u.entries ≡ w.entries ++ gs → z.entries ≡ u.entries ++ more → AllDistinct (name ∷ names) → AreFresh (name ∷ names) w u → Part name u.standings more z.standings → AreFresh names w z
 part_fresh w u name names gs more z e d distinct fresh x rest f n a named =

@@ -40,7 +40,7 @@ chain_names name (First n names how w x v ok more ms ns es p c) a =
     ]
 
 -- none is told twice
-chain_once : {J : Type 0} {answer : Answers J} {later : Laters J} {binds : Bool} {terms : Terms}
+pub chain_once : {J : Type 0} {answer : Answers J} {later : Laters J} {binds : Bool} {terms : Terms}
     {names : List (List ℕ)} {w v : State J} {ok : Bool} {ms : List Made} {es : List Entry}
     → AllDistinct names → Chain answer later binds terms names w ok ms es v
     → AllDistinct (unsettled_names es)
@@ -77,11 +77,11 @@ told_once gives told did answer later s w t v r = λ l e.
     )
 
 -- the name stands so, and its device lives from one kernel to the other
-record Lives (name : List ℕ) (known : Known) (i : ℕ) (ss : List Standing) (k l : Kernel) : Type 0 where
-  at : standing_of name ss ≡ Some known
-  file : IsFileOf k known.held.0 i
-  first : LiveAs k i name
-  last : LiveAs l i name
+pub record Lives (name : List ℕ) (known : Known) (i : ℕ) (ss : List Standing) (k l : Kernel) : Type 0 where
+  pub at : standing_of name ss ≡ Some known
+  pub file : IsFileOf k known.held.0 i
+  pub first : LiveAs k i name
+  pub last : LiveAs l i name
 
 -- and still does from a kernel between them
 lives_on : {name : List ℕ} {known : Known} {i : ℕ} {ss rs : List Standing} {k l : Kernel}
@@ -120,7 +120,7 @@ name_told (e ∷ es) name why (inr a) = has_right (name_in e) (unsettled_names e
 
 -- the chain
 
-chain_spared : {J : Type 0} {answer : Answers J} {later : Laters J} {binds : Bool} {terms : Terms}
+pub chain_spared : {J : Type 0} {answer : Answers J} {later : Laters J} {binds : Bool} {terms : Terms}
     {names : List (List ℕ)} {w v : State J} {ok : Bool} {ms : List Made} {es : List Entry}
     {name : List ℕ} {known : Known} {i : ℕ} {k l : Kernel} → AllDistinct names
     → Chain answer later binds terms names w ok ms es v → Lives name known i w.standings k l

@@ -14,5 +14,6 @@ pub mod Marks
 pub mod PartOrder
 pub mod Parts
 pub mod One
+pub mod Several
 pub mod Orders
 pub mod Slots

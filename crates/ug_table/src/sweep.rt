@@ -12,6 +12,7 @@ ghost use Rattle.ug_table.specs.Standings.{farewells};
 ghost use Rattle.ug_table.specs.Sweep.{settling_all, resettling_all, closing_unlisted, parted, unlisted, sweeping, names_of};
 ghost use Rattle.ug_table.specs.Laws.{Sweeps};
 ghost use Rattle.ug_table.specs.Parts.{TellsFaults, NamesOnce};
+ghost use Rattle.ug_table.specs.Several.{GoesInOrder, SettlesNames};
 
 use crate::judge::Judge;
 use crate::kept::Standings;
@@ -197,6 +198,44 @@ impl Table {
         }
     }
 
+    /// Settles each of these names in order, without a listing: the standings of other names stay as they are, and no
+    /// other name is told. A device was present at the start where that is said. It is what a sweep does behind its
+    /// listing.
+    pub fn settle_names<Y: Sysfs, A: Judge>(
+        &mut self,
+        alloc: Global,
+        sysfs: &mut Y,
+        names: &[NodeName],
+        present: bool,
+        judge: &mut A,
+        hub_default: Option<Write>,
+        out: &mut Journal,
+    )
+        requires room { 10 * length names.now ≤ (noted_in out.old).spare }
+        requires next { self.old.next + length names.now < 2 ^ 64 }
+        ensures runs { Runs Y.gives sysfs.old
+            (settling_all A.answer A.later names.now (terms_of present hub_default)
+            (state_of hub_default self.old (A.meaning judge.old) (noted_in out.old).entries))
+            (state_of hub_default self.new (A.meaning judge.new) (noted_in out.new).entries)
+            sysfs.new }
+        ensures parts { GoesInOrder Y.gives Y.calls Y.faults (terms_of present hub_default)
+            names.now sysfs.old
+            (state_of hub_default self.old (A.meaning judge.old) (noted_in out.old).entries)
+            sysfs.new
+            (state_of hub_default self.new (A.meaning judge.new) (noted_in out.new).entries) }
+        ensures law { SettlesNames Y.told A.answer A.later (terms_of present hub_default) names.now
+            sysfs.old
+            (state_of hub_default self.old (A.meaning judge.old) (noted_in out.old).entries)
+            sysfs.new
+            (state_of hub_default self.new (A.meaning judge.new) (noted_in out.new).entries) }
+        ensures next { self.new.next ≤ self.old.next + length names.now }
+        ensures journal { Notes (λ b. ⟦<dyn Auditor as Auditor>⟧ b.vtable) (10 * length names.now)
+            out.old out.new }
+        ensures len { length self.new.standings ≤ length self.old.standings + length names.now }
+    {
+        self.settle_all(alloc, sysfs, names, present, judge, hub_default, out);
+    }
+
     // The known names are settled all the same.
     #[tactic(auto, using(ug_kernel::proofs::Runs::runs_then))]
     fn go_unlisted<Y: Sysfs, A: Judge>(
@@ -312,7 +351,7 @@ impl Table {
         self.standings.close_unlisted(sysfs, &names);
         self.part(&names, judge, hub_default, out);
         self.listed = true;
-        self.settle_all(alloc, sysfs, &names, present, judge, hub_default, out);
+        self.settle_names(alloc, sysfs, &names, present, judge, hub_default, out);
     }
 }
 

@@ -3,8 +3,8 @@ use Rattle.ug_table.specs.Table.{TableState}
 use Rattle.ug_audit.proofs.Noting.{goes_on}
 use Rattle.ug_table.proofs.table.Table.sweep_names.Goals as goal
 
-pub settle_all-requires-clause-next : goal.settle_all-requires-clause-next
-settle_all-requires-clause-next g c =
+pub settle_names-requires-clause-next : goal.settle_names-requires-clause-next
+settle_names-requires-clause-next g c =
     let was = ap (λ (v : TableState). v.next) c.self.view_is in
     let now = ap (λ (v : TableState). v.next) c.self-2.view_is in
     omega (arith, was, now, ap length c.deref-4.ensures.value, c.in-Names.ensures.few, c.sorted-names.ensures.len)
