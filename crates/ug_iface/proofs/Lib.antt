@@ -14,3 +14,4 @@ pub mod Pass
 pub mod Counts
 pub mod Complete
 pub mod Lines
+pub mod Order

@@ -9,3 +9,4 @@ pub mod Look
 pub mod Settle
 pub mod Laws
 pub mod Counting
+pub mod Order

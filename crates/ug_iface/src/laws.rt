@@ -1,10 +1,13 @@
 // Laws of the meaning of a line that switches off interfaces.
 ghost use Rattle.std.specs.Prelude.{◌≡◌, ◌↔◌, ℕ, List, Ok, Err, codes};
+ghost use Rattle.std.specs.List.Sorted.{IsPermutation, IsSorted};
+ghost use Rattle.ug_iface.specs.Order.{in_iface_order};
 ghost use Rattle.ug_rule.specs.Faults.{fault_at};
 ghost use Rattle.ug_rule.specs.declared.fault.Fault.{Fault};
 ghost use Rattle.ug_rule.specs.declared.fault.FaultKind.TheVariants.{BadByte, BadValue, ConditionInQuery, Repeated, TrailingToken, UnknownWord};
 ghost use Rattle.ug_iface.specs.Rules.{HasNoOff, HasRuleFault, IsIfaceRule, InRule, NoOff, keyboards_off, iface_rule_read};
 
+use crate::name::IfaceName;
 use crate::rules::IfaceRule;
 
 /// A line is read as a rule exactly where its tokens are `off`, an interface type and a query. It is refused by kind 13 exactly
@@ -45,4 +48,13 @@ pub fn iface_lines_law()
         ≡ Err (InRule (fault_at ConditionInQuery 18)) }
     ensures trailing { iface_rule_read (codes "off 03:*:* 1050:* {")
         ≡ Err (InRule (fault_at TrailingToken 18)) }
+{}
+
+/// Interfaces in order are those that a sort leaves, by the name of their device, configuration and number.
+pub fn iface_order_law()
+    ensures only { (names order : List IfaceName) → IsPermutation names order
+        → IsSorted ⟦<IfaceName as Ord>⟧.cmp order → order ≡ in_iface_order names }
+    ensures all { (names : List IfaceName) → IsPermutation names (in_iface_order names) }
+    ensures sorted { (names : List IfaceName)
+        → IsSorted ⟦<IfaceName as Ord>⟧.cmp (in_iface_order names) }
 {}

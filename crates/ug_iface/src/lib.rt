@@ -13,7 +13,7 @@ mod settle;
 pub use calls::{IfaceHeld, IfaceListing, IfaceOpened, IfaceRead};
 pub use ifaces::Ifaces;
 pub use interface::Interface;
-pub use laws::{iface_lines_law, iface_rules_law};
+pub use laws::{iface_lines_law, iface_order_law, iface_rules_law};
 pub use name::IfaceName;
 pub use rules::{IfaceRule, parse_iface_rule};
 pub use settle::{IfaceEntry, Passed, settle_ifaces};
