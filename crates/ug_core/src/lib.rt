@@ -20,6 +20,7 @@ mod rules;
 mod start;
 mod start_fault;
 mod storing;
+mod walking;
 
 pub use between::Between;
 pub use classes::Classes;
