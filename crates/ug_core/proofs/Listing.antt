@@ -1,12 +1,11 @@
 -- A text's rules are read right into a list, behind those of the folder.
-use Rattle.std.proofs.Common.{◌≡◌, ◌≤◌, ◌<◌, ℕ, zero, suc, ◌+◌, add-one, Bool, true, false, ◌||◌, if◌then◌else◌, nat_le, nat_lt, List, [], ◌∷◌, ◌++◌, length, length-append, append_assoc, append-nil, take, drop, get_or, slice_get, Option, Some, None, Result, Ok, Err, inl, inr, refl, sym, subst, ap, ◌∙◌, arith}
+use Rattle.std.proofs.Common.{◌≡◌, ◌≤◌, ◌<◌, ℕ, zero, suc, ◌+◌, add-one, Bool, true, false, ◌||◌, if◌then◌else◌, nat_le, nat_lt, List, [], ◌∷◌, ◌++◌, length, length-append, append_assoc, append-nil, take, drop, get_or, Option, Some, None, Result, Ok, Err, inl, inr, refl, sym, subst, ap, ◌∙◌, arith}
 use Rattle.std.specs.Prelude.{All, IfSome, OnErr, OnOk}
 use Rattle.std.specs.List.{AllByRecursion, list_any}
 use Rattle.std.proofs.Math.Seq.{drop-cons}
 use Rattle.std.proofs.lemmas.Bool.Decides.{nat_tests}
 use Rattle.std.proofs.lemmas.List.{length-map, length-take-le, map-append, take-append-drop, take_more}
 use Rattle.std.proofs.lemmas.List.Elements.{All-from_recursion, recursion_from_All}
-use Rattle.std.proofs.lemmas.Option.{get_or_from_slice_get, slice_get_within}
 use Rattle.ug_types.specs.declared.rule.Rule.{Rule}
 use Rattle.ug_types.specs.declared.verdict.Target.TheVariants as target
 use Rattle.ug_types.specs.declared.text_fault.FileFault.{FileFault}
@@ -209,27 +208,26 @@ folder_bad (g ∷ files) more f place rules bad h reads = by (file_read g.text) 
 pub files_none : (listed : Option (List Marked)) → listed ≡ Some [] → ListsFolder [] listed
 files_none listed is = record { rules = []; reads = refl; all = subst (λ (o : Option (List Marked)). AreAllListed o []) (sym is) (refl, omega arith) }
 
-pub files_more : (files : List FolderFile) (i : ℕ) (f : FolderFile) (listed next : Option (List Marked)) → slice_get files i ≡ Some f → ListsFolder (take i files) listed → text_read (listing_line mark.Folder) listed f.text ≡ Ok next → ListsFolder (take (i + 1) files) next
-files_more files i f listed next at h read =
+pub files_more : (files : List FolderFile) (i : ℕ) (f : FolderFile) (listed next : Option (List Marked)) → i < length files → f ≡ get_or files i f → ListsFolder (take i files) listed → text_read (listing_line mark.Folder) listed f.text ≡ Ok next → ListsFolder (take (i + 1) files) next
+files_more files i f listed next within at h read =
     let all = found (marked_rules mark.Folder h.rules) mark.Folder f.text listed next h.all read in
-    let one : take (i + 1) files ≡ take i files ++ f ∷ [] = take_more files i f (slice_get_within files i f at) ∙ ap (λ (x : FolderFile). take i files ++ x ∷ []) (get_or_from_slice_get files i f f at) in
+    let one : take (i + 1) files ≡ take i files ++ f ∷ [] = take_more files i f within ∙ ap (λ (x : FolderFile). take i files ++ x ∷ []) (sym at) in
     record {
       rules = h.rules ++ all.0;
       reads = ap (folder_read 0) one ∙ folder_more (take i files) f 0 h.rules all.0 h.reads all.1;
       all = subst (AreAllListed next) (sym (map-append (λ (r : Rule). record { mark = mark.Folder; rule = r }) h.rules all.0)) all.2;
     }
 
-pub files_bad : (files : List FolderFile) (i : ℕ) (f : FolderFile) (listed last : Option (List Marked)) (fault : FileFault) → slice_get files i ≡ Some f → ListsFolder (take i files) listed → LeadsTo (text_read (listing_line mark.Folder) listed f.text) (Err fault) last → IsFolderListed files (Err (fault_in_folder i fault))
-files_bad files i f start last (file.Bad bad) at h read =
-    let within : i < length files = slice_get_within files i f at in
+pub files_bad : (files : List FolderFile) (i : ℕ) (f : FolderFile) (listed last : Option (List Marked)) (fault : FileFault) → i < length files → f ≡ get_or files i f → ListsFolder (take i files) listed → LeadsTo (text_read (listing_line mark.Folder) listed f.text) (Err fault) last → IsFolderListed files (Err (fault_in_folder i fault))
+files_bad files i f start last (file.Bad bad) within at h read =
     let reads : file_read f.text ≡ Err bad = first_fault (marked_rules mark.Folder h.rules) mark.Folder f.text start bad h.all read in
     let long : 0 + length (take i files) ≡ i = omega (arith, length-take-le i files (omega (arith, within))) in
-    let rest : drop i files ≡ f ∷ drop (i + 1) files = rw (add-one, drop-cons files i f) (ap (λ (x : FolderFile). x ∷ drop (suc i) files) (get_or_from_slice_get files i f f at)) in
+    let rest : drop i files ≡ f ∷ drop (i + 1) files = rw (add-one, drop-cons files i f) (ap (λ (x : FolderFile). x ∷ drop (suc i) files) (sym at)) in
     let split : files ≡ take i files ++ f ∷ drop (i + 1) files = sym (take-append-drop i files) ∙ ap (λ (v : List FolderFile). take i files ++ v) rest in
     ap (folder_read 0) split
     ∙ folder_bad (take i files) (drop (i + 1) files) f 0 h.rules bad h.reads reads
     ∙ ap (λ (n : ℕ). Err (record { file = n; fault = bad })) long
-files_bad files i f start last file.Memory at h read = tt
+files_bad files i f start last file.Memory within at h read = tt
 
 -- ---- what is told of the folder
 

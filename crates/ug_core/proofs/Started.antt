@@ -1,5 +1,5 @@
 -- What a daemon starts with.
-use Rattle.std.proofs.Common.{◌≡◌, ℕ, ◌+◌, ◌<◌, ◌≤◌, Bool, List, [], ◌∷◌, length, Option, Result, Ok, Err, inl, inr, refl, sym, ap, subst, ◌∙◌, arith}
+use Rattle.std.proofs.Common.{◌≡◌, ℕ, ◌+◌, ◌<◌, ◌≤◌, Bool, false, List, [], ◌∷◌, length, Option, Result, Ok, Err, inl, inr, refl, sym, ap, subst, ◌∙◌, arith}
 use Rattle.ug_types.specs.Elements.{Has, AllDistinct}
 use Rattle.ug_types.specs.declared.rule.Rule.{Rule}
 use Rattle.ug_policy.specs.declared.entry.Mark.TheVariants as mark
@@ -82,9 +82,9 @@ loaded folder (Err e) started j h rules next = let none : ⊥ = cc in absurd non
 new_later : {S : Type 0} (keeps : S → (call : DiskCall) → DiskTold call → S → Type 0) (told : S → Option Disk) (faults : S → ℕ) (folder : List Rule) (s : S) (started : Bool × Rules) (t : S) (j : Judging) → Loads keeps told faults folder s (Ok started) t → j.rules ≡ started.1.entries → j.next ≡ started.1.next → IsLater j 0 [] j
 new_later keeps told faults folder s started t j h rules next = loaded folder h.read started j h.starts rules next
 
-pub starts_from : {D : Type 0} (f : D → DaemonState) (outset : Outset) (loaded : Bool × Rules) (r : Result D StartFault) → IfOk r (λ d. StartsWithRules outset loaded (f d)) → IfErr r (λ e. e ≡ fault.Memory) → StartsFrom outset (Ok loaded) (seen_by f r)
-starts_from f outset loaded (Ok d) a b = a
-starts_from f outset loaded (Err e) a b = b
+pub starts_from : {D : Type 0} (f : D → DaemonState) (outset : Outset) (started : Bool × Rules) (r : Result D StartFault) → IfOk r (λ d. StartsWithRules outset started (f d)) → IfErr r (λ e. e ≡ fault.Memory) → StartsFrom outset (Ok started) (seen_by f r)
+starts_from f outset started (Ok d) a b = a
+starts_from f outset started (Err e) a b = b
 
 pub starts_later : {S D : Type 0} (f : D → DaemonState) (keeps : S → (call : DiskCall) → DiskTold call → S → Type 0) (told : S → Option Disk) (faults : S → ℕ) (folder : List Rule) (s : S) (outset : Outset) (started : Bool × Rules) (t : S) (r : Result D StartFault) → Loads keeps told faults folder s (Ok started) t → IfOk r (λ d. StartsWithRules outset started (f d)) → IfOk r (λ d. IsLater (f d).sweep.judge 0 [] (f d).sweep.judge)
 starts_later f keeps told faults folder s outset started t (Ok d) h a = new_later keeps told faults folder s started t (f d).sweep.judge h (ap (λ (j : Judging). j.rules) a.started.judge) (ap (λ (j : Judging). j.next) a.started.judge)

@@ -85,7 +85,6 @@ impl LineReader for FolderListed {
 
     ghost keeps = { λ _ _. Unit {0} };
 
-    #[tactic(auto, using(crate::proofs::Readable::line_well))]
     fn read_line(&mut self, alloc: Global, number: u64, line: &[u8]) -> Result<(), FileFault> {
         match parse_line(alloc, number, line) {
             Ok(Some(rule)) => match self.add(alloc, rule) {
