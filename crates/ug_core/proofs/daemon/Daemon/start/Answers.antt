@@ -1,4 +1,5 @@
 use Rattle.std.proofs.Common.{List, Option, Err, Ok, sym, inl, refl, subst}
+use Rattle.std.proofs.lemmas.Result.{err_from_is_err_and}
 use Rattle.ug_store.specs.Store.{seen_by}
 use Rattle.ug_core.specs.Event.{daemon_of}
 use Rattle.ug_kernel.specs.declared.control.Write.{Write}
@@ -13,15 +14,17 @@ use Rattle.ug_core.proofs.daemon.Daemon.start.Goals as goal
 pub returns-in_err-listed-clause-starts : goal.returns-in_err-listed-clause-starts
 returns-in_err-listed-clause-starts g c =
     let outset : Outset = record { classes = classes_of c.args.settings; hub = hub_default c.args.settings.default; access = c.args.acl; clock = clock_of c.args.zone; words = g.R.Rng.stream c.args.rng; first = c.args.first } in
-    refused_folder g.D.RuleDisk.keeps g.D.RuleDisk.told g.D.RuleDisk.faults outset c.args.folder c.args.disk.now _ (subst (λ (files : List FolderFile). TakesFolder files (Err c.in_err-listed.field-0)) c.as_slice.ensures c.in_err-listed.ensures.takes)
+    let p = err_from_is_err_and c.from_residual.result c.from_residual.ensures.1 in
+    rw (p.1, p.2) (refused_folder g.D.RuleDisk.keeps g.D.RuleDisk.told g.D.RuleDisk.faults outset c.args.folder c.args.disk.now _ (subst (λ (files : List FolderFile). TakesFolder files (Err c.in_err-listed.field-0.0)) c.as_slice.ensures c.in_err-listed.ensures.takes))
 
 pub returns-in_err-loaded-clause-starts : goal.returns-in_err-loaded-clause-starts
 returns-in_err-loaded-clause-starts g c =
+    let p = err_from_is_err_and c.from_residual-in_err-loaded.result c.from_residual-in_err-loaded.ensures.1 in
     let takes = subst (λ (files : List FolderFile). TakesFolder files (Ok c.in_ok-listed.listed)) c.as_slice.ensures c.in_ok-listed.ensures.takes in
     record {
       folder = Ok takes.0;
       taken = inl (sym takes.1);
-      starts = record { loaded = Err c.in_err-loaded.field-0; loads = c.in_err-loaded.ensures.loads takes.0 takes.2; starts = refl };
+      starts = record { loaded = Err c.in_err-loaded.field-0.0; loads = c.in_err-loaded.ensures.loads takes.0 takes.2; starts = rw (p.1, p.2) refl };
     }
 
 pub returns-clause-starts : goal.returns-clause-starts
