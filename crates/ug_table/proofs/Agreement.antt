@@ -163,11 +163,11 @@ retry_all_kept ss retry p h same = record {
 marked_settled : (name : List ℕ) (b : Bool) (s : Standing) → s.name ≡ name → (marked name b s).settled ≡ b
 marked_settled name b s e = ap (λ (v : Standing). v.settled) (marked_own name b s e)
 
-other_settled : (name : List ℕ) (b : Bool) (s : Standing) → (s.name ≡ name → ⊥) → marked name b s ≡ s
+pub other_settled : (name : List ℕ) (b : Bool) (s : Standing) → (s.name ≡ name → ⊥) → marked name b s ≡ s
 other_settled name b s ne = marked_other name b s (false_from_ne_true (same_name s.name name) (λ t. ne (name_same s.name name t)))
 
 -- whether a standing bears a name
-either_named : (name : List ℕ) (s : Standing) → (s.name ≡ name) ⊎ (s.name ≡ name → ⊥)
+pub either_named : (name : List ℕ) (s : Standing) → (s.name ≡ name) ⊎ (s.name ≡ name → ⊥)
 either_named name s = elim (cases_Bool (same_name s.name name)) [ inl t ↦ inl (name_same s.name name t) | inr f ↦ inr (λ e. both_ways (same_name s.name name) f (subst (λ (v : List ℕ). same_name v name ≡ true) (sym e) (same_refl name))) ]
 
 module _ (ss : List Standing) (num : ℕ → Option (List ℕ)) (name : List ℕ) (x : Standing) (retry : List ℕ) (d : AllDistinct (names_of ss)) (n : Numbers ss num) (at : named name ss ≡ Some x) (h : IsRetry ss retry) where
@@ -646,7 +646,7 @@ filter_few p (s ∷ ss) = let rest = filter_few p ss in cond_both (p s) (s ∷ f
 pub without_few : (name : List ℕ) (ss : List Standing) → length (without name ss) ≤ length ss
 without_few name ss = filter_few (λ (s : Standing). not (same_name s.name name)) ss
 
-unordered : (number : ℕ) (verdict : Target) (who : Named) (y : Standing) → (y.number ≡ number → ⊥) → ordered_standing number verdict who y ≡ y
+pub unordered : (number : ℕ) (verdict : Target) (who : Named) (y : Standing) → (y.number ≡ number → ⊥) → ordered_standing number verdict who y ≡ y
 unordered number verdict who y ne = ap (λ (t : Bool). record y { verdict = cond t verdict y.verdict; cause = cond t (Cause.Order who) y.cause }) (false_from_ne_true (nat_eq y.number number) (λ t. ne (number_is number y t)))
 
 -- an order on the standing of a number

@@ -24,3 +24,4 @@ pub mod Entries
 pub mod Agreement
 pub mod Above
 pub mod Asked
+pub mod Watched

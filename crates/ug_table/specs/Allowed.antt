@@ -1,5 +1,8 @@
 -- The devices that are allowed.
 use Rattle.std.specs.Prelude.{Bool, true, false, List, [], ◌∷◌, ◌++◌}
+use Rattle.std.specs.List.{list_any}
+use Rattle.ug_types.specs.declared.rule.Query.{Query}
+use Rattle.ug_match.specs.Queries.{query_matches}
 use Rattle.ug_types.specs.declared.record.DeviceRecord.{DeviceRecord}
 use Rattle.ug_types.specs.declared.record.Judged.{Judged}
 use Rattle.ug_types.specs.declared.record.Judged.TheVariants as judged
@@ -19,3 +22,8 @@ allowed_of false verdict given = []
 abbrev pub allowed_records : List Standing → List DeviceRecord
 allowed_records [] = []
 allowed_records (s ∷ ss) = allowed_of s.settled s.verdict s.judged ++ allowed_records ss
+
+-- whether the query matches the device of a standing, which is settled and allowed
+abbrev pub matches_allowed : Query → Standing → Bool
+matches_allowed query s =
+    list_any (query_matches query) (allowed_of s.settled s.verdict s.judged)

@@ -17,3 +17,4 @@ pub mod One
 pub mod Several
 pub mod Orders
 pub mod Slots
+pub mod Watched

@@ -6,7 +6,7 @@ ghost use Rattle.ug_types.specs.declared.verdict.Cause.{Cause};
 ghost use Rattle.ug_table.specs.declared.standing.Standing.{Standing};
 
 use crate::table::Table;
-use ug_types::{Cause, Judged, Target};
+use ug_types::{Cause, Judged, Query, Target};
 
 /// Gives verdicts, and may change as it does.
 pub trait Judge {
@@ -34,4 +34,9 @@ pub trait Judge {
             ≡ answer (meaning self.old) dev.now controller present on allowed.now.standings }
         ensures later { meaning self.new
             ≡ later (meaning self.old) dev.now controller present on allowed.now.standings };
+
+    /// The query about allowed devices that is asked most, if any. A sweep has its answer at hand.
+    fn asked(&self) -> Option<&Query> {
+        None
+    }
 }

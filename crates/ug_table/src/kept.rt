@@ -4,8 +4,7 @@ ghost use Rattle.std.specs.BTreeMap.{get};
 ghost use Rattle.std.proofs.lemmas.Map.Entries.{option_filter};
 ghost use Rattle.std.specs.Ordering.{nat_cmp};
 ghost use Rattle.std.specs.List.{filter, list_any};
-ghost use Rattle.ug_match.specs.Queries.{query_matches};
-ghost use Rattle.ug_table.specs.Allowed.{allowed_of};
+ghost use Rattle.ug_table.specs.Allowed.{matches_allowed};
 ghost use Rattle.std.specs.List.Sorted.{IsSorted};
 ghost use Rattle.ug_types.specs.Names.{sweep_cmp};
 ghost use Rattle.ug_table.specs.Standings.{named, standing_of, numbered, marked, did_default, without, with_standing, lists};
@@ -17,7 +16,8 @@ use crate::slots::{
     Slots, fill, find, forget, has, make_place, mark, mark_default, order, retain_listed,
 };
 use crate::standing::{Known, Place, Standing};
-use crate::table::{is_allowed, known_of};
+use crate::table::known_of;
+use crate::watch::{Watch, find_allowed, look_again, look_at, matches_found, rules_out, watching};
 use std::alloc::Global;
 use std::collections::BTreeMap;
 use std::marker::Model;
@@ -33,18 +33,21 @@ pub struct Standings {
     place: Option<Place>,
     // The numbers of those that aren't settled, with room for each.
     retry: Vec<u64>,
+    watch: Option<Watch>,
 }
 
 impl Model for Standings {
     ghost use Rattle.std.specs.Prelude.{vec_capacity};
-    ghost use Rattle.ug_table.specs.Slots.{Store, store, Agree};
+    ghost use Rattle.ug_table.specs.Slots.{Store, store, filled, Agree};
+    ghost use Rattle.ug_table.specs.Watched.{AnswersFor};
 
     ghost Value = { Store };
 
     ghost view = { λ s. store s.by_name.entries s.place };
 
     ghost invariant = { λ s.
-        Agree s.by_name s.by_number s.place s.retry.items (vec_capacity s.retry) };
+        Agree s.by_name s.by_number s.place s.retry.items (vec_capacity s.retry)
+        × AnswersFor s.watch (filled s.by_name.entries) };
 }
 
 impl Standings {
@@ -58,6 +61,7 @@ impl Standings {
             by_number: BTreeMap::new(alloc),
             place: None,
             retry: Vec::new(alloc),
+            watch: None,
         }
     }
 
@@ -80,12 +84,24 @@ impl Standings {
 
     /// Whether a query matches a settled device whose verdict is to allow it.
     pub fn any_allowed(&self, query: &Query) -> bool
-        ensures { result
-            ≡ list_any
-            (λ s. list_any (query_matches query.now) (allowed_of s.settled s.verdict s.judged))
-            self.now.items }
+        ensures { result ≡ list_any (matches_allowed query.now) self.now.items }
     {
-        has_allowed(&self.by_name, query)
+        if rules_out(&self.watch, query) {
+            return false;
+        }
+        matches_found(&self.by_name, &self.watch, query)
+            || find_allowed(&self.by_name, query).is_some()
+    }
+
+    /// Has the answer for a query at hand from now on, where there is memory for it.
+    pub fn watch(&mut self, alloc: Global, query: Option<&Query>)
+        ensures items { self.new.items ≡ self.old.items }
+        ensures place { self.new.place ≡ self.old.place }
+    {
+        self.watch = match query {
+            Some(query) => watching(alloc, query, &self.by_name),
+            None => None,
+        };
     }
 
     /// The standing of a number.
@@ -155,6 +171,7 @@ impl Standings {
         ensures len { length self.new.items ≡ length self.old.items + 1 }
     {
         note_mark(&mut self.retry, standing.number, true, standing.settled);
+        look_at(&mut self.watch, &standing);
         fill(&mut self.by_name, standing);
         self.place = None;
     }
@@ -197,6 +214,7 @@ impl Standings {
         };
         note_mark(&mut self.retry, number, was, settled);
         mark(&mut self.by_name, name, settled);
+        look_again(&mut self.watch, &self.by_name, name);
     }
 
     /// Notes that the default of a name's device was written, where it was. It takes no memory.
@@ -219,6 +237,7 @@ impl Standings {
             None => return,
         };
         order(&mut self.by_name, &name, number, verdict, who);
+        look_again(&mut self.watch, &self.by_name, &name);
     }
 
     /// How many standings there are, and places for others.
@@ -294,20 +313,4 @@ fn take_out(retry: &mut Vec<u64>, number: u64)
     ensures capacity { vec_capacity retry.new ≡ vec_capacity retry.old }
 {
     retry.retain(|n| *n != number);
-}
-
-fn has_allowed(slots: &Slots, query: &Query) -> bool
-    ensures { result
-        ≡ list_any
-        (λ s. list_any (query_matches query.now) (allowed_of s.settled s.verdict s.judged))
-        (filled slots.now.entries) }
-{
-    for (_name, slot) in slots {
-        if let Some(s) = slot
-            && is_allowed(s, query)
-        {
-            return true;
-        }
-    }
-    false
 }

@@ -6,11 +6,13 @@ mod judge;
 mod kept;
 mod order;
 mod parent;
+mod query;
 mod settle;
 mod slots;
 mod standing;
 mod sweep;
 mod table;
+mod watch;
 
 pub use judge::Judge;
 pub use standing::{Known, Settled, Standing};

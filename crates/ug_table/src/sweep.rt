@@ -306,6 +306,7 @@ impl Table {
             sysfs.new
             (state_of hub_default self.new (A.meaning judge.new) (noted_in out.new).entries) }
     {
+        self.standings.watch(alloc, judge.asked());
         self.sweep_names(alloc, sysfs, judge, hub_default, out);
     }
 

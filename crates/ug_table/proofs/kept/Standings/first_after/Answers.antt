@@ -20,7 +20,7 @@ returns-in-Some-numbered c =
       omega (arith, from, above, k.1),
       λ s a lt.
           let b = subst (λ (v : Store). Has v.items s) (sym c.self.view_is) a in
-          let le = some.1 s.number (passed.1 s b lt) (search (arith, c.self.invariant.numbers s b)) in
+          let le = some.1 s.number (passed.1 s b lt) (search (arith, c.self.invariant.0.numbers s b)) in
           omega (arith, le, k.1),
     )
 
@@ -32,7 +32,7 @@ loop-at-preserved c =
     let above = some.0 in (
       omega (arith, from, above),
       λ s b lt.
-          let le = some.1 s.number (passed.1 s b lt) (search (arith, c.self.invariant.numbers s b)) in
+          let le = some.1 s.number (passed.1 s b lt) (search (arith, c.self.invariant.0.numbers s b)) in
           let ne : s.number ≡ c.in-Some.at → ⊥ = unnumbered c.in-Some.at c.args.self.now.items s (sym c.in_default-numbered.ensures) (subst (λ (v : Store). Has v.items s) c.self.view_is b) in
           omega (arith, le, ne),
     )
@@ -42,6 +42,6 @@ returns c s a =
     let passed = c.loop-at.invariant in
     let b = subst (λ (v : Store). Has v.items s) (sym c.self.view_is) a in
     elim (dec_lt c.args.number s.number) [
-      | yes lt ↦ (let none = c.in_default.ensures.none refl s.number (passed.1 s b lt) in let some = c.self.invariant.numbers s b in let no : ⊥ = cc in absurd no)
+      | yes lt ↦ (let none = c.in_default.ensures.none refl s.number (passed.1 s b lt) in let some = c.self.invariant.0.numbers s b in let no : ⊥ = cc in absurd no)
       | no ge ↦ omega (arith, ge)
     ]
