@@ -305,4 +305,8 @@ impl<'z, R: Rng> Judge for Policy<'z, R> {
             }
         }
     }
+
+    fn asked(&self) -> Option<&Query> {
+        self.rules.asked()
+    }
 }

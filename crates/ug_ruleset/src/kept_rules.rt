@@ -12,6 +12,7 @@ ghost use Rattle.ug_policy.specs.Rules.{rules_in};
 ghost use Rattle.ug_ruleset.specs.RulePlaces.{has_folder_rule, has_permanent, has_rule, if_behind, if_few, place_refusal, if_removed, if_taken, made_rule};
 ghost use Rattle.ug_ruleset.specs.RuleRows.{rule_rows};
 
+use crate::asked::first_asked;
 use crate::edit::Edit;
 use crate::file_text::file_text;
 use crate::rule_list::list_rules;
@@ -22,7 +23,7 @@ use ug_cond::{Allowed, Context};
 use ug_policy::{MAX_RULES, Mark, RuleEntry, RuleList};
 use ug_print::{RulesTextFault, is_made_of};
 use ug_refusal::Refusal;
-use ug_types::{After, Cause, DeviceRecord, List, NoMemory, Rule, Target, Text};
+use ug_types::{After, Cause, DeviceRecord, List, NoMemory, Query, Rule, Target, Text};
 
 /// Rules, each of which reads again from its canonical text. A rule file has room for the permanent ones.
 #[derive(Drop)]
@@ -68,6 +69,11 @@ impl KeptRules {
         ensures one_line { IfOk result (λ rows. AreLines rows) }
     {
         list_rules(alloc, &self.list)
+    }
+
+    /// The first query of an `allowed-matches` condition. It is a hint: no verdict depends on it.
+    pub fn asked(&self) -> Option<&Query> {
+        first_asked(self.list.as_slice())
     }
 
     /// The id that the next rule gets.

@@ -1,6 +1,7 @@
 // The daemon's rules in order, what changes of them, and the text of the rule file with them.
 #![tactic(auto)]
 
+mod asked;
 mod edit;
 mod file_text;
 mod kept_rules;
