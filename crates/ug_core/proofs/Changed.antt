@@ -140,7 +140,7 @@ numbered_edited (Insert place rule mark) next es can n =
 numbered_edited (Remove id) next es can n = numbered_removed id next es n
 numbered_edited (Retarget id rule) next es can n = numbered_retargeted id rule.target es next n
 
-numbered_changed : (change : Change) (p : Judging) → CanChange change p.rules → IsNumbered p.rules p.next → IsNumbered (changed_by change p).rules (changed_by change p).next
+pub numbered_changed : (change : Change) (p : Judging) → CanChange change p.rules → IsNumbered p.rules p.next → IsNumbered (changed_by change p).rules (changed_by change p).next
 numbered_changed (Rules edit) p can n = numbered_edited edit p.next p.rules can n
 numbered_changed (Set set) p can n = n
 

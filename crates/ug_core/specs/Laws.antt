@@ -26,7 +26,7 @@ use Rattle.ug_audit.specs.declared.entry.Entry.TheVariants as entry
 use Rattle.ug_proto.specs.declared.reply.Reply.{Reply}
 use Rattle.ug_proto.specs.declared.reply.Reply.TheVariants as replies
 use Rattle.ug_policy.specs.Edits.{folder_behind}
-use Rattle.ug_policy.specs.Rules.{ids, most_rules}
+use Rattle.ug_policy.specs.Rules.{IsNumbered, ids, most_rules}
 use Rattle.ug_policy.specs.declared.entry.Mark.TheVariants as mark
 use Rattle.ug_proto.specs.declared.request.Request.{Request}
 use Rattle.ug_proto.specs.declared.request.Request.TheVariants as request
@@ -516,5 +516,7 @@ module _ {S T : Type 0} (sysfs : Sysfs.Ghosts S) (disk : RuleDisk.Ghosts T) wher
     pub written : WritesEvent event d became
     pub saveable : IsSaveable d.sweep.judge.rules
     pub saveable_after : IsSaveable e.sweep.judge.rules
+    pub numbered : IsNumbered d.sweep.judge.rules d.sweep.judge.next
+    pub numbered_after : IsNumbered e.sweep.judge.rules e.sweep.judge.next
     pub file : KeepsFile disk_told event tried became o d p e
     pub saves : TriesSave event tried became d e

@@ -7,7 +7,7 @@ ghost use Rattle.ug_core.specs.Policy.{Judging, asks, by_class, clock_of, contex
 ghost use Rattle.ug_core.specs.Changes.{CanChange, ChangeReads, ChangeSaves, HasRoom, changed_by, is_saved, parameter_at, text_to_save, verdict_edit};
 ghost use Rattle.ug_ruleset.specs.RuleEdits.{EditReads, if_room_for};
 ghost use Rattle.ug_ruleset.specs.RuleFile.{FitsFile, IsSaveable, ReadsBack, permanent_rules, permanent_text};
-ghost use Rattle.ug_policy.specs.Rules.{rules_in};
+ghost use Rattle.ug_policy.specs.Rules.{IsNumbered, rules_in};
 ghost use Rattle.ug_ruleset.specs.RulePlaces.{if_removed, if_taken};
 ghost use Rattle.ug_lines.specs.Splitting.{AreLines};
 ghost use Rattle.ug_ruleset.specs.RuleRows.{rule_rows};
@@ -234,9 +234,12 @@ impl<'z, R: Rng> Policy<'z, R> {
         self.rules.text(alloc)
     }
 
-    /// The permanent rules read again from the text that is saved of them, for which a rule file has room.
+    /// The permanent rules read again from the text that is saved of them, for which a rule file has room. The folder's stand before them, and no
+    /// two rules have one id.
     pub fn stay_saveable(&self)
-        ensures { IsSaveable (judging_of R.stream self.now).rules }
+        ensures saves { IsSaveable (judging_of R.stream self.now).rules }
+        ensures numbered { IsNumbered (judging_of R.stream self.now).rules
+            (judging_of R.stream self.now).next }
     {
         self.rules.stay_saveable();
     }

@@ -8,7 +8,7 @@ ghost use Rattle.ug_rule.specs.Files.{file_read};
 ghost use Rattle.ug_types.specs.declared.verdict.Target.{Target};
 ghost use Rattle.ug_ruleset.specs.RuleEdits.{CanEdit, EditReads, HasRoomFor, IsButForTarget, changes_file, edited_by, if_room_for, next_after};
 ghost use Rattle.ug_ruleset.specs.RuleFile.{FitsFile, IsSaveable, ReadsBack, permanent_rules, permanent_text};
-ghost use Rattle.ug_policy.specs.Rules.{rules_in};
+ghost use Rattle.ug_policy.specs.Rules.{IsNumbered, rules_in};
 ghost use Rattle.ug_ruleset.specs.RulePlaces.{has_folder_rule, has_permanent, has_rule, if_behind, if_few, place_refusal, if_removed, if_taken, made_rule};
 ghost use Rattle.ug_ruleset.specs.RuleRows.{rule_rows};
 
@@ -291,11 +291,14 @@ impl KeptRules {
         file_text(alloc, &self.list, Some(edit))
     }
 
-    /// The permanent rules read again from the text that is saved of them, for which a rule file has room.
+    /// The permanent rules read again from the text that is saved of them, for which a rule file has room. The folder's stand before them, and no
+    /// two rules have one id.
     pub fn stay_saveable(&self)
-        ensures { IsSaveable self.now.entries }
+        ensures saves { IsSaveable self.now.entries }
+        ensures numbered { IsNumbered self.now.entries self.now.next }
     {
-        let _rules = self.list.as_slice();
+        let _next = self.list.next_id();
+        let _count = self.list.len();
     }
 
     /// The same, where the edit changes permanent rules.

@@ -66,8 +66,8 @@ returns-clause-handles g c =
       answers = answers;
       answers_law = λ l told. let x = law l told in (x.0, sym began.0 ∙ x.1, x.2);
       written = ready_writes event tried d became (subst (λ (x : DaemonState). WritesEvent event x became) is c.answer-stored.ensures.written);
-      saveable = c.stay_saveable.ensures;
-      saveable_after = c.stay_saveable-2.ensures;
+      saveable = c.stay_saveable.ensures.saves;
+      saveable_after = c.stay_saveable-2.ensures.saves;
       counted_store = c.answer-stored.ensures.counted;
       runs = c.sweep.ensures.runs;
       law = c.sweep.ensures.law;

@@ -70,8 +70,10 @@ returns-clause-passes g c =
       runs = c.sweep.ensures.runs;
       binds = binds_judged g.Y.Sysfs g.met.Y.Sysfs.did [] resumed resumed a t e refl c.sweep.ensures.runs;
       written = ready_writes event tried d became (subst (λ (x : DaemonState). WritesEvent event x became) is c.answer-stored.ensures.written);
-      saveable = c.stay_saveable.ensures;
-      saveable_after = c.stay_saveable-2.ensures;
+      saveable = c.stay_saveable.ensures.saves;
+      saveable_after = c.stay_saveable-2.ensures.saves;
+      numbered = c.stay_saveable.ensures.numbered;
+      numbered_after = c.stay_saveable-2.ensures.numbered;
       file = kept_event g.Y.Sysfs.gives g.D.RuleDisk.keeps g.D.RuleDisk.told g.met.D.RuleDisk.did event started o d tried q became middle p a e adds.0 tries answers adds.1 (event_keeps_rules g.Y.Sysfs.gives resumed a e t c.sweep.ensures.runs);
       saves = tries_save g.Y.Sysfs.gives g.Y.Sysfs.calls g.Y.Sysfs.faults g.D.RuleDisk.keeps event o d tried q started became made.made middle p a resumed t e c.sweep.ensures.tells.swept tries answers made.goes c.sweep.ensures.tells.tells.goes c.sweep.ensures.tells.entries (event_keeps_pending g.Y.Sysfs.gives resumed a e t c.sweep.ensures.runs);
     }
