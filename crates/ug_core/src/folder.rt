@@ -13,8 +13,8 @@ use std::marker::Model;
 use ug_conf::{FolderFile, TEXT_LIMIT};
 use ug_lines::{LineReader, read_lines};
 use ug_policy::{MAX_RULES, Mark, RuleList};
-use ug_print::print_rule;
 use ug_rule::parse_line;
+use ug_ruleset::stay_readable;
 use ug_types::{FileFault, NoMemory, Rule};
 
 /// The folder's rules so far, with ids from 1 on. There is no list where they are more than one takes.
@@ -46,7 +46,7 @@ impl FolderListed {
     }
 
     #[tactic(auto, using(crate::proofs::Listing::few_listed, crate::proofs::Listing::many_listed))]
-    fn add(&mut self, alloc: Global, rule: Rule) -> Result<(), NoMemory>
+    fn add(&mut self, rule: Rule) -> Result<(), NoMemory>
         requires { WellFormed rule }
         ensures { OnOk result
             (self.new ≡ one_listed (record { mark = Mark.Folder; rule = rule }) self.old) }
@@ -56,7 +56,7 @@ impl FolderListed {
         };
         if list.len() < MAX_RULES {
             // A rule that is kept reads again from its canonical text.
-            let _canonical = print_rule(alloc, &rule)?;
+            stay_readable(&rule);
             return append(list, rule, Mark::Folder);
         }
         self.list = None;
@@ -87,7 +87,7 @@ impl LineReader for FolderListed {
 
     fn read_line(&mut self, alloc: Global, number: u64, line: &[u8]) -> Result<(), FileFault> {
         match parse_line(alloc, number, line) {
-            Ok(Some(rule)) => match self.add(alloc, rule) {
+            Ok(Some(rule)) => match self.add(rule) {
                 Ok(()) => Ok(()),
                 Err(_) => Err(FileFault::Memory),
             },

@@ -1,6 +1,5 @@
-use Rattle.std.proofs.Common.{sym, subst, ap, ◌∙◌}
+use Rattle.std.proofs.Common.{sym, subst, ◌∙◌}
 use Rattle.ug_rule.proofs.RuleCuts.{read_well}
-use Rattle.ug_rule.specs.Rules.{rule_read}
 use Rattle.ug_core.specs.Answering.{CanMake}
 use Rattle.ug_core.specs.declared.choosing.Choice.{Choice}
 use Rattle.ug_core.proofs.Places.{place_free}
@@ -9,4 +8,4 @@ use Rattle.ug_core.proofs.daemon.Daemon.choose_place.Goals as goal
 pub returns-clause-can_make : goal.returns-clause-can_make
 returns-clause-can_make g c =
     let rules = c.args.self.now.policy.rules.entries in
-    subst (λ (v : Choice). CanMake rules v.change) (sym c.change.ensures) (place_free c.args.after c.args.permanent rules (sym c.refuse_rule.ensures ∙ c.in_default.is), sym (ap rule_read c.in-Ok.ensures.text) ∙ c.in-Ok.ensures.reads (read_well c.args.rule (c.args.text.now, c.requires)))
+    subst (λ (v : Choice). CanMake rules v.change) (sym c.change.ensures) (place_free c.args.after c.args.permanent rules (sym c.refuse_rule.ensures ∙ c.in_default.is), c.stay_readable.ensures.reads (read_well c.args.rule (c.args.text.now, c.requires)))
