@@ -30,6 +30,7 @@ pub mod LineTables
 pub mod HexWords
 pub mod Zones
 pub mod FileWords
+pub mod IfaceLines
 pub mod LineReads
 pub mod Turns
 pub mod Schedules

@@ -22,6 +22,7 @@ use Rattle.ug_store.specs.declared.mishap.Mishap.{Mishap}
 use Rattle.ug_store.specs.declared.mishap.Mishap.TheVariants.{NoEffect, Effect}
 use Rattle.ug_store.specs.declared.mishap.Planned.{Planned}
 use Rattle.ug_sysfs.specs.declared.script.Failing.{Failing}
+use Rattle.ug_sysfs.specs.declared.script.IfaceMove.TheVariants.{Add, Remove}
 use Rattle.ug_sysfs.specs.declared.script.Move.{Move}
 use Rattle.ug_sysfs.specs.declared.script.Move.TheVariants as move
 use Rattle.ug_sysfs.specs.declared.script.NewDevice.{NewDevice}
@@ -38,6 +39,7 @@ use Rattle.ug_script.specs.declared.step.SetupLine.TheVariants as setup
 use Rattle.ug_script.specs.declared.step.Step.{Step}
 use Rattle.ug_script.specs.declared.step.Step.TheVariants as step
 use Rattle.ug_script.specs.Grammar.{disk_fail_of, failing_at, failing_of, fails_on_disk, grant_of, granting, in_access, in_rule, is_effect, is_fail, left_by, mishap_of, move_behind, move_by, move_of, order_at, order_of, scheduled_at, scheduled_of, step_behind, step_by, step_of_line, stop_of, stopping_at}
+use Rattle.ug_script.specs.IfaceLines.{iface_name_of, new_iface_of}
 use Rattle.ug_script.specs.LineGrammar.{AsksFor, IsCall, IsDiskFail, IsEventLine, IsMoment, IsMoveLine, IsOrderLine, IsPassedOver, IsPlanLine, IsPlug, IsScheduled, IsSetupLine, IsShortName, IsStopLine, effect_words, left_words, mishap_words, start_word, when_word}
 use Rattle.ug_script.specs.LineWords.{line_word_of}
 use Rattle.ug_script.specs.Plugs.{device_of, device_with, files_of, start_of, with_digits, with_start}
@@ -45,6 +47,7 @@ use Rattle.ug_script.specs.Words.{bytes_of, call_in, call_of, cut_by_space, is_e
 use Rattle.ug_script.proofs.AccessLines.{access_text, graphic_apart, principal_so, so_principal}
 use Rattle.ug_script.proofs.FileWords.{files_so, so_files}
 use Rattle.ug_script.proofs.HexWords.{bytes_so, hex_apart, seed_so, so_bytes, so_seed}
+use Rattle.ug_script.proofs.IfaceLines.{iface_so, so_iface, so_uniface, uniface_so}
 use Rattle.ug_script.proofs.LineCuts.{Space, bound, cut_alone, cut_found, cut_so, mapped, so_cut, space}
 use Rattle.ug_script.proofs.LineTables.{left_read, left_text, left_written, line_word_read, line_word_written, start_apart, start_read, start_written, word_apart, word_text}
 use Rattle.ug_script.proofs.Moments.{moment_text}
@@ -151,6 +154,12 @@ unplug_so text name h =
 moves_so : (w : LineWord) (text : List ℕ) (action : Move) → move_behind w text ≡ Some action → IsMoveLine (word_text w ++ 32 ∷ text) action
 moves_so word.Plug text action h = let m = mapped move.Plug (device_of text) action h in subst (IsMoveLine (codes "plug " ++ text)) m.2 (plug_so text m.0 m.1)
 moves_so word.Unplug text action h = let m = mapped move.Unplug (name_of text) action h in subst (IsMoveLine (codes "unplug " ++ text)) m.2 (unplug_so text m.0 m.1)
+moves_so word.Iface text action h =
+    let m = mapped (λ new. move.Iface (Add new)) (new_iface_of text) action h in
+    subst (IsMoveLine (codes "iface " ++ text)) m.2 (iface_so text m.0 m.1)
+moves_so word.Uniface text action h =
+    let m = mapped (λ name. move.Iface (Remove name)) (iface_name_of text) action h in
+    subst (IsMoveLine (codes "uniface " ++ text)) m.2 (uniface_so text m.0 m.1)
 moves_so word.Before text action h = absurd (none-some action h)
 moves_so word.After text action h = absurd (none-some action h)
 moves_so word.Fail text action h = absurd (none-some action h)
@@ -184,7 +193,12 @@ so_move line (move.Plug device) p =
     move_reads word.Plug line d.0 (move.Plug device) d.1 (ap (option_map move.Plug) d.2)
 so_move line (move.Unplug name) (is, named) =
     move_reads word.Unplug line name (move.Unplug name) is (ap (option_map move.Unplug) ((name_text name name).1 (named.0, named.1, refl)))
-so_move line (move.Iface change) p = absurd p
+so_move line (move.Iface (Add new)) p =
+    let d = so_iface line new p in
+    move_reads word.Iface line d.0 (move.Iface (Add new)) d.1 (ap (option_map (λ new. move.Iface (Add new))) d.2)
+so_move line (move.Iface (Remove name)) p =
+    let d = so_uniface line name p in
+    move_reads word.Uniface line d.0 (move.Iface (Remove name)) d.1 (ap (option_map (λ name. move.Iface (Remove name))) d.2)
 
 -- ---- what is scheduled
 
@@ -390,6 +404,8 @@ behind_so : (w : LineWord) (text : List ℕ) (asked : Step) → step_behind w te
 unfolding step_behind
 behind_so word.Plug text asked h = let m = mapped (λ device. step.Move (move.Plug device)) (device_of text) asked h in subst (AsksFor (codes "plug " ++ text)) m.2 (plug_so text m.0 m.1)
 behind_so word.Unplug text asked h = let m = mapped (λ name. step.Move (move.Unplug name)) (name_of text) asked h in subst (AsksFor (codes "unplug " ++ text)) m.2 (unplug_so text m.0 m.1)
+behind_so word.Iface text asked h = let m = mapped (λ new. step.Move (move.Iface (Add new))) (new_iface_of text) asked h in subst (AsksFor (codes "iface " ++ text)) m.2 (iface_so text m.0 m.1)
+behind_so word.Uniface text asked h = let m = mapped (λ name. step.Move (move.Iface (Remove name))) (iface_name_of text) asked h in subst (AsksFor (codes "uniface " ++ text)) m.2 (uniface_so text m.0 m.1)
 behind_so word.Before text asked h = let m = mapped (λ m. step.Schedule (plan.Move m)) (scheduled_of false text) asked h in subst (AsksFor (codes "before " ++ text)) m.2 (scheduled_so false text m.0 m.1)
 behind_so word.After text asked h = let m = mapped (λ m. step.Schedule (plan.Move m)) (scheduled_of true text) asked h in subst (AsksFor (codes "after " ++ text)) m.2 (scheduled_so true text m.0 m.1)
 behind_so word.Fail text asked h =
@@ -460,6 +476,8 @@ reads_further b text e f =
 reads_on : (w : LineWord) (text : List ℕ) → step_of_line (word_text w ++ 32 ∷ text) ≡ cut_by_space reads_word None (word_text w ++ 32 ∷ text)
 reads_on word.Plug text = reads_further 112 (codes "lug " ++ text) refl refl
 reads_on word.Unplug text = reads_further 117 (codes "nplug " ++ text) refl refl
+reads_on word.Iface text = reads_further 105 (codes "face " ++ text) refl refl
+reads_on word.Uniface text = reads_further 117 (codes "niface " ++ text) refl refl
 reads_on word.Before text = reads_further 98 (codes "efore " ++ text) refl refl
 reads_on word.After text = reads_further 97 (codes "fter " ++ text) refl refl
 reads_on word.Fail text = reads_further 102 (codes "ail " ++ text) refl refl
@@ -512,7 +530,8 @@ so_moved : (line : List ℕ) (action : Move) → IsMoveLine line action → step
 unfolding step_behind
 so_moved line (move.Plug device) p = let d = so_plug line device p in line_reads word.Plug line d.0 _ d.1 (ap (option_map (λ device. step.Move (move.Plug device))) d.2)
 so_moved line (move.Unplug name) (is, named) = line_reads word.Unplug line name _ is (ap (option_map (λ name. step.Move (move.Unplug name))) ((name_text name name).1 (named.0, named.1, refl)))
-so_moved line (move.Iface change) p = absurd p
+so_moved line (move.Iface (Add new)) p = let d = so_iface line new p in line_reads word.Iface line d.0 _ d.1 (ap (option_map (λ new. step.Move (move.Iface (Add new)))) d.2)
+so_moved line (move.Iface (Remove name)) p = let d = so_uniface line name p in line_reads word.Uniface line d.0 _ d.1 (ap (option_map (λ name. step.Move (move.Iface (Remove name)))) d.2)
 
 so_passed : (line : List ℕ) → IsPassedOver line → step_of_line line ≡ Some step.Skip
 unfolding step_of_line

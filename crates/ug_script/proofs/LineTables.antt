@@ -27,6 +27,8 @@ named {X} spell word text here it rest t f h = by (pointwise nat_eq word text) r
 abbrev pub word_text : LineWord → List ℕ
 word_text word.Plug = codes "plug"
 word_text word.Unplug = codes "unplug"
+word_text word.Iface = codes "iface"
+word_text word.Uniface = codes "uniface"
 word_text word.Before = codes "before"
 word_text word.After = codes "after"
 word_text word.Fail = codes "fail"
@@ -50,12 +52,14 @@ plan_word_written text it h = named word_text text (codes "before") word.Before 
 
 pub line_word_written : (text : List ℕ) (it : LineWord) → line_word_of text ≡ Some it → text ≡ word_text it
 unfolding line_word_of
-line_word_written text it h = named word_text text (codes "plug") word.Plug it _ refl (λ h. named word_text text (codes "unplug") word.Unplug it _ refl (λ h. named word_text text (codes "sweep") word.Sweep it _ refl (λ h. named word_text text (codes "order") word.Order it _ refl (λ h. plan_word_written text it h) h) h) h) h
+line_word_written text it h = named word_text text (codes "plug") word.Plug it _ refl (λ h. named word_text text (codes "unplug") word.Unplug it _ refl (λ h. named word_text text (codes "iface") word.Iface it _ refl (λ h. named word_text text (codes "uniface") word.Uniface it _ refl (λ h. named word_text text (codes "sweep") word.Sweep it _ refl (λ h. named word_text text (codes "order") word.Order it _ refl (λ h. plan_word_written text it h) h) h) h) h) h) h
 
 pub line_word_read : (it : LineWord) → line_word_of (word_text it) ≡ Some it
 unfolding line_word_of plan_word_of setup_word_of
 line_word_read word.Plug = refl
 line_word_read word.Unplug = refl
+line_word_read word.Iface = refl
+line_word_read word.Uniface = refl
 line_word_read word.Before = refl
 line_word_read word.After = refl
 line_word_read word.Fail = refl
@@ -72,6 +76,8 @@ line_word_read word.Zone = refl
 pub word_apart : (it : LineWord) → ¬ Has (word_text it) 32
 word_apart word.Plug = apart_by (codes "plug") refl
 word_apart word.Unplug = apart_by (codes "unplug") refl
+word_apart word.Iface = apart_by (codes "iface") refl
+word_apart word.Uniface = apart_by (codes "uniface") refl
 word_apart word.Before = apart_by (codes "before") refl
 word_apart word.After = apart_by (codes "after") refl
 word_apart word.Fail = apart_by (codes "fail") refl

@@ -6,6 +6,7 @@ use Rattle.std.specs.Cmp.Lexicographic.{pointwise}
 use Rattle.ug_types.specs.declared.rule.Rule.{Rule}
 use Rattle.ug_kernel.specs.declared.device.Device.{Device}
 use Rattle.ug_sysfs.specs.declared.script.Move as moves
+use Rattle.ug_sysfs.specs.declared.script.Move.TheVariants as move
 use Rattle.ug_sysfs.specs.World.{World, moved}
 use Rattle.ug_print.specs.RuleTexts.{rules_text_of}
 use Rattle.ug_generate.specs.Policies.{policy_rules, IsPolicy}
@@ -19,7 +20,7 @@ use Rattle.ug_script.specs.Grammar.{step_of_line}
 use Rattle.ug_script.specs.Setup.{SetupState, one_line_more, setup_rule, conf_asked, access_asked, seed_asked, zone_asked, steps_of}
 use Rattle.ug_script.specs.Script.{Script, fresh, takes_setup}
 use Rattle.ug_script.specs.Replay.{bad, header, line_added, quiet}
-use Rattle.ug_script.specs.Generating.{skimmed, skimmed_if, generate_step, generate_end, names_ports, move_asked, all_moved, devices_left, IsFirstPolicy, TellsFaultAlone}
+use Rattle.ug_script.specs.Generating.{devices_moved, skimmed, skimmed_if, generate_step, generate_end, names_ports, move_asked, all_moved, devices_left, IsFirstPolicy, TellsFaultAlone}
 use Rattle.ug_script.proofs.Setups.{IsGiven, InSetup, flat_more, flat_none, given_first, given_still, given_added}
 
 -- ---- devices
@@ -70,12 +71,18 @@ skims_when start n done text false o s w h = refl
 
 -- ---- a line
 
+moves_as : (action : moves.Move) (w : World) → (devices_moved action w).kernel.devices ≡ moved action w.kernel.devices
+moves_as (move.Plug device) w = refl
+moves_as (move.Unplug name) w = refl
+moves_as (move.Iface change) w = refl
+
 skims_step : (start : List Device) (n : ℕ) (done : List (Option Step)) (text : List ℕ) (step : Step) (s : Script) (w : World) → n < 1048576 → Skims start n done text s.setup w.kernel.devices → SkimsAfter start (n + 1) (done ++ Some step ∷ []) text (skimmed step s w)
 skims_step start n done text Skip s w lt h = skims_still start n done text (Some Skip) s.setup w.kernel.devices refl refl refl refl refl refl h
 skims_step start n done text (Setup line) s w lt h =
     skims_when start (n + 1) (done ++ Some (Setup line) ∷ []) text (takes_setup s.phase) (line_added (one_line_more line s.setup) s w) s w
     (skims_added start n done text (Some (Setup line)) (one_line_more line s.setup) s w refl h (given_added n done line s.setup lt h.given))
-skims_step start n done text (Move action) s w lt h = skims_move start n done text action s.setup w.kernel.devices h
+skims_step start n done text (Move action) s w lt h =
+    subst (Skims start (n + 1) (done ++ Some (Move action) ∷ []) (text ++ []) s.setup) (sym (moves_as action w)) (skims_move start n done text action s.setup w.kernel.devices h)
 skims_step start n done text (Schedule plan) s w lt h = skims_still start n done text (Some (Schedule plan)) s.setup w.kernel.devices refl refl refl refl refl refl h
 skims_step start n done text (Event event) s w lt h = skims_still start n done text (Some (Event event)) s.setup w.kernel.devices refl refl refl refl refl refl h
 skims_step start n done text Restart s w lt h = skims_still start n done text (Some Restart) s.setup w.kernel.devices refl refl refl refl refl refl h

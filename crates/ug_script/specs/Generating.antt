@@ -7,6 +7,7 @@ use Rattle.ug_types.specs.declared.rule.Rule.{Rule}
 use Rattle.ug_kernel.specs.declared.device.Device.{Device}
 use Rattle.ug_kernel.specs.Kernel.{Live}
 use Rattle.ug_sysfs.specs.declared.script.Move.{Move}
+use Rattle.ug_sysfs.specs.declared.script.Move.TheVariants.{Plug, Unplug, Iface}
 use Rattle.ug_sysfs.specs.World.{World, carried, moved}
 use Rattle.ug_conf.specs.Draft.{Draft, draft_of}
 use Rattle.ug_conf.specs.Settings.{defaults}
@@ -28,14 +29,20 @@ generator_state generator = interpreter_state generator.script
 
 -- ---- lines
 
--- Setup lines and moves are carried out as in a replay. Other lines are read alone: nothing is
--- scheduled, no event is run, and no daemon is started. Lines of setup may stand where they may in
--- a replay.
+-- a device comes or goes, and interfaces are left as they are
+abbrev pub devices_moved : Move → World → World
+devices_moved (Plug device) w = carried (Plug device) w
+devices_moved (Unplug name) w = carried (Unplug name) w
+devices_moved (Iface change) w = w
+
+-- Setup lines and moves of devices are carried out as in a replay. Other lines are read alone:
+-- nothing is scheduled, no event is run, and no daemon is started. Lines of setup may stand where
+-- they may in a replay.
 abbrev pub skimmed : Step → Script → World → LineOutcome (Option Script × World)
 skimmed step.Skip s w = quiet s w
 skimmed (step.Setup line) s w = line_taken line s w
 skimmed (step.Move action) s w =
-    quiet (with_setup_closed s) (carried action w)
+    quiet (with_setup_closed s) (devices_moved action w)
 skimmed (step.Schedule plan) s w = quiet (with_setup_closed s) w
 skimmed (step.Event event) s w = quiet (with_setup_closed s) w
 skimmed step.Restart s w = quiet (with_setup_closed s) w

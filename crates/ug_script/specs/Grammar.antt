@@ -20,6 +20,7 @@ use Rattle.ug_store.specs.declared.mishap.Mishap.{Mishap}
 use Rattle.ug_store.specs.declared.mishap.Mishap.TheVariants as mishap
 use Rattle.ug_store.specs.declared.mishap.Planned.{Planned}
 use Rattle.ug_sysfs.specs.declared.script.Failing.{Failing}
+use Rattle.ug_sysfs.specs.declared.script.IfaceMove.TheVariants.{Add, Remove}
 use Rattle.ug_sysfs.specs.declared.script.Move.{Move}
 use Rattle.ug_sysfs.specs.declared.script.Move.TheVariants as move
 use Rattle.ug_sysfs.specs.declared.script.Scheduled.{Scheduled}
@@ -34,6 +35,7 @@ use Rattle.ug_script.specs.declared.step.SetupLine.{SetupLine}
 use Rattle.ug_script.specs.declared.step.SetupLine.TheVariants.{Rule, Folder, Conf, Access, Seed, Zone}
 use Rattle.ug_script.specs.declared.step.Step.{Step}
 use Rattle.ug_script.specs.declared.step.Step.TheVariants as step
+use Rattle.ug_script.specs.IfaceLines.{iface_name_of, new_iface_of}
 use Rattle.ug_script.specs.LineWords.{line_word_of}
 use Rattle.ug_script.specs.Plugs.{device_of}
 use Rattle.ug_script.specs.Words.{name_of, moment_word, call_of, cut_by_space, seed_of, offset_of, is_entry, is_one_line}
@@ -92,18 +94,20 @@ pub record IsAccess (text : List ℕ) (a : AccessLine) : Type 0 where
   pub grant : IsGrant line section privileges
   pub gives : a.grants ≡ pairs_given (given_to section privileges ∷ [])
 
--- ---- devices that come and go
+-- ---- devices and interfaces that come and go
 
 abbrev pub move_behind : LineWord → List ℕ → Option Move
 move_behind word.Plug text = option_map move.Plug (device_of text)
 move_behind word.Unplug text = option_map move.Unplug (name_of text)
+move_behind word.Iface text = option_map (λ new. move.Iface (Add new)) (new_iface_of text)
+move_behind word.Uniface text = option_map (λ name. move.Iface (Remove name)) (iface_name_of text)
 move_behind other text = None
 
 abbrev pub move_by : Option LineWord → List ℕ → Option Move
 move_by None text = None
 move_by (Some word) text = move_behind word text
 
--- a `plug` or an `unplug` line
+-- a `plug`, `unplug`, `iface` or `uniface` line
 abbrev pub move_of : List ℕ → Option Move
 move_of line = cut_by_space (λ word text. move_by (line_word_of word) text) None line
 
@@ -186,6 +190,10 @@ order_of text =
 unfoldable pub step_behind : LineWord → List ℕ → Option Step
 step_behind word.Plug text = option_map (λ d. step.Move (move.Plug d)) (device_of text)
 step_behind word.Unplug text = option_map (λ name. step.Move (move.Unplug name)) (name_of text)
+step_behind word.Iface text =
+    option_map (λ new. step.Move (move.Iface (Add new))) (new_iface_of text)
+step_behind word.Uniface text =
+    option_map (λ name. step.Move (move.Iface (Remove name))) (iface_name_of text)
 step_behind word.Before text =
     option_map (λ m. step.Schedule (plan.Move m)) (scheduled_of false text)
 step_behind word.After text = option_map (λ m. step.Schedule (plan.Move m)) (scheduled_of true text)

@@ -3,6 +3,7 @@ pub mod LineExamples
 pub mod LineGrammar
 pub mod LineWords
 pub mod Plugs
+pub mod IfaceLines
 pub mod Words
 pub mod Setup
 pub mod Script

@@ -3,9 +3,11 @@ use Rattle.std.specs.Prelude.{ℕ, Bool, true, false, List, Some, None}
 use Rattle.ug_store.specs.declared.mishap.Mishap.{Mishap}
 use Rattle.ug_sysfs.specs.declared.script.Move.{Move}
 use Rattle.ug_sysfs.specs.declared.script.NewDevice.{NewDevice}
+use Rattle.ug_sysfs.specs.declared.script.NewIface.{NewIface}
 use Rattle.ug_script.specs.declared.step.Plan.TheVariants as plan
 use Rattle.ug_script.specs.declared.step.Step.{Step}
 use Rattle.ug_script.specs.declared.step.Step.TheVariants as step
+use Rattle.ug_script.specs.IfaceLines.{iface_named}
 
 -- a device without files that starts authorised
 abbrev pub on_by_itself : List ℕ → List ℕ → NewDevice
@@ -27,6 +29,14 @@ off_with_files name descriptors product serial connect = record {
   serial = Some serial;
   connect = Some connect;
   on = false;
+}
+
+-- an interface of a keyboard that starts authorised
+abbrev pub keyboard_on : List ℕ → ℕ → ℕ → NewIface
+keyboard_on device config number = record {
+  name = iface_named device config number;
+  triple = record { class = 3; subclass = 1; protocol = 1 };
+  on = true;
 }
 
 -- a move at that call, after its effect or before it

@@ -5,15 +5,21 @@ use Rattle.ug_types.specs.NodeNames.{IsNodeName}
 use Rattle.ug_types.specs.Principals.{Named, is_name, principal_text}
 use Rattle.ug_types.specs.declared.rule.Rule as types
 use Rattle.ug_types.specs.declared.verdict.Moment.{Moment}
+use Rattle.ug_types.specs.declared.record.Triple.{Triple}
+use Rattle.ug_types.specs.declared.rule.Iface.{Iface}
 use Rattle.ug_lex.specs.Grammar.{Spells}
+use Rattle.ug_words.specs.WordGrammar.{IsInterface}
+use Rattle.ug_iface.specs.declared.name.IfaceName.{IfaceName}
 use Rattle.ug_rule.specs.Grammar.{Says}
 use Rattle.ug_store.specs.declared.mishap.Mishap.{Mishap}
 use Rattle.ug_store.specs.declared.mishap.Mishap.TheVariants.{NoEffect, Effect}
 use Rattle.ug_store.specs.declared.mishap.Planned.{Planned}
 use Rattle.ug_sysfs.specs.declared.script.Failing.{Failing}
+use Rattle.ug_sysfs.specs.declared.script.IfaceMove.TheVariants.{Add, Remove}
 use Rattle.ug_sysfs.specs.declared.script.Move.{Move}
 use Rattle.ug_sysfs.specs.declared.script.Move.TheVariants as move
 use Rattle.ug_sysfs.specs.declared.script.NewDevice.{NewDevice}
+use Rattle.ug_sysfs.specs.declared.script.NewIface.{NewIface}
 use Rattle.ug_sysfs.specs.declared.script.Scheduled.{Scheduled}
 use Rattle.ug_core.specs.declared.daemon.Event.{Event}
 use Rattle.ug_core.specs.declared.daemon.Event.TheVariants.{Sweep, Order}
@@ -27,7 +33,7 @@ use Rattle.ug_script.specs.declared.step.Step.{Step}
 use Rattle.ug_script.specs.declared.step.Step.TheVariants as step
 use Rattle.ug_script.specs.Grammar.{IsAccess, IsFolderText}
 
--- ---- devices that come and go
+-- ---- devices and interfaces that come and go
 
 -- a node name of at most 31 bytes
 abbrev pub IsShortName : List ℕ → Type 0
@@ -42,7 +48,7 @@ AreHexOf (byte ∷ bytes) digits =
     × (hex_digit_value first ≡ Some high) × (hex_digit_value second ≡ Some low)
     × (byte ≡ high * 16 + low) × AreHexOf bytes rest
 
--- `1` where the device starts authorised, else `0`
+-- `1` where a device or an interface starts authorised, else `0`
 abbrev pub start_word : Bool → List ℕ
 start_word true = codes "1"
 start_word false = codes "0"
@@ -82,10 +88,41 @@ pub record IsPlug (line : List ℕ) (device : NewDevice) : Type 0 where
 abbrev pub IsUnplug : List ℕ → List ℕ → Type 0
 IsUnplug line name = (line ≡ codes "unplug " ++ name) × IsShortName name
 
+-- `C.I`: a configuration from 1 to 255, and an interface of it from 0 to 255
+pub record AreIfaceNumbers (name : IfaceName) (text : List ℕ) : Type 0 where
+  pub is : text ≡ decimal name.config ++ 46 ∷ decimal name.number
+  pub some : 1 ≤ name.config
+  pub config_fits : name.config ≤ 255
+  pub number_fits : name.number ≤ 255
+
+-- class, subclass and protocol, as a rule names them
+abbrev pub each_given : Triple → Iface
+each_given t =
+    record { class = t.class; subclass = Some t.subclass; protocol = Some t.protocol }
+
+-- `iface NAME C.I cc:ss:pp START`
+pub record IsIfaceLine (line : List ℕ) (new : NewIface) : Type 0 where
+  pub numbers : List ℕ
+  pub triple : List ℕ
+  pub is : line
+      ≡ codes "iface "
+      ++ (new.name.device ++ 32 ∷ (numbers ++ 32 ∷ (triple ++ 32 ∷ start_word new.on)))
+  pub named : IsShortName new.name.device
+  pub numbered : AreIfaceNumbers new.name numbers
+  pub described : IsInterface (each_given new.triple) triple
+
+-- `uniface NAME C.I`
+pub record IsUnifaceLine (line : List ℕ) (name : IfaceName) : Type 0 where
+  pub numbers : List ℕ
+  pub is : line ≡ codes "uniface " ++ (name.device ++ 32 ∷ numbers)
+  pub named : IsShortName name.device
+  pub numbered : AreIfaceNumbers name numbers
+
 abbrev pub IsMoveLine : List ℕ → Move → Type 0
 IsMoveLine line (move.Plug device) = IsPlug line device
 IsMoveLine line (move.Unplug name) = IsUnplug line name
-IsMoveLine line (move.Iface change) = ⊥
+IsMoveLine line (move.Iface (Add new)) = IsIfaceLine line new
+IsMoveLine line (move.Iface (Remove name)) = IsUnifaceLine line name
 
 -- ---- what is scheduled for a call of the next event
 

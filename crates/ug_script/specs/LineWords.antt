@@ -28,5 +28,7 @@ unfoldable pub line_word_of : List ℕ → Option LineWord
 line_word_of text =
     if pointwise nat_eq text (codes "plug") then Some word.Plug else
     if pointwise nat_eq text (codes "unplug") then Some word.Unplug else
+    if pointwise nat_eq text (codes "iface") then Some word.Iface else
+    if pointwise nat_eq text (codes "uniface") then Some word.Uniface else
     if pointwise nat_eq text (codes "sweep") then Some word.Sweep else
     if pointwise nat_eq text (codes "order") then Some word.Order else plan_word_of text

@@ -10,13 +10,17 @@ use Rattle.ug_types.specs.declared.reading.Reading.TheVariants.{Start}
 use Rattle.ug_script.specs.declared.step.StepFault.{StepFault}
 use Rattle.ug_script.specs.declared.step.StepFault.TheVariants.{Bad, Memory}
 
-abbrev pub cut_at_space : {X : Type 0} → (List ℕ → List ℕ → X) → X → Option ℕ → List ℕ → X
-cut_at_space reads alone None text = alone
-cut_at_space reads alone (Some space) text = reads (take space text) (drop (space + 1) text)
+abbrev pub cut_at_place : {X : Type 0} → (List ℕ → List ℕ → X) → X → Option ℕ → List ℕ → X
+cut_at_place reads alone None text = alone
+cut_at_place reads alone (Some place) text = reads (take place text) (drop (place + 1) text)
 
 -- what stands before the first space is read with what stands behind it, unless there is none
 abbrev pub cut_by_space : {X : Type 0} → (List ℕ → List ℕ → X) → X → List ℕ → X
-cut_by_space reads alone text = cut_at_space reads alone (position (nat_eq 32) text) text
+cut_by_space reads alone text = cut_at_place reads alone (position (nat_eq 32) text) text
+
+-- the same with the first dot
+abbrev pub cut_by_dot : {X : Type 0} → (List ℕ → List ℕ → X) → X → List ℕ → X
+cut_by_dot reads alone text = cut_at_place reads alone (position (nat_eq 46) text) text
 
 abbrev pub then_byte : Option Reading → ℕ → Option Reading
 then_byte None b = None

@@ -15,6 +15,7 @@ ghost use Rattle.ug_audit.specs.declared.entry.Fault.TheVariants as fault;
 ghost use Rattle.ug_script.specs.Against.{AreRefused};
 ghost use Rattle.ug_script.specs.CarriedOn.{StaysCarried};
 ghost use Rattle.ug_script.specs.Example.{first_played, event_at, event_with, plugged_in, replaced, failing, first_with_none, born_later, tenth_fails};
+ghost use Rattle.ug_sysfs.specs.declared.script.IfaceMove.TheVariants.{Add, Remove};
 ghost use Rattle.ug_sysfs.specs.declared.script.Move.{Move};
 ghost use Rattle.ug_sysfs.specs.declared.script.Move.TheVariants as move;
 ghost use Rattle.ug_store.specs.declared.mishap.Mishap.TheVariants as mishap;
@@ -25,8 +26,9 @@ ghost use Rattle.ug_script.specs.declared.step.SetupLine.TheVariants as setup;
 ghost use Rattle.ug_script.specs.declared.step.Step.{Step};
 ghost use Rattle.ug_script.specs.declared.step.Step.TheVariants as step;
 ghost use Rattle.ug_script.specs.Grammar.{grant_of, IsAccess, step_of_line};
+ghost use Rattle.ug_script.specs.IfaceLines.{iface_named};
 ghost use Rattle.ug_script.specs.LineGrammar.{AsksFor};
-ghost use Rattle.ug_script.specs.LineExamples.{fails, off_with_files, on_by_itself, on_disk, schedules};
+ghost use Rattle.ug_script.specs.LineExamples.{fails, keyboard_on, off_with_files, on_by_itself, on_disk, schedules};
 ghost use Rattle.ug_script.specs.Births.{StaysBorn};
 ghost use Rattle.ug_script.specs.Journal.{StaysRecorded};
 ghost use Rattle.ug_script.specs.Laws.{StaysLawful};
@@ -65,11 +67,18 @@ pub fn line_words_law()
         (codes "a\n") (codes "b\n") (codes "c\n")))) }
     ensures unplug { step_of_line (codes "unplug 1-1")
         ≡ Some (step.Move (move.Unplug (codes "1-1"))) }
+    ensures iface { step_of_line (codes "iface 1-1 1.0 03:01:01 1")
+        ≡ Some (step.Move (move.Iface (Add (keyboard_on (codes "1-1") 1 0)))) }
+    ensures uniface { step_of_line (codes "uniface 1-1 1.0")
+        ≡ Some (step.Move (move.Iface (Remove (iface_named (codes "1-1") 1 0)))) }
 
     ensures before { step_of_line (codes "before 7 unplug 1-1")
         ≡ Some (schedules 7 false (move.Unplug (codes "1-1"))) }
     ensures after { step_of_line (codes "after 7 unplug 1-1")
         ≡ Some (schedules 7 true (move.Unplug (codes "1-1"))) }
+    ensures uniface_before { step_of_line (codes "before 7 uniface 1-1 1.255")
+        ≡ Some (schedules 7 false
+        (move.Iface (Remove (iface_named (codes "1-1") 1 255)))) }
     ensures fail { step_of_line (codes "fail 7") ≡ Some (fails 7 false) }
     ensures fail_effect { step_of_line (codes "fail 7 effect") ≡ Some (fails 7 true) }
     ensures disk_fail { step_of_line (codes "disk fail 7")
@@ -91,7 +100,7 @@ pub fn line_words_law()
         ≡ Some (step.Setup (setup.Zone (neg_ℤ (pos 5400)))) }
 {}
 
-/// A `plug` or an `unplug` line does its move at once.
+/// A line of a move does it at once.
 pub fn moves_law()
     ensures { (line : List ℕ) (action : Move) (s : Script) (w : World)
         → AsksFor line (step.Move action) → IsSound w.kernel.devices → DoesAtOnce line action s w }

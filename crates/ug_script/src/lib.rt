@@ -7,6 +7,7 @@ mod events;
 mod folder_lines;
 mod generator;
 mod halting;
+mod iface_lines;
 mod interpreter;
 mod laws;
 mod line_word;

@@ -7,6 +7,8 @@ ghost use Rattle.ug_script.specs.LineWords.{line_word_of, plan_word_of, setup_wo
 pub enum LineWord {
     Plug,
     Unplug,
+    Iface,
+    Uniface,
     Before,
     After,
     Fail,
@@ -81,6 +83,12 @@ pub fn line_word(text: &[u8]) -> Option<LineWord>
     }
     if text == b"unplug".as_slice() {
         return Some(LineWord::Unplug);
+    }
+    if text == b"iface".as_slice() {
+        return Some(LineWord::Iface);
+    }
+    if text == b"uniface".as_slice() {
+        return Some(LineWord::Uniface);
     }
     if text == b"sweep".as_slice() {
         return Some(LineWord::Sweep);

@@ -4,6 +4,7 @@ ghost use Rattle.ug_script.specs.Grammar.{step_of_line};
 ghost use Rattle.ug_script.specs.Words.{Parses};
 
 use crate::event_lines::order;
+use crate::iface_lines::{iface_name, new_iface};
 use crate::line_word::{LineWord, line_word};
 use crate::plan_lines::{disk_fail, failing, scheduled, stop};
 use crate::plugs::device;
@@ -12,7 +13,7 @@ use crate::step::{Plan, SetupLine, Step, StepFault};
 use crate::words::{moment, name, space};
 use std::alloc::Global;
 use ug_core::Event;
-use ug_sysfs::Move;
+use ug_sysfs::{IfaceMove, Move};
 use ug_types::{Moment, Text};
 
 /// What stands behind a line's first word.
@@ -24,6 +25,10 @@ fn step_behind(alloc: Global, word: LineWord, text: &[u8]) -> Result<Step, StepF
     match word {
         LineWord::Plug => Ok(Step::Move(Move::Plug(device(alloc, text)?))),
         LineWord::Unplug => Ok(Step::Move(Move::Unplug(name(text).ok_or(bad)?))),
+        LineWord::Iface => Ok(Step::Move(Move::Iface(IfaceMove::Add(new_iface(text).ok_or(bad)?)))),
+        LineWord::Uniface => Ok(Step::Move(Move::Iface(IfaceMove::Remove(iface_name(text).ok_or(
+            bad,
+        )?)))),
         LineWord::Before => Ok(Step::Schedule(Plan::Move(scheduled(alloc, false, text)?))),
         LineWord::After => Ok(Step::Schedule(Plan::Move(scheduled(alloc, true, text)?))),
         LineWord::Fail => Ok(Step::Schedule(Plan::Fail(failing(text).ok_or(bad)?))),
@@ -40,8 +45,8 @@ fn step_behind(alloc: Global, word: LineWord, text: &[u8]) -> Result<Step, StepF
     }
 }
 
-/// Reads a line that is not the first. An empty line and a comment are skipped. `plug` and `unplug` tell what the kernel does by
-/// itself; `before`, `after`, `fail`, `disk fail` and `stop` speak of a call of the next event; `sweep` and `order` are events; `restart`
+/// Reads a line that is not the first. An empty line and a comment are skipped. `plug`, `unplug`, `iface` and `uniface` tell what the
+/// kernel does by itself; `before`, `after`, `fail`, `disk fail` and `stop` speak of a call of the next event; `sweep` and `order` are events; `restart`
 /// begins another run of the daemon; `rule`, `folder`, `conf`, `access`, `seed` and `zone` stand before all others.
 #[tactic(auto, unfolding(crate::specs::Grammar::step_of_line))]
 pub fn parse_line(alloc: Global, line: &[u8]) -> Result<Step, StepFault>

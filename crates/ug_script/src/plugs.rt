@@ -147,9 +147,9 @@ fn with_digits(alloc: Global, name: NodeName, on: bool, text: &[u8]) -> Result<N
     }
 }
 
-/// Whether the device starts authorised.
+/// Whether a device or an interface starts authorised.
 #[tactic(auto, unfolding(crate::specs::Plugs::start_of))]
-fn start(word: &[u8]) -> Option<bool>
+pub fn start(word: &[u8]) -> Option<bool>
     ensures { result ≡ start_of word.now }
 {
     if word == b"0".as_slice() {

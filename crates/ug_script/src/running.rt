@@ -4,7 +4,7 @@ ghost use Rattle.ug_types.specs.Ends.{Rose};
 ghost use Rattle.ug_command_io.specs.Runs.{Steps};
 ghost use Rattle.ug_sysfs.specs.World.{World, carried};
 ghost use Rattle.ug_script.specs.Generating as generating;
-ghost use Rattle.ug_script.specs.Generating.{skimmed, skimmed_if};
+ghost use Rattle.ug_script.specs.Generating.{devices_moved, skimmed, skimmed_if};
 ghost use Rattle.ug_script.specs.Grammar.{AsksForRule, AsksForRules, step_of_line};
 ghost use Rattle.ug_core.specs.Stops.{IsReadable};
 ghost use Rattle.ug_script.specs.Journal.{happened_from};
@@ -167,6 +167,24 @@ impl Running {
         match kernel.carry_out(action) {
             Ok(()) => Ran::Done,
             Err(_) => Ran::Memory,
+        }
+    }
+
+    /// The same for a move of devices. One of an interface is only read.
+    fn move_devices(&mut self, action: Move, kernel: &mut SimKernel) -> Ran
+        ensures silent { ¬ (result ≡ Ran.SinkFailed) }
+        ensures ran { (held : Option (List ℕ))
+            → Steps (replay.quiet (with_setup_closed (script_of self.old))
+            (devices_moved action kernel.old))
+            (Some (script_of self.new), kernel.new) held held result }
+    {
+        match action {
+            Move::Plug(device) => self.carry_out(Move::Plug(device), kernel),
+            Move::Unplug(name) => self.carry_out(Move::Unplug(name), kernel),
+            Move::Iface(_) => {
+                self.close();
+                Ran::Done
+            }
         }
     }
 
@@ -367,7 +385,7 @@ impl Running {
         match step {
             Step::Skip => Ran::Done,
             Step::Setup(line) => self.set_up(line),
-            Step::Move(action) => self.carry_out(action, kernel),
+            Step::Move(action) => self.move_devices(action, kernel),
             Step::Schedule(_) | Step::Event(_) | Step::Restart => {
                 self.close();
                 Ran::Done

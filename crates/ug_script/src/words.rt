@@ -43,6 +43,13 @@ pub fn space(text: &[u8]) -> Option<usize>
     text.iter().position(|b| b' ' == *b)
 }
 
+/// Where the first dot is.
+pub fn dot(text: &[u8]) -> Option<usize>
+    ensures { result ≡ position (nat_eq 46) text.now }
+{
+    text.iter().position(|b| b'.' == *b)
+}
+
 /// The first byte that is neither a space nor a tab.
 fn first_byte(text: &[u8]) -> Option<u8>
     ensures { result ≡ find (λ b. not (nat_eq b 32 || nat_eq b 9)) text.now }

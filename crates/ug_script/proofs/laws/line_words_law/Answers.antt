@@ -4,6 +4,8 @@ use Rattle.hex.specs.Hex.{decode_pairs}
 use Rattle.ug_numerals.specs.Numbers.{number_in}
 use Rattle.ug_lex.specs.Lexing.{front_of, quoted_from, tokens_from, tokens_of}
 use Rattle.ug_script.specs.Grammar.{is_effect, is_fail, left_by, step_behind, step_of_line}
+use Rattle.ug_words.specs.Words.{interface_of, star, two_of, two_stars}
+use Rattle.ug_script.specs.IfaceLines.{byte_word, iface_name_of, new_iface_of, triple_word}
 use Rattle.ug_script.specs.LineWords.{line_word_of, plan_word_of, setup_word_of}
 use Rattle.ug_script.specs.Plugs.{device_of, start_of}
 use Rattle.ug_script.specs.Words.{bytes_of, moment_word, name_of, offset_of}
@@ -80,3 +82,15 @@ returns-clause-ahead c = refl
 pub returns-clause-behind : goal.returns-clause-behind
 unfolding digits decode_pairs number_in front_of quoted_from tokens_from tokens_of is_effect is_fail left_by step_behind step_of_line line_word_of plan_word_of setup_word_of device_of start_of bytes_of moment_word name_of offset_of
 returns-clause-behind c = refl
+
+pub returns-clause-iface : goal.returns-clause-iface
+unfolding digits decode_pairs number_in front_of quoted_from tokens_from tokens_of is_effect is_fail left_by step_behind step_of_line line_word_of plan_word_of setup_word_of device_of start_of bytes_of moment_word name_of offset_of byte_word iface_name_of new_iface_of triple_word interface_of two_of star two_stars
+returns-clause-iface c = refl
+
+pub returns-clause-uniface : goal.returns-clause-uniface
+unfolding digits decode_pairs number_in front_of quoted_from tokens_from tokens_of is_effect is_fail left_by step_behind step_of_line line_word_of plan_word_of setup_word_of device_of start_of bytes_of moment_word name_of offset_of byte_word iface_name_of new_iface_of triple_word interface_of two_of star two_stars
+returns-clause-uniface c = refl
+
+pub returns-clause-uniface_before : goal.returns-clause-uniface_before
+unfolding digits decode_pairs number_in front_of quoted_from tokens_from tokens_of is_effect is_fail left_by step_behind step_of_line line_word_of plan_word_of setup_word_of device_of start_of bytes_of moment_word name_of offset_of byte_word iface_name_of new_iface_of triple_word interface_of two_of star two_stars
+returns-clause-uniface_before c = refl
