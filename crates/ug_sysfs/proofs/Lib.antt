@@ -1,3 +1,4 @@
+pub mod Points
 pub mod Plugs
 pub mod Ungone
 pub mod Apart
@@ -5,5 +6,6 @@ pub mod Fates
 pub mod RanOut
 pub mod Finds
 pub mod Kept
-pub mod Fall
+pub mod Links
 pub mod Lives
+pub mod Lists

@@ -12,7 +12,7 @@ use Rattle.ug_kernel.proofs.Sounds.{Kept}
 use Rattle.ug_sysfs.specs.Devices.{find, is_unplugged, felled, falls, fall, unplug_at, unplugged}
 use Rattle.ug_sysfs.specs.Begins.{begins_unplug}
 use Rattle.ug_sysfs.specs.Find.{find_some, find_none}
-use Rattle.ug_sysfs.specs.Sound.{kept_fall, kept_front, length_felled}
+use Rattle.ug_sysfs.specs.Sound.{IsTree, tree_of, kept_fall, kept_front, length_felled}
 
 -- the target itself, and each device whose parent is below it
 pub data Below (ds : List Device) (t : ℕ) : ℕ → Type 0 where
@@ -33,7 +33,7 @@ record Marks (t : ℕ) (ds bs : List Device) : Type 0 where
   why : (j : ℕ) (e : Device) → slice_get bs j ≡ Some e → e.gone ≡ true
       → ((d : Device) × (slice_get ds j ≡ Some d) × (d.gone ≡ true)) ⊎ Below ds t j
 
-parent_marks : (t : ℕ) (ds bs : List Device) (n : ℕ) (d : Device) → IsSound ds → Marks t ds bs
+parent_marks : (t : ℕ) (ds bs : List Device) (n : ℕ) (d : Device) → IsTree ds → Marks t ds bs
     → slice_get ds n ≡ Some d → d.gone ≡ false → (o : Option ℕ) → d.parent ≡ o → falls o bs ≡ true
     → Below ds t n
 parent_marks t ds bs n d s m at g None e h = absurd (both_ways false refl h)
@@ -49,7 +49,7 @@ parent_marks t ds bs n d s m at g (Some p) e h = seek (slice_get bs p) refl h
       | inr q ↦ Under n p d at e q
     ]
 
-marks_push : (t : ℕ) (ds bs : List Device) (d : Device) → IsSound ds
+marks_push : (t : ℕ) (ds bs : List Device) (d : Device) → IsTree ds
     → slice_get ds (length bs) ≡ Some d → Marks t ds bs → Marks t ds (bs ++ felled t bs d ∷ [])
 marks_push t ds bs d s at m = record { why = why }
   where
@@ -77,7 +77,7 @@ marks_push t ds bs d s at m = record { why = why }
           subst P (sym q.0) (here d.gone refl (ap (λ (x : Device). x.gone) q.1 ∙ g))
     ]
 
-marks_fall : (t : ℕ) (ds bs rest : List Device) → IsSound ds
+marks_fall : (t : ℕ) (ds bs rest : List Device) → IsTree ds
     → ((k : ℕ) → slice_get rest k ≡ slice_get ds (length bs + k)) → Marks t ds bs
     → Marks t ds (fall t bs rest)
 marks_fall t ds bs [] s h m = m
@@ -108,7 +108,7 @@ target_goes t bs d rest n e h =
     or_right d.gone _ (or_left (eqb (length bs) t) _ (eq-eqb (length bs) t n)) in
     sym (ap (λ (x : Device). x.gone) same) ∙ gone
 
-all_below : (t : ℕ) (ds fs : List Device) → IsSound ds → BeginsWith ds fs → Kept fs
+pub all_below : (t : ℕ) (ds fs : List Device) → IsTree ds → BeginsWith ds fs → Kept fs
     → ((e : Device) → slice_get fs t ≡ Some e → e.gone ≡ true) → (i : ℕ) → Below ds t i
     → (e : Device) → slice_get fs i ≡ Some e → e.gone ≡ true
 all_below t ds fs s b k top _ Itself e h = top e h
@@ -130,7 +130,7 @@ all_below t ds fs s b k top _ (Under i p d at up below) e h =
         (k.none i p e f.0 (record { at = h; here = g }) mine (s.below i p d at up) f.1)
         (parent f.0 f.1))
 
-felled_exactly : (t : ℕ) (ds : List Device) → t < length ds → IsSound ds
+pub felled_exactly : (t : ℕ) (ds : List Device) → t < length ds → IsTree ds
     → IsFelled t ds (fall t (take t ds) (drop t ds))
 felled_exactly t ds lt s = record {
   all = λ i e b h.
@@ -180,7 +180,7 @@ unplugged_felled name ds i d s l n = at (find name 0 ds) refl
         let f = find_some name j ds h in
         let same : j ≡ i = s.names j i f.device d f.live l (f.named ∙ sym n) in
         subst (λ (k : ℕ). IsFelled k ds (fall j (take j ds) (drop j ds))) same
-        (felled_exactly j ds (slice_get_within ds j f.device f.live.at) s)
+        (felled_exactly j ds (slice_get_within ds j f.device f.live.at) (tree_of ds s))
 
 -- a name that isn't live changes nothing
 pub unplugged_nobody : (name : List ℕ) (ds : List Device)

@@ -44,23 +44,13 @@ abbrev pub fall : ℕ → List Device → List Device → List Device
 fall target before [] = before
 fall target before (d ∷ ds) = fall target (before ++ felled target before d ∷ []) ds
 
--- the same, one device at a time
+-- the device at a place goes
 abbrev pub gone_in : ℕ → Option Device → List Device → List Device
 gone_in i None ds = ds
 gone_in i (Some d) ds = set ds i (record d { gone = true })
 
 abbrev pub with_gone : ℕ → List Device → List Device
 with_gone i ds = gone_in i (slice_get ds i) ds
-
-abbrev pub falls_of : Option Device → List Device → Bool
-falls_of None ds = false
-falls_of (Some d) ds = falls d.parent ds
-
-abbrev pub falls_at : ℕ → List Device → Bool
-falls_at i ds = falls_of (slice_get ds i) (take i ds)
-
-abbrev pub stepped : ℕ → ℕ → List Device → List Device
-stepped target i ds = cond (eqb i target || falls_at i ds) (with_gone i ds) ds
 
 abbrev pub unplug_at : Option ℕ → List Device → List Device
 unplug_at None ds = ds

@@ -17,6 +17,8 @@ pub mod IfaceLaw
 pub mod IfaceCount
 pub mod Below
 pub mod Birth
+pub mod IfaceBirth
+pub mod Kin
 pub mod Listed
 pub mod Indexed
 pub mod Living

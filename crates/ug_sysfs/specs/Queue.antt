@@ -1,7 +1,16 @@
 -- The order in which scheduled moves are to come.
-use Rattle.std.specs.Prelude.{ℕ, ◌-◌, Bool, true, not, ◌&&◌, ◌||◌, nat_eq, nat_lt, if◌then◌else◌, List, length, insert, Option, Some, None}
+use Rattle.std.specs.Prelude.{◌≡◌, ℕ, ◌+◌, ◌-◌, ◌*◌, ◌≤◌, Bool, true, not, cond, ◌&&◌, ◌||◌, nat_eq, nat_lt, if◌then◌else◌, List, length, insert, Option, Some, None}
 use Rattle.std.specs.List.{position, slice_get}
+use Rattle.std.specs.List.Sorted.{IsNonDecreasingBy}
 use Rattle.ug_sysfs.specs.declared.script.Scheduled.{Scheduled}
+
+-- when a move has its turn: before the effect of a call or after it
+abbrev pub turn_of : Scheduled → ℕ
+turn_of m = m.call * 2 + cond m.after 1 0
+
+-- none stands before one that has its turn earlier
+abbrev pub AreByTurn : List Scheduled → Type 0
+AreByTurn ms = IsNonDecreasingBy turn_of ms
 
 -- x comes later than m: at a greater call, or behind the effect of the same call that m comes
 -- before
@@ -20,10 +29,13 @@ abbrev pub or_end : Option ℕ → List Scheduled → ℕ
 or_end None ms = length ms
 or_end (Some place) ms = place
 
+-- the place of the first that comes later, or the end
+abbrev pub first_later : Scheduled → List Scheduled → ℕ
+first_later m ms = or_end (position (λ x. comes_later x m) ms) ms
+
 -- the end, unless the last comes later; then the place of the first that does
 abbrev pub queue_place : Scheduled → List Scheduled → ℕ
-queue_place m ms =
-    if goes_last m ms then length ms else or_end (position (λ x. comes_later x m) ms) ms
+queue_place m ms = if goes_last m ms then length ms else first_later m ms
 
 -- behind each that comes no later, in a list that is in order
 abbrev pub with_move : Scheduled → List Scheduled → List Scheduled

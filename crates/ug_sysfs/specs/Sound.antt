@@ -65,7 +65,16 @@ count_felled target ds =
     live_count_begins ds (fall target (take target ds) (drop target ds))
     (begins_unplug (Some target) ds) (length_felled target ds)
 
-pub kept_front : (ds : List Device) (n : ℕ) → IsSound ds → Kept (take n ds)
+-- a parent is born before its child, and lives while its child lives
+pub record IsTree (ds : List Device) : Type 0 where
+  pub below : (i p : ℕ) (d : Device) → slice_get ds i ≡ Some d → d.parent ≡ Some p → p < i
+  pub parents : (i p : ℕ) (d : Device) → Live ds i d → d.parent ≡ Some p
+      → (e : Device) × Live ds p e
+
+pub tree_of : (ds : List Device) → IsSound ds → IsTree ds
+tree_of ds s = record { below = s.below; parents = s.parents }
+
+pub kept_front : (ds : List Device) (n : ℕ) → IsTree ds → Kept (take n ds)
 kept_front ds n s = record {
   none = λ i p e f l h lt g.
       let up = s.parents i p e (record { at = in_front ds n i e l.at; here = l.here }) h in
@@ -77,7 +86,7 @@ sound_unplug : (o : Option ℕ) (ds : List Device) → IsSound ds → IsSound (u
 sound_unplug None ds s = s
 sound_unplug (Some i) ds s =
     sound_fewer ds (fall i (take i ds) (drop i ds)) s (begins_unplug (Some i) ds)
-    (length_felled i ds) (kept_fall i (take i ds) (drop i ds) (kept_front ds i s))
+    (length_felled i ds) (kept_fall i (take i ds) (drop i ds) (kept_front ds i (tree_of ds s)))
 
 sound_placed : (d : NewDevice) (o : Option (List ℕ)) (ds : List Device) → parent_of d.name ≡ o
     → live_count ds < 65536 → IsSound ds

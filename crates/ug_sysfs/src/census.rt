@@ -1,23 +1,27 @@
 // The devices that were born, with the places of those that are live.
-ghost use Rattle.std.specs.Prelude.{◌≡◌, ◌+◌, ◌<◌, ◌≤◌, ◌++◌, ◌∷◌, [], length, true, false, None, IfOk, OnOk, OnErr, take, drop, filter, vec_capacity};
+ghost use Rattle.std.specs.Prelude.{◌≡◌, ◌+◌, ◌<◌, ◌≤◌, ◌++◌, ◌∷◌, [], ℕ, length, false, Some, None, IfOk, OnOk, OnErr, take, drop, filter, vec_capacity};
 ghost use Rattle.ug_types.specs.Elements.{AllDistinct};
-ghost use Rattle.ug_kernel.specs.Kernel.{live_count};
+ghost use Rattle.ug_kernel.specs.declared.device.Device.{Device};
+ghost use Rattle.ug_kernel.specs.Kernel.{Live, live_count};
 ghost use Rattle.ug_sysfs.specs.Devices.{find, fall};
-ghost use Rattle.ug_sysfs.specs.Living.{is_live_at, stepped_from, fall_each};
+ghost use Rattle.ug_sysfs.specs.Living.{is_live_at};
 ghost use Rattle.ug_sysfs.specs.World.{live_names, switched};
 
 use crate::devices::names_at;
+use crate::kin::{Kin, bear, fell};
 use crate::roster::Roster;
 use std::alloc::Global;
 use std::marker::Model;
 use ug_kernel::{Device, Write};
 use ug_types::{List, NoMemory, NodeName};
 
-/// A roster whose live devices can be gone over without the others, in the order in which they were born.
+/// A roster whose live devices can be gone over without most of the others, in the order in which they were born, and each device's
+/// children without others.
 #[derive(Drop)]
 pub struct Census {
     roster: Roster,
-    live: Vec<usize>,
+    kin: Vec<Kin>,
+    places: Vec<usize>,
 }
 
 impl Model for Census {
@@ -38,7 +42,8 @@ impl Census {
     {
         Census {
             roster: Roster::new(alloc),
-            live: Vec::new(alloc),
+            kin: Vec::new(alloc),
+            places: Vec::new(alloc),
         }
     }
 
@@ -53,7 +58,7 @@ impl Census {
         ensures names { IfOk result (λ names. names ≡ live_names self.now.devices) }
         ensures distinct { IfOk result (λ names. AllDistinct names) }
     {
-        names_at(alloc, self.roster.devices(), &self.live)
+        names_at(alloc, self.roster.devices(), &self.places)
     }
 
     /// The live device of a name.
@@ -67,7 +72,7 @@ impl Census {
     pub fn live_count(&self) -> usize
         ensures { result ≡ live_count self.now.devices }
     {
-        self.live.len()
+        self.roster.live_count()
     }
 
     /// Makes room for so many devices more.
@@ -75,7 +80,8 @@ impl Census {
         ensures ok { OnOk result (self.new ≡ record self.old { room = room }) }
         ensures err { OnErr result (self.new ≡ self.old) }
     {
-        self.live.reserve(room)?;
+        self.places.reserve(room)?;
+        self.kin.reserve(room)?;
         self.roster.reserve(room)?;
         Ok(())
     }
@@ -84,12 +90,16 @@ impl Census {
         requires room { 0 < self.old.room }
         requires live { device.gone ≡ false }
         requires fresh { find device.name 0 self.old.devices ≡ None }
+        requires parent { (p : ℕ) → device.parent ≡ Some p
+            → (e : Device) × Live self.old.devices p e }
         ensures devices { self.new.devices ≡ self.old.devices ++ device ∷ [] }
         ensures room { self.new.room + 1 ≡ self.old.room }
     {
         let place = self.roster.len();
+        let parent = device.parent;
         self.roster.push(device);
-        self.live.push_reserved(place);
+        bear(&mut self.kin, parent);
+        self.places.push_reserved(place);
     }
 
     /// The device goes, and what is below it.
@@ -99,8 +109,19 @@ impl Census {
         ensures room { self.new.room ≡ self.old.room }
         ensures few { live_count self.new.devices ≤ live_count self.old.devices }
     {
-        fall_each(&mut self.roster, &self.live, target);
-        keep_live(&mut self.live, self.roster.devices());
+        if target < self.kin.len() {
+            fell(&mut self.roster, &self.kin, target);
+            self.tidy();
+        }
+    }
+
+    // The list of places is made shorter where most of it is of devices that have gone.
+    fn tidy(&mut self)
+        ensures { self.new ≡ self.old }
+    {
+        if self.places.len() / 2 > self.roster.live_count() {
+            keep_live(&mut self.places, self.roster.devices());
+        }
     }
 
     /// A write has its effect on a device's value.
@@ -110,26 +131,6 @@ impl Census {
         ensures few { live_count self.new.devices ≡ live_count self.old.devices }
     {
         self.roster.switch(i, write);
-    }
-}
-
-// The device at a place, unless it was born before the target, goes where it is the target or falls with its parent.
-fn step_from(roster: &mut Roster, place: usize, target: usize)
-    ensures devices { roster.new.devices ≡ stepped_from target place roster.old.devices }
-    ensures room { roster.new.room ≡ roster.old.room }
-{
-    if target <= place && place < roster.len() {
-        roster.step(place, target);
-    }
-}
-
-// The same at each of these places.
-fn fall_each(roster: &mut Roster, places: &[usize], target: usize)
-    ensures devices { roster.new.devices ≡ fall_each target places.now roster.old.devices }
-    ensures room { roster.new.room ≡ roster.old.room }
-{
-    for place in places {
-        step_from(roster, *place, target);
     }
 }
 

@@ -9,16 +9,17 @@ use std::alloc::Global;
 use ug_kernel::{Attr, Control, Device, HeldFile, ReadOut};
 use ug_types::{List, NoMemory, NodeName, Text};
 
+// The name of the device at a place, where it is live.
 fn name_at(devices: &[Device], place: usize) -> Option<NodeName>
     ensures { result ≡ name_at devices.now place }
 {
     match devices.get(place) {
-        Some(device) => Some(device.name),
+        Some(device) => if device.gone { None } else { Some(device.name) },
         None => None,
     }
 }
 
-/// The names of the devices at these places.
+/// The names of the live devices at these places.
 pub fn names_at(
     alloc: Global,
     devices: &[Device],

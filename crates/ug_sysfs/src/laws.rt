@@ -1,5 +1,5 @@
 // What the definitions of the simulated kernel mean.
-ghost use Rattle.std.specs.Prelude.{◌≡◌, ℕ, ◌++◌, ◌∷◌, [], Bool, true, false, if◌then◌else◌, nat_eq, List, Some, None};
+ghost use Rattle.std.specs.Prelude.{◌≡◌, ℕ, ◌++◌, ◌∷◌, [], Bool, true, false, if◌then◌else◌, nat_eq, List, Some, None, set};
 ghost use Rattle.ug_kernel.specs.declared.device.Device.{Device};
 ghost use Rattle.ug_kernel.specs.Calls.{Call, Answer};
 ghost use Rattle.ug_kernel.specs.Kernel.{Kernel, Live, IsSound, IsKernel, Moves};
@@ -9,7 +9,13 @@ ghost use Rattle.ug_sysfs.specs.Devices.{plugged, unplugged};
 ghost use Rattle.ug_sysfs.specs.Birth.{CanBeBorn, IsBorn};
 ghost use Rattle.ug_sysfs.specs.Below.{IsFelled};
 ghost use Rattle.ug_sysfs.specs.World.{World, Gives, carried, fate, over};
-ghost use Rattle.ug_iface.specs.Bus.{IsSoundBus, MovesBus};
+ghost use Rattle.ug_iface.specs.declared.interface.Interface.{Interface};
+ghost use Rattle.ug_iface.specs.declared.name.IfaceName.{IfaceName};
+ghost use Rattle.ug_iface.specs.Bus.{Bus, IsCalled, IsSoundBus, LiveIface, MovesBus};
+ghost use Rattle.ug_sysfs.specs.declared.script.IfaceMove.TheVariants.{Add, Remove};
+ghost use Rattle.ug_sysfs.specs.declared.script.NewIface.{NewIface};
+ghost use Rattle.ug_sysfs.specs.IfaceBirth.{CanBeAdded, IsntThere};
+ghost use Rattle.ug_sysfs.specs.Interfaces.{iface_moved, iface_of};
 ghost use Rattle.ug_sysfs.specs.declared.script.Move.{Move};
 ghost use Rattle.ug_sysfs.specs.Serving.{bus_in};
 
@@ -58,6 +64,22 @@ pub fn bus_law()
         → IsSoundBus (bus_in (carried m w)) }
     ensures over_moves { (w : World) → MovesBus (bus_in w) (bus_in (over w)) }
     ensures over_sound { (w : World) → IsSoundBus (bus_in w) → IsSoundBus (bus_in (over w)) }
+{}
+
+/// An interface is added to a device wherever it can be, and one that is there goes. Else nothing changes.
+pub fn iface_law()
+    ensures added { (new : NewIface) (b : Bus) (i : ℕ) → IsSound b.kernel.devices
+        → CanBeAdded new b i → iface_moved (Add new) b.kernel.devices b.interfaces
+        ≡ b.interfaces ++ iface_of i new ∷ [] }
+    ensures refused { (new : NewIface) (b : Bus) → IsSound b.kernel.devices
+        → ((i : ℕ) → CanBeAdded new b i → ⊥)
+        → iface_moved (Add new) b.kernel.devices b.interfaces ≡ b.interfaces }
+    ensures gone { (name : IfaceName) (b : Bus) (j : ℕ) (x : Interface) → IsSoundBus b
+        → (l : LiveIface b j x) → IsCalled name l.d x
+        → iface_moved (Remove name) b.kernel.devices b.interfaces
+        ≡ set b.interfaces j (record x { gone = true }) }
+    ensures nobody { (name : IfaceName) (b : Bus) → IsntThere name b
+        → iface_moved (Remove name) b.kernel.devices b.interfaces ≡ b.interfaces }
 {}
 
 /// A call fails where it is scheduled to. The last word on it counts.

@@ -6,6 +6,7 @@ mod census;
 mod devices;
 mod failures;
 mod interfaces;
+mod kin;
 mod kinds;
 mod laws;
 mod parent;
@@ -15,7 +16,7 @@ mod schedule;
 mod script;
 mod sim;
 
-pub use laws::{bus_law, event_law, fate_law, plug_law, ran_out_law, unplug_law};
+pub use laws::{bus_law, event_law, fate_law, iface_law, plug_law, ran_out_law, unplug_law};
 pub use script::{Failing, IfaceMove, Move, NewDevice, NewIface, Scheduled};
 pub use sim::SimKernel;
 pub use ug_kernel::{

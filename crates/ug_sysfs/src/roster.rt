@@ -1,7 +1,9 @@
 // The devices that were born, with an index of the live names, and room for some that are still to be born.
 ghost use Rattle.std.specs.Prelude.{◌≡◌, ◌+◌, ◌<◌, ◌++◌, ◌∷◌, [], length, true, false, None, OnOk, OnErr};
 ghost use Rattle.ug_kernel.specs.Called.{value_after, default_after, written_to};
-ghost use Rattle.ug_sysfs.specs.Devices.{IsDistinct, find, with_gone, falls, falls_at, stepped};
+ghost use Rattle.ug_kernel.specs.Kernel.{live_count};
+ghost use Rattle.ug_sysfs.specs.Devices.{IsDistinct, find, with_gone};
+ghost use Rattle.ug_sysfs.specs.Living.{is_live_at};
 ghost use Rattle.ug_sysfs.specs.World.{switched};
 
 use std::alloc::Global;
@@ -15,6 +17,7 @@ use ug_types::{NoMemory, NodeName};
 pub struct Roster {
     all: Vec<Device>,
     index: HashMap<NodeName, usize>,
+    live: usize,
     room: usize,
 }
 
@@ -37,6 +40,7 @@ impl Roster {
         Roster {
             all: Vec::new(alloc),
             index: HashMap::new(alloc),
+            live: 0,
             room: 0,
         }
     }
@@ -66,6 +70,7 @@ impl Roster {
         Ok(())
     }
 
+    #[tactic(auto, using(crate::proofs::Kept::live_le))]
     pub fn push(&mut self, device: Device)
         requires room { 0 < self.old.room }
         requires live { device.gone ≡ false }
@@ -76,21 +81,26 @@ impl Roster {
         let place = self.all.len();
         let _ = self.index.insert(device.name, place);
         self.all.push_reserved(device);
+        self.live += 1;
         self.room -= 1;
     }
 
-    fn fell(&mut self, i: usize)
+    /// A device goes. The answer is whether it was live.
+    pub fn fell(&mut self, i: usize) -> bool
         requires { i < length self.old.devices }
+        ensures live { result ≡ is_live_at self.old.devices i }
         ensures devices { self.new.devices ≡ with_gone i self.old.devices }
         ensures room { self.new.room ≡ self.old.room }
     {
         let device = &self.all[i];
         if device.gone {
-            return;
+            return false;
         }
         let name = device.name;
         let _ = self.index.remove(&name);
         self.all[i].gone = true;
+        self.live -= 1;
+        true
     }
 
     /// How many were born.
@@ -100,24 +110,11 @@ impl Roster {
         self.all.len()
     }
 
-    // Whether a device falls with its parent.
-    fn falls(&self, i: usize) -> bool
-        requires { i < length self.now.devices }
-        ensures { result ≡ falls_at i self.now.devices }
+    /// How many are live.
+    pub fn live_count(&self) -> usize
+        ensures { result ≡ live_count self.now.devices }
     {
-        let all = self.all.as_slice();
-        is_gone(&all[..i], all[i].parent)
-    }
-
-    /// The device at i goes where it is the target or falls with its parent.
-    pub fn step(&mut self, i: usize, target: usize)
-        requires { i < length self.old.devices }
-        ensures devices { self.new.devices ≡ stepped target i self.old.devices }
-        ensures room { self.new.room ≡ self.old.room }
-    {
-        if i == target || self.falls(i) {
-            self.fell(i);
-        }
+        self.live
     }
 
     /// A write has its effect on a device's value.
@@ -128,19 +125,6 @@ impl Roster {
         if i < self.all.len() {
             switch_device(&mut self.all[i], write);
         }
-    }
-}
-
-// Whether a parent is gone.
-fn is_gone(devices: &[Device], parent: Option<usize>) -> bool
-    ensures { result ≡ falls parent devices.now }
-{
-    match parent {
-        Some(i) => match devices.get(i) {
-            Some(device) => device.gone,
-            None => false,
-        },
-        None => false,
     }
 }
 

@@ -1,14 +1,14 @@
 // What a script has in store.
 ghost use Rattle.std.specs.Prelude.{◌≡◌, ◌+◌, ◌≤◌, [], IfOk};
 ghost use Rattle.ug_kernel.specs.Kernel.{live_count};
-ghost use Rattle.ug_sysfs.specs.World.{moved, ifaces_moved, plugs_of, iface_adds_of, first_is_due, happen, happen_all, ifaces_happen, ifaces_happen_all, plugs, iface_adds, one_fault_more};
+ghost use Rattle.ug_sysfs.specs.World.{moved, ifaces_moved, plugs_of, iface_adds_of, happen, happen_all, ifaces_happen, ifaces_happen_all, plugs, iface_adds, one_fault_more};
 
 use crate::beside::move_iface;
 use crate::census::Census;
 use crate::interfaces::Interfaces;
 use crate::parent::plug;
-use crate::script::{Move, Scheduled};
-use std::collections::VecDeque;
+use crate::queue::Queue;
+use crate::script::Move;
 use ug_types::NoMemory;
 
 /// Makes room for what is scheduled, and for one move more.
@@ -16,19 +16,19 @@ use ug_types::NoMemory;
 pub fn make_room(
     census: &mut Census,
     interfaces: &mut Interfaces,
-    moves: &VecDeque<Scheduled>,
+    moves: &Queue,
     action: &Move,
 ) -> Result<(), NoMemory>
-    requires room { plugs moves.now.items ≤ census.old.room }
-    requires places { iface_adds moves.now.items ≤ interfaces.old.room }
+    requires room { plugs moves.now ≤ census.old.room }
+    requires places { iface_adds moves.now ≤ interfaces.old.room }
     ensures devices { census.new.devices ≡ census.old.devices }
     ensures interfaces { interfaces.new.interfaces ≡ interfaces.old.interfaces }
-    ensures room { plugs moves.now.items ≤ census.new.room }
-    ensures places { iface_adds moves.now.items ≤ interfaces.new.room }
+    ensures room { plugs moves.now ≤ census.new.room }
+    ensures places { iface_adds moves.now ≤ interfaces.new.room }
     ensures more_room { IfOk result
-        (λ done. plugs_of action.now + plugs moves.now.items ≤ census.new.room) }
+        (λ done. plugs_of action.now + plugs moves.now ≤ census.new.room) }
     ensures more_places { IfOk result
-        (λ done. iface_adds_of action.now + iface_adds moves.now.items ≤ interfaces.new.room) }
+        (λ done. iface_adds_of action.now + iface_adds moves.now ≤ interfaces.new.room) }
 {
     let room = moves.len().saturating_add(1);
     match action {
@@ -61,37 +61,28 @@ pub fn carry_out(census: &mut Census, interfaces: &mut Interfaces, action: Move)
     }
 }
 
-fn is_due(moves: &VecDeque<Scheduled>, call: u64, after: bool) -> bool
-    ensures { result ≡ first_is_due call after moves.now.items }
-{
-    match moves.front() {
-        Some(next) => next.call < call || next.call == call && (!next.after || after),
-        None => false,
-    }
-}
-
 /// The moves whose turn has come.
 pub fn happen(
     census: &mut Census,
     interfaces: &mut Interfaces,
-    moves: &mut VecDeque<Scheduled>,
+    moves: &mut Queue,
     call: u64,
     after: bool,
 )
-    requires room { plugs moves.old.items ≤ census.old.room }
-    requires places { iface_adds moves.old.items ≤ interfaces.old.room }
+    requires room { plugs moves.old ≤ census.old.room }
+    requires places { iface_adds moves.old ≤ interfaces.old.room }
     requires few { live_count census.old.devices ≤ 65536 }
-    ensures happened { (moves.new.items, census.new.devices)
-        ≡ happen call after moves.old.items census.old.devices }
+    ensures happened { (moves.new, census.new.devices)
+        ≡ happen call after moves.old census.old.devices }
     ensures interfaces { interfaces.new.interfaces
-        ≡ ifaces_happen call after moves.old.items census.old.devices
+        ≡ ifaces_happen call after moves.old census.old.devices
         interfaces.old.interfaces }
-    ensures room { plugs moves.new.items ≤ census.new.room }
-    ensures places { iface_adds moves.new.items ≤ interfaces.new.room }
+    ensures room { plugs moves.new ≤ census.new.room }
+    ensures places { iface_adds moves.new ≤ interfaces.new.room }
     ensures few { live_count census.new.devices ≤ 65536 }
 {
-    while is_due(moves, call, after) {
-        match moves.pop_front() {
+    while moves.is_due(call, after) {
+        match moves.pop() {
             Some(next) => carry_out(census, interfaces, next.action),
             None => return,
         }
@@ -99,17 +90,17 @@ pub fn happen(
 }
 
 /// All moves that are still to come.
-pub fn happen_all(census: &mut Census, interfaces: &mut Interfaces, moves: &mut VecDeque<Scheduled>)
-    requires room { plugs moves.old.items ≤ census.old.room }
-    requires places { iface_adds moves.old.items ≤ interfaces.old.room }
+pub fn happen_all(census: &mut Census, interfaces: &mut Interfaces, moves: &mut Queue)
+    requires room { plugs moves.old ≤ census.old.room }
+    requires places { iface_adds moves.old ≤ interfaces.old.room }
     requires few { live_count census.old.devices ≤ 65536 }
-    ensures devices { census.new.devices ≡ happen_all moves.old.items census.old.devices }
+    ensures devices { census.new.devices ≡ happen_all moves.old census.old.devices }
     ensures interfaces { interfaces.new.interfaces
-        ≡ ifaces_happen_all moves.old.items census.old.devices interfaces.old.interfaces }
-    ensures moves { moves.new.items ≡ [] }
+        ≡ ifaces_happen_all moves.old census.old.devices interfaces.old.interfaces }
+    ensures moves { moves.new ≡ [] }
     ensures few { live_count census.new.devices ≤ 65536 }
 {
-    while let Some(next) = moves.pop_front() {
+    while let Some(next) = moves.pop() {
         carry_out(census, interfaces, next.action);
     }
 }

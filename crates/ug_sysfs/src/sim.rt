@@ -21,11 +21,10 @@ use crate::failures::Failures;
 use crate::interfaces::Interfaces;
 use crate::kinds::{kind_of_listing, kind_of_opened, kind_of_probe, kind_of_read, kind_of_wrote};
 use crate::parent::plug;
-use crate::queue::put_in;
+use crate::queue::Queue;
 use crate::schedule::{carry_out, happen, happen_all, make_room, one_more};
 use crate::script::{Failing, Move, NewDevice, Scheduled};
 use std::alloc::Global;
-use std::collections::VecDeque;
 use std::marker::Model;
 use ug_iface::{IfaceHeld, IfaceListing, IfaceName, IfaceOpened, IfaceRead, Ifaces, Interface};
 use ug_kernel::{
@@ -45,7 +44,7 @@ pub struct SimKernel {
     interfaces: Interfaces,
     iface_files: Vec<usize>,
     iface_log: Vec<usize>,
-    moves: VecDeque<Scheduled>,
+    moves: Queue,
     fails: Failures,
     halted: bool,
     calls: u64,
@@ -66,7 +65,7 @@ impl Model for SimKernel {
       interfaces = s.interfaces.interfaces;
       iface_files = s.iface_files.items;
       iface_log = s.iface_log.items;
-      moves = s.moves.items;
+      moves = s.moves;
       fails = s.fails;
       halted = s.halted;
       calls = s.calls;
@@ -76,8 +75,8 @@ impl Model for SimKernel {
     } };
 
     // each device and each interface that is scheduled has its room
-    ghost invariant = { λ s. (plugs s.moves.items ≤ s.census.room)
-        × (iface_adds s.moves.items ≤ s.interfaces.room)
+    ghost invariant = { λ s. (plugs s.moves ≤ s.census.room)
+        × (iface_adds s.moves ≤ s.interfaces.room)
         × (live_count s.census.devices ≤ 65536) };
 }
 
@@ -105,7 +104,7 @@ impl SimKernel {
             interfaces: Interfaces::new(alloc),
             iface_files: Vec::new(alloc),
             iface_log: Vec::new(alloc),
-            moves: VecDeque::new(alloc),
+            moves: Queue::new(alloc),
             fails: Failures::new(alloc),
             halted: false,
             calls: 0,
@@ -162,14 +161,11 @@ impl SimKernel {
         ensures err { OnErr result (self.new ≡ self.old) }
     {
         make_room(&mut self.census, &mut self.interfaces, &self.moves, &action)?;
-        put_in(
-            &mut self.moves,
-            Scheduled {
-                call,
-                after,
-                action,
-            },
-        )
+        self.moves.put_in(Scheduled {
+            call,
+            after,
+            action,
+        })
     }
 
     /// A call that is to fail. A write then has its effect, or not. The last word on a call counts.

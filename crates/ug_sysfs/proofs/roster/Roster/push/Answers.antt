@@ -20,4 +20,4 @@ invariant_of-self c =
     let place : c.len-place.result ≡ length c.self.inside.all.items = omega (arith, c.len-place.ensures, c.self.inside.all.ok.0) in
     indexed_born c.self.inside _ c.args.device c.self.invariant room c.requires.live fresh
     (λ q. u.0 q ∙ ap (λ (k : ℕ). cond (pointwise nat_eq c.args.device.name q) (Some k) (get (pointwise nat_eq) c.self.inside.index q)) place)
-    c.push_reserved.ensures.items (omega arith) c.push_reserved.ensures.capacity c.insert.ensures.spare
+    c.push_reserved.ensures.items (omega arith) c.push_reserved.ensures.capacity c.insert.ensures.spare (omega arith)

@@ -9,7 +9,7 @@ pub invariant_of-self : goal.invariant_of-self
 invariant_of-self c =
     let lt : c.args.i < length c.self.inside.all.items = omega (arith, c.if-i-len.true, c.len.ensures, c.self.inside.all.ok.0) in
     let am = slice_get_read c.self.inside.all.items _ c.args.i _ refl lt c.index_mut.ensures.value in
-    indexed_switched c.self.inside _ c.args.i c.index_mut.result.now c.args.write c.self.invariant am refl (ap (set c.self.inside.all.items c.args.i) c.switch_device.ensures) refl refl
+    indexed_switched c.self.inside _ c.args.i c.index_mut.result.now c.args.write c.self.invariant am refl (ap (set c.self.inside.all.items c.args.i) c.switch_device.ensures) refl refl refl
 
 pub returns-then-i-len-clause-devices : goal.returns-then-i-len-clause-devices
 returns-then-i-len-clause-devices c =
