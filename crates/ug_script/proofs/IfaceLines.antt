@@ -17,7 +17,7 @@ use Rattle.ug_words.proofs.WordCuts.{interface_cut, interface_reads}
 use Rattle.ug_proto.proofs.Numerals.{decimal_digits}
 use Rattle.ug_iface.specs.declared.name.IfaceName.{IfaceName}
 use Rattle.ug_sysfs.specs.declared.script.NewIface.{NewIface}
-use Rattle.ug_script.specs.IfaceLines.{byte_in, byte_word, iface_name_of, iface_named, iface_with, new_iface_of, numbers_of, triple_word, unless_zero, whole_triple, with_numbers, with_subclass, with_triple}
+use Rattle.ug_script.specs.IfaceLines.{byte_number, byte_word, iface_name_of, iface_named, iface_with, new_iface_of, iface_numbers_of, triple_word, unless_zero, whole_triple, with_numbers, with_subclass, with_triple}
 use Rattle.ug_script.specs.LineGrammar.{AreIfaceNumbers, IsIfaceLine, IsShortName, IsUnifaceLine, each_given, start_word}
 use Rattle.ug_script.specs.Plugs.{start_of}
 use Rattle.ug_script.specs.Words.{name_of}
@@ -66,14 +66,14 @@ byte_so text n h = by (number_in text) refl h
     tested m true e k = let same : m ≡ n = same_Some m n k in (same, subst (λ (x : ℕ). x ≤ 255) same (leb-true m 255 e))
     tested m false e k = absurd (none-some n k)
 
-    by : (o : Option ℕ) → number_in text ≡ o → byte_in o ≡ Some n → (text ≡ decimal n) × (n ≤ 255)
+    by : (o : Option ℕ) → number_in text ≡ o → byte_number o ≡ Some n → (text ≡ decimal n) × (n ≤ 255)
     by None e k = absurd (none-some n k)
     by (Some m) e k = let t = tested m (nat_le m 255) refl k in ((number_found text m e).0 ∙ ap decimal t.0, t.1)
 
 so_byte : (n : ℕ) → n ≤ 255 → byte_word (decimal n) ≡ Some n
 unfolding byte_word
 so_byte n h =
-    ap byte_in (is_number (decimal n) n (omega (arith, h)) refl) ∙ ap (λ (v : Bool). cond v (Some n) None) (le-leb n 255 h)
+    ap byte_number (is_number (decimal n) n (omega (arith, h)) refl) ∙ ap (λ (v : Bool). cond v (Some n) None) (le-leb n 255 h)
 
 some_so : (o : Option ℕ) (n : ℕ) → unless_zero o ≡ Some n → (o ≡ Some n) × (1 ≤ n)
 some_so None n h = absurd (none-some n h)
@@ -90,7 +90,7 @@ abbrev numbers_read : List ℕ → List ℕ → List ℕ → Option IfaceName
 numbers_read device config number =
     option_and_then (λ c. option_map (iface_named device c) (byte_word number)) (unless_zero (byte_word config))
 
-numbers_so : (device text : List ℕ) (name : IfaceName) → numbers_of device text ≡ Some name → AreIfaceNumbers name text × (name.device ≡ device)
+numbers_so : (device text : List ℕ) (name : IfaceName) → iface_numbers_of device text ≡ Some name → AreIfaceNumbers name text × (name.device ≡ device)
 numbers_so device text name h =
     let d = dot_so (numbers_read device) text name h in
     let c = bound (λ c. option_map (iface_named device c) (byte_word d.rest)) (unless_zero (byte_word d.word)) name d.gives in
@@ -106,7 +106,7 @@ numbers_so device text name h =
     } in
     (subst (λ (n : IfaceName). AreIfaceNumbers n text) i.2 whole, ap (λ (n : IfaceName). n.device) (sym i.2))
 
-so_numbers : (name : IfaceName) (text : List ℕ) → AreIfaceNumbers name text → numbers_of name.device text ≡ Some name
+so_numbers : (name : IfaceName) (text : List ℕ) → AreIfaceNumbers name text → iface_numbers_of name.device text ≡ Some name
 so_numbers name text a =
     so_dot (numbers_read name.device) text (decimal name.config) (decimal name.number) name a.is (decimal_apart 46 name.config (omega arith) a.config_fits)
     (ap (λ (o : Option ℕ). option_and_then (λ c. option_map (iface_named name.device c) (byte_word (decimal name.number))) (unless_zero o)) (so_byte name.config a.config_fits)
@@ -153,8 +153,8 @@ so_short device h = (name_text device device).1 (h.0, h.1, refl)
 pub uniface_so : (text : List ℕ) (name : IfaceName) → iface_name_of text ≡ Some name → IsUnifaceLine (codes "uniface " ++ text) name
 unfolding iface_name_of
 uniface_so text name h =
-    let c = cut_so (λ (w numbers : List ℕ). option_and_then (λ n. numbers_of n numbers) (name_of w)) text name h in
-    let n = bound (λ n. numbers_of n c.rest) (name_of c.word) name c.gives in
+    let c = cut_so (λ (w numbers : List ℕ). option_and_then (λ n. iface_numbers_of n numbers) (name_of w)) text name h in
+    let n = bound (λ n. iface_numbers_of n c.rest) (name_of c.word) name c.gives in
     let named = short c.word n.0 n.1 in
     let numbered = numbers_so n.0 c.rest name n.2 in
     record {
@@ -169,8 +169,8 @@ unfolding iface_name_of
 so_uniface line name u = (
   name.device ++ 32 ∷ u.numbers,
   u.is,
-  so_cut (λ (w numbers : List ℕ). option_and_then (λ n. numbers_of n numbers) (name_of w)) (name.device ++ 32 ∷ u.numbers) name.device u.numbers name refl (graphic_apart name.device (node_graphic name.device u.named.0))
-      (ap (option_and_then (λ n. numbers_of n u.numbers)) (so_short name.device u.named) ∙ so_numbers name u.numbers u.numbered),
+  so_cut (λ (w numbers : List ℕ). option_and_then (λ n. iface_numbers_of n numbers) (name_of w)) (name.device ++ 32 ∷ u.numbers) name.device u.numbers name refl (graphic_apart name.device (node_graphic name.device u.named.0))
+      (ap (option_and_then (λ n. iface_numbers_of n u.numbers)) (so_short name.device u.named) ∙ so_numbers name u.numbers u.numbered),
 )
 
 -- ---- `iface`
@@ -179,7 +179,7 @@ abbrev triple_reads : IfaceName → List ℕ → List ℕ → Option NewIface
 triple_reads name triple start = option_and_then (λ t. option_map (iface_with name t) (start_of start)) (triple_word triple)
 
 abbrev numbers_then : List ℕ → List ℕ → List ℕ → Option NewIface
-numbers_then device numbers rest = option_and_then (λ name. with_triple name rest) (numbers_of device numbers)
+numbers_then device numbers rest = option_and_then (λ name. with_triple name rest) (iface_numbers_of device numbers)
 
 abbrev name_then : List ℕ → List ℕ → Option NewIface
 name_then name rest = option_and_then (λ n. with_numbers n rest) (name_of name)
@@ -215,7 +215,7 @@ iface_so text new h =
     let n = bound (λ n. with_numbers n c.rest) (name_of c.word) new c.gives in
     let named = short c.word n.0 n.1 in
     let d = cut_so (numbers_then n.0) c.rest new n.2 in
-    let m = bound (λ name. with_triple name d.rest) (numbers_of n.0 d.word) new d.gives in
+    let m = bound (λ name. with_triple name d.rest) (iface_numbers_of n.0 d.word) new d.gives in
     let numbered = numbers_so n.0 d.word m.0 m.1 in
     let t = described_so m.0 d.rest new m.2 in
     let device : new.name.device ≡ n.0 = ap (λ (i : IfaceName). i.device) t.named ∙ numbered.1 in

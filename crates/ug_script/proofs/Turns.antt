@@ -6,34 +6,15 @@ use Rattle.std.proofs.lemmas.List.{take-append-drop, take_all}
 use Rattle.std.proofs.lemmas.List.Elements.{filter-append}
 use Rattle.std.proofs.Math.Seq.{drop-length, take-length}
 use Rattle.ug_sysfs.specs.declared.script.Scheduled.{Scheduled}
-use Rattle.ug_sysfs.specs.Queue.{comes_later, goes_last, isnt_later, or_end, queue_place, with_move}
-use Rattle.ug_script.specs.Schedules.{AreInTurn, IsSchedule, of_turn, turn_of}
+use Rattle.ug_sysfs.specs.Queue.{comes_later, first_later, goes_last, isnt_later, or_end, queue_place, turn_of, with_move}
+use Rattle.ug_sysfs.proofs.Points.{later, not_later}
+use Rattle.ug_script.specs.Schedules.{AreInTurn, IsSchedule, of_turn}
 
 abbrev AreLow : Scheduled → List Scheduled → Type 0
 AreLow m ms = AllByRecursion (λ x. turn_of x ≤ turn_of m) ms
 
 abbrev AreHigh : Scheduled → List Scheduled → Type 0
 AreHigh m ms = AllByRecursion (λ x. turn_of m < turn_of x) ms
-
--- ---- which comes later
-
-later_by : (c d : ℕ) (a b : Bool) → (nat_lt d c || (nat_eq d c && (a && not b))) ≡ true → d * 2 + cond b 1 0 < c * 2 + cond a 1 0
-later_by c d true true h = grind (arith, nat_tests)
-later_by c d true false h = grind (arith, nat_tests)
-later_by c d false true h = grind (arith, nat_tests)
-later_by c d false false h = grind (arith, nat_tests)
-
-not_later_by : (c d : ℕ) (a b : Bool) → (nat_lt d c || (nat_eq d c && (a && not b))) ≡ false → c * 2 + cond a 1 0 ≤ d * 2 + cond b 1 0
-not_later_by c d true true h = grind (arith, nat_tests)
-not_later_by c d true false h = grind (arith, nat_tests)
-not_later_by c d false true h = grind (arith, nat_tests)
-not_later_by c d false false h = grind (arith, nat_tests)
-
-later : (x m : Scheduled) → comes_later x m ≡ true → turn_of m < turn_of x
-later x m h = later_by x.call m.call x.after m.after h
-
-not_later : (x m : Scheduled) → comes_later x m ≡ false → turn_of x ≤ turn_of m
-not_later x m h = not_later_by x.call m.call x.after m.after h
 
 -- ---- where it is put
 

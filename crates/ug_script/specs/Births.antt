@@ -26,7 +26,7 @@ abbrev pub scheduled_action : Scheduled → Move
 scheduled_action m = m.action
 
 -- The moves of lines in the order in which they come, where these were written for the next event.
--- That of a `plug` or an `unplug` line comes at once; those that were written since the event
+-- That of a line of its own comes at once; those that were written since the event
 -- before come by the end of an event, in their turn, whether the machine stops in it or not.
 abbrev pub AreMovesOf : List Scheduled → List (Option Step) → List Move → Type 0
 AreMovesOf written [] moves = moves ≡ []

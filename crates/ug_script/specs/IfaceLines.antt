@@ -11,13 +11,13 @@ use Rattle.ug_script.specs.Words.{cut_by_dot, cut_by_space, name_of}
 
 -- ---- names
 
-abbrev pub byte_in : Option ℕ → Option ℕ
-byte_in None = None
-byte_in (Some n) = if nat_le n 255 then Some n else None
+abbrev pub byte_number : Option ℕ → Option ℕ
+byte_number None = None
+byte_number (Some n) = if nat_le n 255 then Some n else None
 
 -- a decimal number without sign or leading zero, up to 255
 unfoldable pub byte_word : List ℕ → Option ℕ
-byte_word text = byte_in (number_in text)
+byte_word text = byte_number (number_in text)
 
 abbrev pub unless_zero : Option ℕ → Option ℕ
 unless_zero None = None
@@ -28,8 +28,8 @@ iface_named device config number =
     record { device = device; config = config; number = number }
 
 -- `C.I`: interface I of configuration C
-abbrev pub numbers_of : List ℕ → List ℕ → Option IfaceName
-numbers_of device text =
+abbrev pub iface_numbers_of : List ℕ → List ℕ → Option IfaceName
+iface_numbers_of device text =
     cut_by_dot (λ config number.
     option_and_then (λ c. option_map (iface_named device c) (byte_word number))
     (unless_zero (byte_word config))) None text
@@ -37,8 +37,8 @@ numbers_of device text =
 -- `NAME C.I`
 unfoldable pub iface_name_of : List ℕ → Option IfaceName
 iface_name_of text =
-    cut_by_space (λ name numbers. option_and_then (λ n. numbers_of n numbers) (name_of name)) None
-    text
+    cut_by_space (λ name numbers.
+    option_and_then (λ n. iface_numbers_of n numbers) (name_of name)) None text
 
 -- ---- class, subclass and protocol
 
@@ -75,7 +75,7 @@ with_triple name text =
 abbrev pub with_numbers : List ℕ → List ℕ → Option NewIface
 with_numbers device text =
     cut_by_space (λ numbers rest.
-    option_and_then (λ name. with_triple name rest) (numbers_of device numbers)) None text
+    option_and_then (λ name. with_triple name rest) (iface_numbers_of device numbers)) None text
 
 -- `NAME C.I cc:ss:pp START`
 unfoldable pub new_iface_of : List ℕ → Option NewIface

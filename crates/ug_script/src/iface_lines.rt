@@ -1,7 +1,7 @@
 // Interfaces that come and go.
 ghost use Rattle.std.specs.Prelude.{◌≡◌, Some};
 ghost use Rattle.ug_script.specs.IfaceLines as lines;
-ghost use Rattle.ug_script.specs.IfaceLines.{byte_word, iface_name_of, new_iface_of, numbers_of, triple_word, unless_zero, whole_triple};
+ghost use Rattle.ug_script.specs.IfaceLines.{byte_word, iface_name_of, new_iface_of, iface_numbers_of, triple_word, unless_zero, whole_triple};
 
 use crate::plugs::start;
 use crate::words::{dot, name, space};
@@ -38,7 +38,7 @@ fn config(text: &[u8]) -> Option<u8>
 
 /// `C.I`: interface I of configuration C.
 fn numbers(device: NodeName, text: &[u8]) -> Option<IfaceName>
-    ensures { result ≡ numbers_of device text.now }
+    ensures { result ≡ iface_numbers_of device text.now }
 {
     match dot(text) {
         None => None,

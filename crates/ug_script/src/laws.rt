@@ -9,7 +9,9 @@ ghost use Rattle.ug_kernel.specs.Along.{Along, Made};
 ghost use Rattle.ug_kernel.specs.Defaults.{HasOnEntries};
 ghost use Rattle.ug_kernel.specs.Kernel.{IsKernel, IsSound, Kernel, Moves};
 ghost use Rattle.ug_kernel.specs.Tree.{calls};
-ghost use Rattle.ug_sysfs.specs.World.{World};
+ghost use Rattle.ug_iface.specs.Bus.{IsSoundBus};
+ghost use Rattle.ug_sysfs.specs.Serving.{bus_in};
+ghost use Rattle.ug_sysfs.specs.World.{World, carried};
 ghost use Rattle.ug_audit.specs.declared.entry.Entry.TheVariants as entry;
 ghost use Rattle.ug_audit.specs.declared.entry.Fault.TheVariants as fault;
 ghost use Rattle.ug_script.specs.Against.{AreRefused};
@@ -32,7 +34,7 @@ ghost use Rattle.ug_script.specs.LineExamples.{fails, keyboard_on, off_with_file
 ghost use Rattle.ug_script.specs.Births.{StaysBorn};
 ghost use Rattle.ug_script.specs.Journal.{StaysRecorded};
 ghost use Rattle.ug_script.specs.Laws.{StaysLawful};
-ghost use Rattle.ug_script.specs.Schedules.{DoesAtOnce, StaysScheduled};
+ghost use Rattle.ug_script.specs.Schedules.{DoesAtOnce, DoesIfaces, StaysScheduled};
 ghost use Rattle.ug_script.specs.Script.{Script};
 ghost use Rattle.ug_script.specs.Words.{moment_word, name_of};
 
@@ -102,8 +104,10 @@ pub fn line_words_law()
 
 /// A line of a move does it at once.
 pub fn moves_law()
-    ensures { (line : List ℕ) (action : Move) (s : Script) (w : World)
+    ensures at_once { (line : List ℕ) (action : Move) (s : Script) (w : World)
         → AsksFor line (step.Move action) → IsSound w.kernel.devices → DoesAtOnce line action s w }
+    ensures interfaces { (action : Move) (w : World) → IsSoundBus (bus_in w)
+        → DoesIfaces action (bus_in w) (carried action w).interfaces }
 {}
 
 /// Wherever lines have led, the moves and failures of an event that comes next are those of the lines since the event before, in their
