@@ -250,6 +250,26 @@ show 'cd /sys/bus/usb/devices && grep . */authorized'
 check 'the settings as they come are accepted, with no note' \
     'timeout 3 usbguard daemon | head -n 1 | grep "^event 1 sweep "'
 echo
+echo "== Whether the service starts: with a rule in the rule file, or in the folder of rules"
+# has_rules STATUS WHAT: the status of the step that the service takes first
+has_rules() {
+    check "$2: status $1" "/usr/libexec/usbguard-prepare -c /tmp/settings rules; test \$? = $1"
+}
+mkdir "$root/tmp/rules.d"
+: >"$root/tmp/none"
+printf 'RuleFile=/tmp/none\nRuleFolder=/tmp/rules.d\n' >"$root/tmp/settings"
+has_rules 1 'no rule'
+echo 'allow id 1050:*' >"$root/tmp/rules.d/10-site.conf.bak"
+has_rules 1 "a rule in a file of the folder that doesn't count"
+mv "$root/tmp/rules.d/10-site.conf.bak" "$root/tmp/rules.d/10-site.conf"
+has_rules 0 'a rule in the folder alone'
+check 'by which the daemon judges' 'timeout 3 usbguard daemon --conf /tmp/settings | grep -x "judged [0-9]* 1-1 allow rule 1"'
+rm -r "$root/tmp/rules.d"
+has_rules 1 'the folder is absent'
+echo allow >"$root/tmp/none"
+has_rules 0 'a rule in the rule file alone'
+
+echo
 echo "== The hubs, as the settings say"
 # hubs SETTING VALUE: with that line of settings the hub, which has 2, has the value behind the step
 hubs() {
