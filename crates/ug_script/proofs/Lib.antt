@@ -4,6 +4,7 @@ pub mod NamesRead
 pub mod Readable
 pub mod AccessLines
 pub mod KeptRules
+pub mod Folders
 pub mod Phases
 pub mod Halts
 pub mod EventSteps

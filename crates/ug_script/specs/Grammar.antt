@@ -14,7 +14,7 @@ use Rattle.ug_acl.specs.Pairs.{Pair}
 use Rattle.ug_acl.specs.Texts.{access_read, pairs_given}
 use Rattle.ug_conf.specs.FolderFiles.{IsRuleFileName, is_rule_file_name}
 use Rattle.ug_rule.specs.declared.fault.Fault.{Fault}
-use Rattle.ug_rule.specs.Grammar.{Says, WellFormed}
+use Rattle.ug_rule.specs.Grammar.{WellFormed}
 use Rattle.ug_rule.specs.Rules.{rule_read}
 use Rattle.ug_store.specs.declared.mishap.Mishap.{Mishap}
 use Rattle.ug_store.specs.declared.mishap.Mishap.TheVariants as mishap
@@ -35,6 +35,7 @@ use Rattle.ug_script.specs.declared.step.SetupLine.{SetupLine}
 use Rattle.ug_script.specs.declared.step.SetupLine.TheVariants.{Rule, Folder, Conf, Access, Seed, Zone}
 use Rattle.ug_script.specs.declared.step.Step.{Step}
 use Rattle.ug_script.specs.declared.step.Step.TheVariants as step
+use Rattle.ug_script.specs.FolderLines.{HoldsRule}
 use Rattle.ug_script.specs.IfaceLines.{iface_name_of, new_iface_of}
 use Rattle.ug_script.specs.LineWords.{line_word_of}
 use Rattle.ug_script.specs.Plugs.{device_of}
@@ -60,13 +61,11 @@ named_line name line =
 abbrev pub folder_line_of : List ℕ → Option SetupLine
 folder_line_of text = cut_by_space (λ name line. named_line name line) None text
 
--- the name of a file that counts, one space, and one line that holds a rule
+-- the name of a file that counts, one space, and one line that is a rule
 pub record IsFolderText (text : List ℕ) (f : FolderLine) : Type 0 where
   pub is : text ≡ f.name ++ 32 ∷ f.text
   pub named : IsRuleFileName f.name
-  pub single : ¬ Has f.text 10
-  pub rule : types.Rule
-  pub says : Says f.text rule
+  pub holds : HoldsRule f.text
 
 abbrev pub in_access : Named → Result (List Pair) TextFault → Option SetupLine
 in_access who (Ok grants) = Some (Access (record { who = who; grants = grants }))
@@ -220,10 +219,6 @@ step_of_line line =
     if nat_eq (length line) 0 || starts_with nat_eq line (codes "#") then Some step.Skip
     else if pointwise nat_eq line (codes "restart") then Some step.Restart
     else cut_by_space (λ word text. step_by (line_word_of word) text) None line
-
--- one line that reads as a rule
-abbrev pub HoldsRule : List ℕ → Type 0
-HoldsRule line = (is_one_line line ≡ true) × (rule : types.Rule) × (rule_read line ≡ Ok rule)
 
 -- the rule that is asked for, if one is, is the rule of some line
 abbrev pub AsksForRule : SetupLine → Type 0

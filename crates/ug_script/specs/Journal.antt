@@ -28,7 +28,7 @@ use Rattle.ug_script.specs.declared.step.Step.TheVariants.{Schedule, Event, Rest
 use Rattle.ug_script.specs.Grammar.{step_of_line}
 use Rattle.ug_script.specs.Script.{Script, can_start, daemon_in, disk_in}
 use Rattle.ug_script.specs.Replay.{answered_from, disk_of, event_from, event_of, outcome_of, outcome_text, script_step, stop_in, stopped_text, tried_by}
-use Rattle.ug_script.specs.Setup.{steps_of, conf_asked, setup_rule, IsSetup, Beside, started_at, with_rules}
+use Rattle.ug_script.specs.Setup.{steps_of, conf_asked, folder_of, setup_rule, IsSetup, Beside, started_at, with_rules}
 
 -- an event of a daemon over a kernel and a disk that are ready for it
 abbrev pub happened_from : events.Event → DaemonState → World → DiskWorld → Happened
@@ -166,7 +166,7 @@ pub record HoldsAtStart (b : RunStart) (file : Disk) : Type 0 where
 -- they were at the start, with all that this says of each write and of the file.
 pub record IsDaemonRun (beside : Beside) (policy : Judging) (b : RunStart) (hs : List Happened)
     (k : Kernel) (p : Option Disk) (e : DaemonState) : Type 0 where
-  pub few : length b.rules ≤ 65536
+  pub few : length (folder_of policy) + length b.rules ≤ 65536
   pub file : Disk
   pub holds : HoldsAtStart b file
   pub chain : Chain b.kernel (Some file) (started_at b.number beside (with_rules b.rules policy)) hs
@@ -264,7 +264,8 @@ pub record Recorded (first : World) (lines : List (List ℕ)) (text : List ℕ) 
   pub setup : IsSetup (steps_of lines) beside policy
   pub settings : (whole : List ℕ) → lines_of whole ≡ flat_map conf_asked (steps_of lines)
       → conf_read whole ≡ Ok setup.draft.settings
-  pub later : (rules : List types.Rule) (steps : List PolicyStep) → length rules ≤ 65536
+  pub later : (rules : List types.Rule) (steps : List PolicyStep)
+      → length (folder_of policy) + length rules ≤ 65536
       → CanTake (with_rules rules policy) steps
       → IsLater (changed_alone (with_rules rules policy) steps)
       (words_for (with_rules rules policy) steps) (judgements_for (with_rules rules policy) steps)

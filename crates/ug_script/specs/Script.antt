@@ -1,8 +1,8 @@
 -- How far a script has come, and the daemon that it has.
-use Rattle.std.specs.Prelude.{Bool, true, false, ◌&&◌, nat_le, List, [], length}
-use Rattle.ug_conf.specs.Files.{conf_limit}
+use Rattle.std.specs.Prelude.{◌≡◌, Bool, true, false, ◌&&◌, nat_le, List, [], length}
 use Rattle.ug_conf.specs.FolderFiles.{folder_length}
 use Rattle.ug_print.specs.RuleTexts.{rules_limit, rules_text_of}
+use Rattle.ug_store.specs.DiskCalls.{file_limit}
 use Rattle.ug_store.specs.Scripted.{DiskWorld}
 use Rattle.ug_core.specs.Event.{DaemonState, daemon_of}
 use Rattle.ug_store.specs.declared.mishap.Planned.{Planned}
@@ -10,6 +10,7 @@ use Rattle.ug_core.specs.declared.start_fault.StartFault.{StartFault}
 use Rattle.ug_core.specs.declared.start_fault.StartFault.TheVariants as fault
 use Rattle.ug_script.specs.declared.progress.Phase as progress
 use Rattle.ug_script.specs.declared.progress.Phase.TheVariants as at
+use Rattle.ug_script.specs.declared.session.Session.{Session}
 use Rattle.ug_script.specs.declared.start.NoStart.{NoStart}
 use Rattle.ug_script.specs.declared.start.NoStart.TheVariants as no_start
 use Rattle.ug_script.specs.Setup.{SetupState, no_setup, rules_disk, first_started}
@@ -73,14 +74,25 @@ disk_by setup (Started d disk) = disk
 abbrev pub disk_in : Script → DiskWorld
 disk_in s = disk_by s.setup s.phase
 
--- the lines of the folder aren't too long together
+-- the texts of the folder's files aren't too long together
 abbrev pub fits_folder : SetupState → Bool
-fits_folder setup = nat_le (folder_length setup.folder.files) conf_limit
+fits_folder setup = nat_le (folder_length setup.folder.files) file_limit
 
--- nor are they, and a rule file has room for the other rules
+-- a rule file has room for the other rules
+abbrev pub fits_rules : SetupState → Bool
+fits_rules setup = nat_le (length (rules_text_of setup.rules)) rules_limit
+
 abbrev pub fits_file : SetupState → Bool
-fits_file setup =
-    nat_le (length (rules_text_of setup.rules)) rules_limit && fits_folder setup
+fits_file setup = fits_rules setup && fits_folder setup
+
+-- the rules of a session's file stand behind those of the folder, whose texts aren't too long
+abbrev pub IsStartedBy : SetupState → Session → Type 0
+IsStartedBy setup session = (session.before ≡ setup.folder.count) × (fits_folder setup ≡ true)
+
+abbrev pub IsPhaseOf : SetupState → progress.Phase → Type 0
+IsPhaseOf setup at.SettingUp = Unit {0}
+IsPhaseOf setup at.Unstarted = Unit {0}
+IsPhaseOf setup (at.Started session) = IsStartedBy setup session
 
 -- why no daemon starts over a disk in memory, which fails only where an entry of its calls finds no
 -- memory

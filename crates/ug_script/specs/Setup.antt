@@ -236,9 +236,8 @@ pub record StartsOn (s : SetupState) (number : ℕ) (o : DiskWorld) (d : DaemonS
 abbrev pub steps_of : List (List ℕ) → List (Option Step)
 steps_of lines = map step_of_line (drop 1 lines)
 
--- the rules, the lines of the folder, of settings and of access, the
--- seeds and the zones among them,
--- in order
+-- the rules, the lines of the folder, of settings and of access, the seeds and the zones among
+-- them, in order
 
 abbrev pub setup_rule : Option Step → List types.Rule
 setup_rule (Some (Setup (Rule rule))) = rule ∷ []
@@ -268,14 +267,13 @@ abbrev pub first_or : {X : Type 0} → X → List X → X
 first_or other [] = other
 first_or other (x ∷ xs) = x
 
--- The rules are those of the folder's files and behind them those of
--- the `rule` lines in order, with
--- ids from 1 and no history. The files are in byte order of their names, and each has the `folder`
--- lines of its name, in their order. The settings
--- are those that the lines of the `conf` lines give, read as the lines of one text; the clock is
--- that of the `zone` line, or that of UTC; and the words are those of the `seed` line's seed, or of
--- 32 bytes 0. No moment has come. The users and the groups of the settings may do everything, and
--- each `access` line adds what it grants.
+-- The rules are those of the folder's files and behind them those of the `rule` lines in order,
+-- with ids from 1 and no history. The files are in byte order of their names, and each has the
+-- `folder` lines of its name, in their order. The settings are those that the lines of the `conf`
+-- lines give, read as the lines of one text; the clock is that of the `zone` line, or that of UTC;
+-- and the words are those of the `seed` line's seed, or of 32 bytes 0. No moment has come. The
+-- users and the groups of the settings may do everything, and each `access` line adds what it
+-- grants.
 pub record IsSetup (steps : List (Option Step)) (beside : Beside) (policy : Judging) : Type 0 where
   pub draft : Draft
   pub settings : lines_read setting_line 1 (draft_of defaults []) (flat_map conf_asked steps)

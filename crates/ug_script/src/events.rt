@@ -11,6 +11,7 @@ ghost use Rattle.ug_store.specs.Scripted.{coming_up, plan_at, stops_by};
 ghost use Rattle.ug_sysfs.specs.World.{World, over};
 ghost use Rattle.ug_script.specs.Replay as replay;
 ghost use Rattle.ug_script.specs.Replay.{IsEventPlayed, came_of, event_by, event_from};
+ghost use Rattle.ug_script.specs.Script.{IsStartedBy};
 ghost use Rattle.ug_script.specs.Setup.{StartsOn, after_reading, rules_from};
 
 use crate::halting::Halting;
@@ -69,6 +70,7 @@ fn handle(alloc: Global, session: &mut Session, event: &Event, kernel: &mut SimK
         session.old.disk) }
     ensures all { session.new.daemon.report.entries.entries
         ≡ (daemon_of session.new.daemon).sweep.entries }
+    ensures before { session.new.before ≡ session.old.before }
 {
     let mut panel = Panel::new(Vec::new(alloc));
     let mut halting = Halting {};
@@ -108,6 +110,7 @@ fn write_event<K: Sink>(alloc: Global, session: &mut Session, out: &mut K) -> Ra
     ensures taken { (¬ (result ≡ Ran.Bad)) × (¬ (result ≡ Ran.TooLong)) }
     ensures counted { K.faults out.old ≤ K.faults out.new }
     ensures cause { result ≡ Ran.SinkFailed → Rose (K.faults out.old) (K.faults out.new) }
+    ensures before { session.new.before ≡ session.old.before }
 {
     match session.disk.forget() {
         Ok(()) => put_outcome(alloc, session.daemon.report(), out),
@@ -153,9 +156,11 @@ fn first_stop(plan: &[Planned], calls: u64) -> u64
 
 /// The machine comes up again, and a new daemon is started.
 fn begin_again(alloc: Global, setup: &Setup, session: &mut Session) -> Result<(), NoMemory>
+    requires session { IsStartedBy setup.now session.old }
     ensures started { OnOk result (StartsOn setup.now (daemon_of session.old.daemon).event
         (coming_up session.old.disk) (daemon_of session.new.daemon)) }
     ensures read { OnOk result (session.new.disk ≡ after_reading (coming_up session.old.disk)) }
+    ensures before { session.new.before ≡ session.old.before }
 {
     session.disk.come_up()?;
     restart_daemon(alloc, setup, session)
@@ -168,13 +173,15 @@ fn restart_behind(
     session: &mut Session,
     call: u64,
 ) -> Result<Vec<u8>, NoMemory>
-    requires { session.old.daemon.report.entries.entries
+    requires entries { session.old.daemon.report.entries.entries
         ≡ (daemon_of session.old.daemon).sweep.entries }
+    requires session { IsStartedBy setup.now session.old }
     ensures text { IfOk result (λ text. text.items
         ≡ replay.stopped_text call (daemon_of session.old.daemon).sweep.entries) }
     ensures started { OnOk result (StartsOn setup.now (daemon_of session.old.daemon).event
         (coming_up session.old.disk) (daemon_of session.new.daemon)) }
     ensures read { OnOk result (session.new.disk ≡ after_reading (coming_up session.old.disk)) }
+    ensures before { session.new.before ≡ session.old.before }
 {
     let text = stopped_text(alloc, session.daemon.report().entries.as_slice(), call)?;
     begin_again(alloc, setup, session)?;
@@ -190,8 +197,9 @@ fn stop_event<K: Sink>(
     call: u64,
     out: &mut K,
 ) -> Ran
-    requires { session.old.daemon.report.entries.entries
+    requires entries { session.old.daemon.report.entries.entries
         ≡ (daemon_of session.old.daemon).sweep.entries }
+    requires session { IsStartedBy setup.now session.old }
     ensures ran { (w : World) → Steps (replay.stopped_of setup.now call
         (record { daemon = daemon_of session.old.daemon; world = w; disk = session.old.disk })
         (rules_from setup.now.folder.count session.old.disk.disk.text))
@@ -200,6 +208,7 @@ fn stop_event<K: Sink>(
     ensures taken { (¬ (result ≡ Ran.Bad)) × (¬ (result ≡ Ran.TooLong)) }
     ensures counted { K.faults out.old ≤ K.faults out.new }
     ensures cause { result ≡ Ran.SinkFailed → Rose (K.faults out.old) (K.faults out.new) }
+    ensures before { session.new.before ≡ session.old.before }
 {
     match restart_behind(alloc, setup, session, call) {
         Ok(text) => put(out, text.as_slice()),
@@ -218,8 +227,9 @@ fn play_event<K: Sink>(
     kernel: &mut SimKernel,
     out: &mut K,
 ) -> Ran
-    requires { has_numbers (daemon_of session.old.daemon) kernel.old.faults session.old.disk.faults
+    requires numbers { has_numbers (daemon_of session.old.daemon) kernel.old.faults session.old.disk.faults
         ≡ true }
+    requires session { IsStartedBy setup.now session.old }
     ensures ran { Steps (came_of setup.now plan.now
         (event_from event.now (daemon_of session.old.daemon) kernel.old session.old.disk))
         (record {
@@ -233,6 +243,7 @@ fn play_event<K: Sink>(
     ensures taken { (¬ (result ≡ Ran.Bad)) × (¬ (result ≡ Ran.TooLong)) }
     ensures counted { K.faults out.old ≤ K.faults out.new }
     ensures cause { result ≡ Ran.SinkFailed → Rose (K.faults out.old) (K.faults out.new) }
+    ensures before { session.new.before ≡ session.old.before }
 {
     handle(alloc, session, event, kernel);
     let noted = session.daemon.report().entries.as_slice();
@@ -258,8 +269,9 @@ fn run_event<K: Sink>(
     kernel: &mut SimKernel,
     out: &mut K,
 ) -> Ran
-    requires { has_numbers (daemon_of session.old.daemon) kernel.old.faults session.old.disk.faults
+    requires numbers { has_numbers (daemon_of session.old.daemon) kernel.old.faults session.old.disk.faults
         ≡ true }
+    requires session { IsStartedBy setup.now session.old }
     ensures ran { Steps
         (came_of setup.now plan.now (event_from event.now (daemon_of session.old.daemon) kernel.old
         (replay.begun_disk plan.now session.old.disk)))
@@ -274,6 +286,7 @@ fn run_event<K: Sink>(
     ensures taken { (¬ (result ≡ Ran.Bad)) × (¬ (result ≡ Ran.TooLong)) }
     ensures counted { K.faults out.old ≤ K.faults out.new }
     ensures cause { result ≡ Ran.SinkFailed → Rose (K.faults out.old) (K.faults out.new) }
+    ensures before { session.new.before ≡ session.old.before }
 {
     match begin_disk(&mut session.disk, plan) {
         Ok(()) => play_event(alloc, setup, session, plan, event, kernel, out),
@@ -291,6 +304,7 @@ pub fn next_event<K: Sink>(
     kernel: &mut SimKernel,
     out: &mut K,
 ) -> Ran
+    requires session { IsStartedBy setup.now session.old }
     ensures ran { Steps (event_by setup.now event.now plan.now
         (daemon_of session.old.daemon) kernel.old session.old.disk)
         (record {
@@ -307,6 +321,7 @@ pub fn next_event<K: Sink>(
     ensures short { ¬ (result ≡ Ran.TooLong) }
     ensures counted { K.faults out.old ≤ K.faults out.new }
     ensures cause { result ≡ Ran.SinkFailed → Rose (K.faults out.old) (K.faults out.new) }
+    ensures before { session.new.before ≡ session.old.before }
 {
     if !session
         .daemon

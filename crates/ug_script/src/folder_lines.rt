@@ -1,8 +1,7 @@
 // The lines of `folder` lines, file by file.
-ghost use Rattle.std.specs.Prelude.{◌≡◌, ◌<◌, ◌≤◌, ◌++◌, ◌∷◌, [], IfOk, OnOk, OnErr, length};
-ghost use Rattle.ug_conf.specs.FolderFiles.{folder_length};
-ghost use Rattle.ug_script.specs.FolderLines.{no_folder, with_line};
-ghost use Rattle.ug_script.specs.Grammar.{HoldsRule};
+ghost use Rattle.std.specs.Prelude.{◌≡◌, ◌<◌, ◌≤◌, ◌++◌, ◌∷◌, [], IfOk, OnOk, OnErr};
+ghost use Rattle.ug_core.specs.Starting.{AreAscending};
+ghost use Rattle.ug_script.specs.FolderLines.{HasLines, HoldsRule, IsPlaceOf, file_of, files_of, no_folder, one_line_file, with_line};
 
 use crate::step::FolderLine;
 use std::alloc::Global;
@@ -17,14 +16,12 @@ struct FileText {
     text: Vec<u8>,
 }
 
-/// The files of the folder of rules in byte order of their names, how many lines they have, each of which holds a rule, and how many
-/// bytes.
+/// The files of the folder of rules in byte order of their names, and how many lines they have, each of which holds a rule.
 #[derive(Drop)]
 pub struct FolderLines {
     alloc: Global,
     files: Vec<FileText>,
     count: usize,
-    bytes: usize,
 }
 
 impl Model for FolderLines {
@@ -34,18 +31,15 @@ impl Model for FolderLines {
 
     ghost view = { λ l. record { files = files_of l.files.items; count = l.count } };
 
-    ghost invariant = { λ l. HasLines (files_of l.files.items) l.count l.bytes };
+    ghost invariant = { λ l. HasLines (files_of l.files.items) l.count };
 }
 
-// How many files stand up to that name.
-fn place_of(files: &[FileText], name: &[u8]) -> usize
-    ensures { result ≤ length files.now }
+// Where the file of that name stands, or else where it has to.
+fn place_of(files: &[FileText], name: &[u8]) -> Result<usize, usize>
+    requires { AreAscending (files_of files.now) }
+    ensures { IsPlaceOf name.now files.now result }
 {
-    let mut place = files.len();
-    while place > 0 && files[place - 1].name.bytes() > name {
-        place -= 1;
-    }
-    place
+    files.binary_search_by(|file| file.name.bytes().cmp(name))
 }
 
 // Adds a line and its newline. A refusal changes nothing.
@@ -59,6 +53,16 @@ fn add_text(text: &mut Vec<u8>, line: &[u8]) -> Result<(), NoMemory>
     Ok(())
 }
 
+// A file of that line alone.
+fn first_line(alloc: Global, line: &FolderLine) -> Result<FileText, NoMemory>
+    ensures { IfOk result (λ file. file_of file ≡ one_line_file line.now) }
+{
+    let name = Text::of(alloc, line.name.bytes())?;
+    let mut text = Vec::new(alloc);
+    add_text(&mut text, line.text.bytes())?;
+    Ok(FileText { name, text })
+}
+
 impl FolderLines {
     /// No lines. It takes no memory.
     pub fn new(alloc: Global) -> FolderLines
@@ -68,7 +72,6 @@ impl FolderLines {
             alloc,
             files: Vec::new(alloc),
             count: 0,
-            bytes: 0,
         }
     }
 
@@ -80,13 +83,6 @@ impl FolderLines {
         self.count
     }
 
-    /// How many bytes the lines have, with a newline each.
-    pub fn bytes(&self) -> usize
-        ensures { result ≡ folder_length self.now.files }
-    {
-        self.bytes
-    }
-
     /// Adds a line to its file. A refusal changes nothing.
     pub fn push(&mut self, line: &FolderLine) -> Result<(), NoMemory>
         requires room { self.old.count < 65536 }
@@ -94,24 +90,22 @@ impl FolderLines {
         ensures ok { OnOk result (self.new ≡ with_line line.now self.old) }
         ensures err { OnErr result (self.new ≡ self.old) }
     {
-        let name = line.name.bytes();
-        let place = place_of(self.files.as_slice(), name);
-        if place > 0 && self.files[place - 1].name.bytes() == name {
-            add_text(&mut self.files[place - 1].text, line.text.bytes())?;
-        } else {
-            let mut text = Vec::new(self.alloc);
-            add_text(&mut text, line.text.bytes())?;
-            let name = Text::of(self.alloc, name)?;
-            self.files.insert(place, FileText { name, text })?;
+        match place_of(self.files.as_slice(), line.name.bytes()) {
+            Ok(place) => add_text(&mut self.files[place].text, line.text.bytes())?,
+            Err(place) => {
+                let file = first_line(self.alloc, line)?;
+                self.files.insert(place, file)?;
+            }
         }
         self.count += 1;
-        self.bytes += line.text.bytes().len() + 1;
         Ok(())
     }
 
-    /// The files.
+    /// The files. Each line reads as a rule, and so each text as so many.
     pub fn files(&self, alloc: Global) -> Result<List<FolderFile>, NoMemory>
-        ensures { IfOk result (λ files. files ≡ self.now.files) }
+        ensures files { IfOk result (λ files. files ≡ self.now.files) }
+        ensures ascending { IfOk result AreAscending }
+        ensures lines { HasLines self.now.files self.now.count }
     {
         let mut files = List::new(alloc);
         for file in &self.files {

@@ -1,4 +1,6 @@
 // How far a script has come.
+ghost use Rattle.ug_script.specs.Script.{IsPhaseOf};
+
 use crate::session::Session;
 use crate::setup::Setup;
 use ug_store::Planned;
@@ -20,4 +22,5 @@ pub struct Running {
     pub setup: Setup,
     pub phase: Phase,
     pub plan: Vec<Planned>,
+    ghost session: { IsPhaseOf setup phase },
 }

@@ -11,7 +11,7 @@ ghost use Rattle.ug_script.specs.Journal.{happened_from};
 ghost use Rattle.ug_script.specs.LinesRead.{FirstReads, StepReads};
 ghost use Rattle.ug_script.specs.Replay as replay;
 ghost use Rattle.ug_script.specs.Script as script;
-ghost use Rattle.ug_script.specs.Script.{can_start, daemon_in, disk_in, fresh, phase_of, with_setup_closed};
+ghost use Rattle.ug_script.specs.Script.{IsStartedBy, can_start, daemon_in, disk_in, fresh, phase_of, with_setup_closed};
 ghost use Rattle.ug_script.specs.Setup.{rules_from};
 ghost use Rattle.ug_store.specs.declared.mishap.Planned.{Planned};
 ghost use Rattle.ug_core.specs.Event.{daemon_of, has_numbers};
@@ -62,6 +62,7 @@ fn planned_event<K: Sink>(
     kernel: &mut SimKernel,
     out: &mut K,
 ) -> Ran
+    requires session { IsStartedBy setup.now session.old }
     ensures ran { Steps (event_by setup.now event.now plan.old.items
         (daemon_of session.old.daemon) kernel.old session.old.disk)
         (record {
@@ -80,6 +81,7 @@ fn planned_event<K: Sink>(
     ensures planned { plan.new.items ≡ [] }
     ensures counted { K.faults out.old ≤ K.faults out.new }
     ensures cause { result ≡ Ran.SinkFailed → Rose (K.faults out.old) (K.faults out.new) }
+    ensures before { session.new.before ≡ session.old.before }
 {
     let ran = next_event(alloc, setup, session, plan.as_slice(), event, kernel, out);
     plan.clear();
@@ -88,12 +90,14 @@ fn planned_event<K: Sink>(
 
 /// Another daemon in place of that one, where the rule file gives one.
 fn restart_session(alloc: Global, setup: &Setup, session: &mut Session) -> Ran
+    requires session { IsStartedBy setup.now session.old }
     ensures silent { ¬ (result ≡ Ran.SinkFailed) }
     ensures given { (¬ (result ≡ Ran.Bad)) × (¬ (result ≡ Ran.TooLong)) }
     ensures ran { (plan : List Planned) (w : World) (held : Option (List ℕ))
         → Steps (restarted (rules_from setup.now.folder.count session.old.disk.disk.text)
         (started_script setup.now session.old plan) w)
         (Some (started_script setup.now session.new plan), w) held held result }
+    ensures before { session.new.before ≡ session.old.before }
 {
     match restart_daemon(alloc, setup, session) {
         Ok(()) => Ran::Done,

@@ -1,6 +1,7 @@
 // What the lines give that stand before all others.
 ghost use Rattle.std.specs.Prelude.{◌≡◌, ◌++◌, ◌∷◌, [], Some, IfOk};
-ghost use Rattle.ug_script.specs.Grammar.{AsksForRule, HoldsRule};
+ghost use Rattle.ug_script.specs.FolderLines.{HoldsRule};
+ghost use Rattle.ug_script.specs.Grammar.{AsksForRule};
 ghost use Rattle.ug_script.specs.Setup as lines;
 ghost use Rattle.ug_script.specs.Setup.{Adds, no_setup, one_line_more};
 ghost use Rattle.ug_rule.specs.Grammar.{WellFormed};
@@ -12,10 +13,8 @@ use crate::words::is_entry;
 use std::alloc::Global;
 use std::marker::Model;
 use ug_conf::{LineFault, SettingsReader};
+use ug_policy::MAX_RULES;
 use ug_types::{NoMemory, Rule};
-
-/// The most rules that a daemon starts with.
-const MOST_RULES: usize = 65_536;
 
 /// The rules in order, of which the text is kept, the files of the folder before them, the settings so far, what was granted in
 /// order, and the seed and the zone, where they were given.
@@ -30,7 +29,7 @@ pub struct Setup {
 }
 
 impl Model for Setup {
-    ghost use Rattle.std.specs.Prelude.{IfSome, IsTrue};
+    ghost use Rattle.std.specs.Prelude.{IfSome, IsTrue, ◌+◌, ◌≤◌, length};
     ghost use Rattle.ug_script.specs.Setup.{SetupState, is_offset};
 
     ghost Value = { SetupState };
@@ -44,7 +43,10 @@ impl Model for Setup {
       zone = s.zone;
     } };
 
-    ghost invariant = { λ s. IfSome s.zone (λ offset. IsTrue (is_offset offset)) };
+    ghost invariant = { λ s. record {
+      offset : IfSome s.zone (λ offset. IsTrue (is_offset offset));
+      few : s.folder.count + length s.rules ≤ 65536;
+    } };
 }
 
 fn is_offset(seconds: i32) -> bool
@@ -99,7 +101,7 @@ impl Setup {
     fn has_room(&self) -> bool
         ensures { result ≡ lines.has_rule_room self.now }
     {
-        self.folder.len() + self.rules.len() < MOST_RULES
+        self.folder.len() + self.rules.len() < MAX_RULES
     }
 
     fn add_folder_line(&mut self, line: FolderLine) -> Result<(), StepFault>

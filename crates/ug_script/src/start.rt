@@ -9,7 +9,7 @@ ghost use Rattle.ug_core.specs.Settings.{classes_of, hub_default};
 ghost use Rattle.ug_rule.specs.Files.{file_read};
 ghost use Rattle.ug_store.specs.Scripted.{world_at_first};
 ghost use Rattle.ug_print.specs.RuleTexts.{rules_text_of};
-ghost use Rattle.ug_script.specs.Script.{fits_file, fits_folder, no_start_of};
+ghost use Rattle.ug_script.specs.Script.{IsStartedBy, fits_file, fits_folder, fits_rules, no_start_of};
 ghost use Rattle.ug_script.specs.Setup.{StartsOn, after_reading, beside_of, clock_ahead, given_or, is_offset, no_seed, policy_of, rules_disk, rules_from, first_started};
 
 use crate::access::access_of;
@@ -21,12 +21,10 @@ use rand_core::{Rng, SeedableRng};
 use std::alloc::Global;
 use ug_conf::{Settings, TEXT_LIMIT, default_settings};
 use ug_core::{Daemon, StartFault};
+use ug_policy::MAX_RULES;
 use ug_print::RulesTextFault;
 use ug_store::MemDisk;
 use ug_types::NoMemory;
-
-/// The greatest number of bytes of a rule file.
-const RULES_LIMIT: usize = 67_108_864;
 
 /// Why no daemon starts over a disk.
 #[derive(Clone, Copy, Debug, PartialEq, Eq)]
@@ -109,22 +107,15 @@ fn settings_of(alloc: Global, setup: &Setup) -> Result<Settings, NoMemory>
     Ok(settings)
 }
 
-/// Whether the lines of the folder's files aren't too long together.
-fn fits_folder(setup: &Setup) -> bool
-    ensures { result ≡ fits_folder setup.now }
-{
-    setup.folder.bytes() <= TEXT_LIMIT
-}
-
-/// The disk whose rule file holds the rules, where neither these nor those of the folder are too long.
+/// The disk whose rule file holds the rules, where they aren't too long.
 fn disk_of(alloc: Global, setup: &Setup) -> Result<MemDisk, RulesTextFault>
     ensures disk { IfOk result (λ disk. disk ≡ world_at_first (rules_text_of setup.now.rules)) }
     ensures reads { OnOk result (file_read (rules_text_of setup.now.rules) ≡ Ok setup.now.rules) }
-    ensures fits { OnOk result (fits_file setup.now ≡ true) }
-    ensures too_long { result ≡ Err RulesTextFault.TooLong → fits_file setup.now ≡ false }
+    ensures fits { OnOk result (fits_rules setup.now ≡ true) }
+    ensures too_long { result ≡ Err RulesTextFault.TooLong → fits_rules setup.now ≡ false }
 {
     let text = setup.rules.text();
-    if text.len() > RULES_LIMIT || !fits_folder(setup) {
+    if text.len() > TEXT_LIMIT {
         return Err(RulesTextFault::TooLong);
     }
     match MemDisk::with_text(alloc, text) {
@@ -149,7 +140,7 @@ fn are_few(setup: &Setup) -> bool
     ensures few { setup.now.folder.count + length setup.now.rules ≤ 65536 }
     ensures is { result ≡ true }
 {
-    setup.folder.len() + setup.rules.len() <= 65_536
+    setup.folder.len() + setup.rules.len() <= MAX_RULES
 }
 
 /// A daemon that reads its rules from that disk, whose first event has that number.
@@ -160,12 +151,13 @@ fn start_on(
     disk: &mut MemDisk,
 ) -> Result<Daemon<'static, ChaCha20Rng>, NoStart>
     ensures started { IfOk result (λ daemon. StartsOn setup.now first disk.old (daemon_of daemon)) }
+    ensures fits { OnOk result (fits_folder setup.now ≡ true) }
     ensures saves { IfOk result (λ daemon. IsSaveable (daemon_of daemon).sweep.judge.rules) }
     ensures bad { result ≡ Err NoStart.BadRules
         → rules_from setup.now.folder.count disk.old.disk.text ≡ Err BadLine }
-    ensures too_long { result ≡ Err NoStart.TooLong
+    ensures too_long { result ≡ Err NoStart.TooLong → fits_folder setup.now ≡ true
         → rules_from setup.now.folder.count disk.old.disk.text ≡ Err InputTooLong }
-    ensures read { (result ≡ Err NoStart.Memory → ⊥) → disk.new ≡ after_reading disk.old }
+    ensures read { OnOk result (disk.new ≡ after_reading disk.old) }
     ensures still { disk.new.ran_out ≡ false → IsStillOn disk.old disk.new }
 {
     let settings = settings_of(alloc, setup)?;
@@ -183,6 +175,7 @@ fn start_on(
 pub fn start_daemon(alloc: Global, setup: &Setup) -> Result<Session, RulesTextFault>
     ensures daemon { IfOk result (λ s. daemon_of s.daemon ≡ first_started setup.now) }
     ensures disk { IfOk result (λ s. s.disk ≡ rules_disk setup.now) }
+    ensures session { IfOk result (λ s. IsStartedBy setup.now s) }
     ensures fits { OnOk result (fits_file setup.now ≡ true) }
     ensures saves { OnOk result (CanSave setup.now.rules) }
     ensures too_long { result ≡ Err RulesTextFault.TooLong → fits_file setup.now ≡ false }
@@ -196,18 +189,21 @@ pub fn start_daemon(alloc: Global, setup: &Setup) -> Result<Session, RulesTextFa
             before: setup.folder.len(),
             disk,
         }),
+        Err(NoStart::TooLong) => Err(RulesTextFault::TooLong),
         Err(NoStart::Memory) => Err(RulesTextFault::Memory),
-        Err(NoStart::BadRules | NoStart::TooLong) => unreachable!(),
+        Err(NoStart::BadRules) => unreachable!(),
     }
 }
 
 /// A new daemon over the same disk, whose first event has the number that the daemon before would have given it. The rule file gives one, so
 /// that only want of memory refuses it. Then the one before stays.
 pub fn restart_daemon(alloc: Global, setup: &Setup, session: &mut Session) -> Result<(), NoMemory>
+    requires session { IsStartedBy setup.now session.old }
     ensures started { OnOk result (StartsOn setup.now (daemon_of session.old.daemon).event
         session.old.disk (daemon_of session.new.daemon)) }
     ensures kept { OnErr result (session.new.daemon ≡ session.old.daemon) }
     ensures read { OnOk result (session.new.disk ≡ after_reading session.old.disk) }
+    ensures before { session.new.before ≡ session.old.before }
 {
     if session.disk.ran_out() {
         return Err(NoMemory);
