@@ -1,4 +1,9 @@
 // A list of rules, the words of a generator, and the devices that are allowed.
+ghost use Rattle.std.specs.Prelude.{OnTrue};
+ghost use Rattle.ug_types.specs.Elements.{Has};
+ghost use Rattle.ug_policy.specs.Edits.{IsThere};
+ghost use Rattle.ug_policy.specs.Rules.{ids};
+
 use jiff::tz::TimeZone;
 use rand_chacha::ChaCha20Rng;
 use rand_core::{Rng, SeedableRng};
@@ -6,7 +11,7 @@ use std::alloc::Global;
 use ug_casefile::{Answer, number_of, split_word};
 use ug_cond::{Allowed, Context, History, holds, local_second};
 use ug_match::matches;
-use ug_policy::{InsertFault, Mark, RuleEntry, RuleList};
+use ug_policy::{MAX_RULES, Mark, RuleEntry, RuleList};
 use ug_rule::{parse_query, parse_rule};
 use ug_types::{
     After, Cause, Conds, DeviceRecord, Id, List, Moment, NodeName, Query, Rule, Target, Text,
@@ -80,14 +85,24 @@ fn conditions_of(alloc: Global, text: &[u8]) -> Option<Conds> {
     rule.conds
 }
 
-fn add_inserted(told: &mut Answer, inserted: Result<u64, InsertFault>) {
-    match inserted {
-        Ok(id) => {
-            told.add(b"rule ");
-            told.add_number(id);
+fn has_rule(rules: &[RuleEntry], id: u64) -> bool
+    ensures { OnTrue result (Has (ids rules.now) id) }
+{
+    for entry in rules {
+        if entry.id == id {
+            return true;
         }
-        Err(InsertFault::NoRule) => told.add(b"no rule"),
-        Err(InsertFault::Full) => told.add(b"full"),
+    }
+    false
+}
+
+// Whether a rule can be put there.
+fn is_there(list: &RuleList, after: After) -> bool
+    ensures { OnTrue result (IsThere after list.now.entries) }
+{
+    match after {
+        After::Front | After::End => true,
+        After::Rule(id) => has_rule(list.as_slice(), id),
     }
 }
 
@@ -161,8 +176,13 @@ impl Session {
             told.fall_short();
         } else if self.list.next_id() == u64::MAX {
             told.add(b"no number");
+        } else if !is_there(&self.list, after) {
+            told.add(b"no rule");
+        } else if self.list.len() >= MAX_RULES {
+            told.add(b"full");
         } else {
-            add_inserted(told, self.list.insert(after, rule, Mark::File));
+            told.add(b"rule ");
+            told.add_number(self.list.insert(after, rule, Mark::Temporary));
         }
     }
 

@@ -75,7 +75,7 @@ graphic_apart (b ∷ word) h (inr m) = graphic_apart word (and_parts (nat_lt 32 
 
 -- ---- one line
 
-one_line : (line : List ℕ) → is_one_line line ≡ true → ¬ Has line 10
+pub one_line : (line : List ℕ) → is_one_line line ≡ true → ¬ Has line 10
 one_line [] h k = k
 one_line (b ∷ line) h k = by (nat_eq b 10) refl (one_line line) h k
   where
@@ -84,7 +84,7 @@ one_line (b ∷ line) h k = by (nat_eq b 10) refl (one_line line) h k
     by false e again m (inl n) = let none : ⊥ = grind (arith, nat_tests) in none
     by false e again m (inr n) = again m n
 
-line_one : (line : List ℕ) → ¬ Has line 10 → is_one_line line ≡ true
+pub line_one : (line : List ℕ) → ¬ Has line 10 → is_one_line line ≡ true
 line_one [] h = refl
 line_one (b ∷ line) h =
     let no : nat_eq b 10 ≡ false = other b (λ e. h (inl e)) in
@@ -93,7 +93,7 @@ line_one (b ∷ line) h =
     other : (c : ℕ) → ¬ (c ≡ 10) → nat_eq c 10 ≡ false
     other c n = grind (arith, nat_tests)
 
-is_line : (line : List ℕ) → ¬ Has line 10 → IsLine line
+pub is_line : (line : List ℕ) → ¬ Has line 10 → IsLine line
 is_line [] h = tt
 is_line (b ∷ line) h = (λ e. h (inl e), is_line line (λ k. h (inr k)))
 

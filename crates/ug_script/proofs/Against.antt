@@ -199,7 +199,7 @@ one_refused _ _ _ (NoRoom s w line asked is starts unstarted_yet long) = (
     by_step (step.Move action) e = let none : ⊥ = cc in absurd none
     by_step (step.Schedule plan) e = let none : ⊥ = cc in absurd none
     by_step (step.Event event) e = ap (λ (b : Bool). cond b (in_script s (event_by s.setup event s.planned (daemon_in s) w (disk_in s))) (Refused InputTooLong (Some s, w))) (cannot s.setup s.phase unstarted_yet long)
-    by_step step.Restart e = ap (λ (b : Bool). cond b (restarted (rules_from (disk_in s).disk.text) s w) (Refused InputTooLong (Some s, w))) (cannot s.setup s.phase unstarted_yet long)
+    by_step step.Restart e = ap (λ (b : Bool). cond b (restarted (rules_from s.setup.folder.count (disk_in s).disk.text) s w) (Refused InputTooLong (Some s, w))) (cannot s.setup s.phase unstarted_yet long)
 
 pub are_refused : AreRefused
 are_refused = one_refused

@@ -320,8 +320,8 @@ stopped_after : (written : List Scheduled) (event : events.Event) (k : Kernel) (
 stopped_after written event k s call p (Ok rules) leads sound = over_after written event k p.world leads sound
 stopped_after written event k s call p (Err fault) leads sound = tt
 
-came_after : (written : List Scheduled) (event : events.Event) (k : Kernel) (s : Script) (p : Played) (stopped : Bool) → Leads written (Some (step.Event event)) k [] (over p.world).kernel → IsSound (over p.world).kernel.devices → After written (Some (step.Event event)) k (in_script s (cond stopped (stopped_of s.setup (stop_in s.planned p) p (rules_from p.disk.disk.text)) (finished p)))
-came_after written event k s p true leads sound = stopped_after written event k s (stop_in s.planned p) p (rules_from p.disk.disk.text) leads sound
+came_after : (written : List Scheduled) (event : events.Event) (k : Kernel) (s : Script) (p : Played) (stopped : Bool) → Leads written (Some (step.Event event)) k [] (over p.world).kernel → IsSound (over p.world).kernel.devices → After written (Some (step.Event event)) k (in_script s (cond stopped (stopped_of s.setup (stop_in s.planned p) p (rules_from s.setup.folder.count p.disk.disk.text)) (finished p)))
+came_after written event k s p true leads sound = stopped_after written event k s (stop_in s.planned p) p (rules_from s.setup.folder.count p.disk.disk.text) leads sound
 came_after written event k s p false leads sound = over_after written event k p.world leads sound
 
 event_after : (written : List Scheduled) (event : events.Event) (k : Kernel) (s : Script) (w : World) (start room : Bool) (came : LineOutcome Played) (other : Played) → After written (Some (step.Event event)) k (in_script s came) → After written (Some (step.Event event)) k (cond start (in_script s (cond room came (Refused BadLine other))) (Refused InputTooLong (Some s, w)))
@@ -338,7 +338,7 @@ step_after written (step.Event event) s w schedule sound =
     let p : Played = event_from event (daemon_in s) w (begun_disk s.planned (disk_in s)) in
     let g = event_goes event (daemon_in s) w (begun_disk s.planned (disk_in s)) sound in
     event_after written event w.kernel s w (can_start s.setup s.phase) (has_numbers (daemon_in s) w.faults (disk_in s).faults) (came_of s.setup s.planned p) _ (came_after written event w.kernel s p p.disk.stopped (event_leads written w.moves event w.kernel (over p.world).kernel schedule g) g.sound)
-step_after written step.Restart s w schedule sound = after_when written (Some step.Restart) w.kernel (can_start s.setup s.phase) (restarted (rules_from (disk_in s).disk.text) s w) (Refused InputTooLong (Some s, w)) (restarted_after written s w (rules_from (disk_in s).disk.text) schedule sound) tt
+step_after written step.Restart s w schedule sound = after_when written (Some step.Restart) w.kernel (can_start s.setup s.phase) (restarted (rules_from s.setup.folder.count (disk_in s).disk.text) s w) (Refused InputTooLong (Some s, w)) (restarted_after written s w (rules_from s.setup.folder.count (disk_in s).disk.text) schedule sound) tt
 
 line_after : (written : List Scheduled) (asked : Option Step) (s : Script) (w : World) → IsSchedule written w.moves → IsSound w.kernel.devices → After written asked w.kernel (taken_if asked s w)
 line_after written None s w schedule sound = tt

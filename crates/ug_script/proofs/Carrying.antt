@@ -121,8 +121,8 @@ step_reread (Schedule x) s w runs reads h = plan_reread x s w runs h
 step_reread (Event event) s w runs reads h =
     let p = event_of event s w in
     event_reread event s w runs reads h p.disk.stopped (came_of s.setup s.planned p) (can_start s.setup s.phase) (has_numbers (daemon_in s) w.faults (disk_in s).faults)
-    (came_reread event s w runs reads h p.disk.stopped (rules_from p.disk.disk.text))
-step_reread Restart s w runs reads h = restart_reread s w runs (can_start s.setup s.phase) (rules_from (disk_in s).disk.text) reads h
+    (came_reread event s w runs reads h p.disk.stopped (rules_from s.setup.folder.count p.disk.disk.text))
+step_reread Restart s w runs reads h = restart_reread s w runs (can_start s.setup s.phase) (rules_from s.setup.folder.count (disk_in s).disk.text) reads h
 
 line_reread : (step : Option Step) (s : Script) (w : World) (runs : EventsOfRuns) → StepReads step s w → Reread s runs → RereadBy (taken_if step s w) (runs_by step s w runs)
 line_reread None s w runs reads h = tt

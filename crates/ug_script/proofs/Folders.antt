@@ -1,5 +1,5 @@
 -- The files of `folder` lines, a line at a time.
-use Rattle.std.proofs.Common.{◌≡◌, ℕ, zero, suc, ◌+◌, ◌<◌, ◌≤◌, Bool, true, false, if◌then◌else◌, nat_eq, List, [], ◌∷◌, ◌++◌, get_or, set, length, map, flat_map, Result, Ok, Err, inl, inr, refl, sym, ap, subst, ◌∙◌, append_assoc, append-nil, length-append, arith}
+use Rattle.std.proofs.Common.{◌≡◌, ℕ, zero, suc, ◌+◌, ◌<◌, ◌≤◌, Bool, true, false, if◌then◌else◌, nat_eq, List, [], ◌∷◌, ◌++◌, get_or, set, length, map, flat_map, Result, Ok, Err, OnOk, OnErr, inl, inr, refl, sym, ap, subst, ◌∙◌, append_assoc, append-nil, length-append, arith}
 use Rattle.std.specs.Prelude.{All}
 use Rattle.std.specs.Cmp.Lexicographic.{pointwise, same_text, slice_cmp}
 use Rattle.std.specs.FinMap.{nat_cmp-IsAntisymmetric, slice_cmp-IsAntisymmetric}
@@ -15,9 +15,10 @@ use Rattle.std.proofs.lemmas.List.Sorted.{searchable_from_sorted}
 use Rattle.ug_types.specs.Elements.{Has}
 use Rattle.ug_types.specs.declared.rule.Rule.{Rule}
 use Rattle.ug_types.specs.declared.text_fault.TextFault.{TextFault}
+use Rattle.ug_conf.specs.FolderFiles.{folder_length}
 use Rattle.ug_conf.specs.declared.folder_file.FolderFile.{FolderFile}
 use Rattle.ug_lines.specs.LineReading.{lines_read}
-use Rattle.ug_lines.specs.Splitting.{AreLinesOf, IsLine, Nothing, Closed}
+use Rattle.ug_lines.specs.Splitting.{AreLinesOf, Nothing, Closed}
 use Rattle.ug_lines.proofs.TextLines.{split_only}
 use Rattle.ug_rule.specs.Files.{adding_line, file_read}
 use Rattle.ug_rule.specs.Grammar.{Says}
@@ -26,8 +27,9 @@ use Rattle.ug_rule.proofs.Texts.{read-rules}
 use Rattle.ug_core.specs.Starting.{AreAscending}
 use Rattle.ug_script.specs.declared.folder_lines.FileText.{FileText}
 use Rattle.ug_script.specs.declared.step.FolderLine.{FolderLine}
-use Rattle.ug_script.specs.FolderLines.{AreFilesOf, AreRuleLines, HasLines, HoldsRule, HoldsRules, IsPlaceOf, LineBefore, NoLine, ScriptFolder, ended_line, file_of, files_of, line_at, lines_under, no_folder, one_line_file, rules_in_folder, text_under, with_line, with_line_in}
+use Rattle.ug_script.specs.FolderLines.{AreFilesOf, AreRuleLines, HasLines, HoldsRule, HoldsRules, IsPlaceOf, LineBefore, NoLine, ScriptFolder, ended_line, file_of, files_of, line_at, lines_length, lines_under, no_folder, one_line_file, rules_in_folder, text_under, with_line, with_line_in}
 use Rattle.ug_script.specs.RuleLines.{rules_kept, rules_or_none}
+use Rattle.ug_script.proofs.AccessLines.{is_line}
 
 -- ---- the order of names
 
@@ -80,6 +82,19 @@ place_found texts name (Err at) h within parted = (
 
 -- ---- a line at its place
 
+pub unchanged : (texts : List FileText) (at : ℕ) (x new : FileText) → at < length texts → x ≡ get_or texts at x → file_of new ≡ file_of x → files_of (set texts at new) ≡ files_of texts
+unchanged [] at x new within was is = absurd (omega arith)
+unchanged (t ∷ ts) zero x new within was is = ap (λ (f : FolderFile). f ∷ files_of ts) (is ∙ ap file_of was)
+unchanged (t ∷ ts) (suc at) x new within was is = ap (λ (fs : List FolderFile). file_of t ∷ fs) (unchanged ts at x new (omega arith) was is)
+
+pub ok_then : {X E : Type 0} (r : Result X E) (A B : Type 0) → (A → B) → OnOk r A → OnOk r B
+ok_then (Ok x) A B f a = f a
+ok_then (Err e) A B f a = tt
+
+pub err_then : {X E : Type 0} (r : Result X E) (A B : Type 0) → (A → B) → OnErr r A → OnErr r B
+err_then (Ok x) A B f a = tt
+err_then (Err e) A B f a = f a
+
 module _ (line : FolderLine) where
   abbrev Passed : List FileText → ℕ → Type 0
   Passed texts at = AllWithin (λ f. compare line.name f.name ≡ Greater) texts 0 at
@@ -100,13 +115,13 @@ module _ (line : FolderLine) where
       ap (λ (fs : List FolderFile). file_of t ∷ fs) (inserted ts at new is (omega arith) (passed_rest t ts at h) (λ lt d. here (omega arith) d))
       ∙ sym (ap (λ (o : Ordering). line_at o line (file_of t) (files_of ts) (with_line_in line (files_of ts))) (passed_first t ts at h))
 
-  pub appended : (texts : List FileText) (at : ℕ) (new : FileText) → at < length texts → Passed texts at → HoldsAt (λ f. compare line.name f.name ≡ Equal) texts at → ((d : FileText) → file_of new ≡ record (file_of (get_or texts at d)) { text = (get_or texts at d).text.items ++ ended_line line }) → files_of (set texts at new) ≡ with_line_in line (files_of texts)
-  appended [] at new within h here is = absurd (omega arith)
-  appended (t ∷ ts) zero new within h here is =
-      ap (λ (f : FolderFile). f ∷ files_of ts) (is t)
+  pub appended : (texts : List FileText) (at : ℕ) (x new : FileText) → at < length texts → Passed texts at → HoldsAt (λ f. compare line.name f.name ≡ Equal) texts at → x ≡ get_or texts at x → file_of new ≡ record (file_of x) { text = x.text.items ++ ended_line line } → files_of (set texts at new) ≡ with_line_in line (files_of texts)
+  appended [] at x new within h here was is = absurd (omega arith)
+  appended (t ∷ ts) zero x new within h here was is =
+      ap (λ (f : FolderFile). f ∷ files_of ts) (is ∙ ap (λ (f : FileText). record (file_of f) { text = f.text.items ++ ended_line line }) was)
       ∙ sym (ap (λ (o : Ordering). line_at o line (file_of t) (files_of ts) (with_line_in line (files_of ts))) (here t))
-  appended (t ∷ ts) (suc at) new within h here is =
-      ap (λ (fs : List FolderFile). file_of t ∷ fs) (appended ts at new (omega arith) (passed_rest t ts at h) here is)
+  appended (t ∷ ts) (suc at) x new within h here was is =
+      ap (λ (fs : List FolderFile). file_of t ∷ fs) (appended ts at x new (omega arith) (passed_rest t ts at h) here was is)
       ∙ sym (ap (λ (o : Ordering). line_at o line (file_of t) (files_of ts) (with_line_in line (files_of ts))) (passed_first t ts at h))
 
   -- ---- what each file keeps
@@ -203,30 +218,26 @@ module _ (line : FolderLine) where
 
 -- ---- the rules of the lines
 
-no_newline : (line : List ℕ) → ¬ Has line 10 → IsLine line
-no_newline [] h = tt
-no_newline (b ∷ line) h = (λ e. h (inl e), no_newline line (λ k. h (inr k)))
-
 -- lines that are a text, and that hold rules
 record Cut (text : List ℕ) (rules : List Rule) : Type 0 where
   lines : List (List ℕ)
   split : AreLinesOf text lines
-  rules : AreRules lines rules
+  good : AreRules lines rules
 
 cut : (text : List ℕ) (rules : List Rule) → AreRuleLines text rules → Cut text rules
-cut text rules NoLine = record { lines = []; split = Nothing; rules = NoLines }
+cut text rules NoLine = record { lines = []; split = Nothing; good = NoLines }
 cut text rules (LineBefore line more rule rest single says behind) =
     let c = cut more rest behind in
     record {
       lines = line ∷ c.lines;
-      split = Closed line more c.lines (no_newline line single) c.split;
-      rules = OneMore line rule c.lines rest says c.rules;
+      split = Closed line more c.lines (is_line line single) c.split;
+      good = OneMore line rule c.lines rest says c.good;
     }
 
 text_is_read : (text : List ℕ) (rules : List Rule) → AreRuleLines text rules → file_read text ≡ Ok rules
 text_is_read text rules h =
     let c = cut text rules h in
-    ap (λ (lines : List (List ℕ)). lines_read adding_line 1 [] lines) (split_only text c.lines c.split) ∙ read-rules c.lines rules c.rules
+    ap (λ (lines : List (List ℕ)). lines_read adding_line 1 [] lines) (split_only text c.lines c.split) ∙ read-rules c.lines rules c.good
 
 rules_are : (text : List ℕ) (rules : List Rule) → AreRuleLines text rules → rules_kept text ≡ rules
 rules_are text rules h = ap (λ (read : Result (List Rule) TextFault). rules_or_none read) (text_is_read text rules h)
@@ -248,9 +259,11 @@ module _ (line : FolderLine) (rule : HoldsRule line.text) where
   holds_more f h = (h.0 ++ rule.rule ∷ [], line_behind line.text f.text rule.rule h.0 rule.single rule.says h.1)
 
   one_kept : length (rules_kept (ended_line line)) ≡ 1
+  unfolding holds_first
   one_kept = ap (λ (l : List Rule). length l) (rules_are (ended_line line) (rule.rule ∷ []) holds_first.1)
 
   one_more_kept : (f : FolderFile) → HoldsRules f → length (rules_kept (f.text ++ ended_line line)) ≡ length (rules_kept f.text) + 1
+  unfolding holds_more
   one_more_kept f h =
       let old : length (rules_kept f.text) ≡ length h.0 = ap (λ (l : List Rule). length l) (rules_are f.text h.0 h.1) in
       let new : length (rules_kept (f.text ++ ended_line line)) ≡ length (h.0 ++ rule.rule ∷ []) = ap (λ (l : List Rule). length l) (rules_are (f.text ++ ended_line line) (h.0 ++ rule.rule ∷ []) (holds_more f h).1) in
@@ -291,5 +304,30 @@ module _ (line : FolderLine) (rule : HoldsRule line.text) where
         few = omega (arith, room);
       }
 
+-- ---- how long the texts are in all
+
+pub length_with : (line : FolderLine) (files : List FolderFile) → folder_length (with_line_in line files) ≡ folder_length files + lines_length (line ∷ [])
+length_with line [] =
+    let own : length (ended_line line) ≡ length line.text + 1 = length-append line.text (10 ∷ []) in
+    omega (arith, own)
+length_with line (f ∷ fs) = by (compare line.name f.name) (length_with line fs)
+  where
+    own : length (ended_line line) ≡ length line.text + 1
+    own = length-append line.text (10 ∷ [])
+
+    by : (o : Ordering) → folder_length (with_line_in line fs) ≡ folder_length fs + lines_length (line ∷ []) → folder_length (line_at o line f fs (with_line_in line fs)) ≡ folder_length (f ∷ fs) + lines_length (line ∷ [])
+    by Less again = omega (arith, own)
+    by Equal again =
+        let all : length (f.text ++ ended_line line) ≡ length f.text + length (ended_line line) = length-append f.text (ended_line line) in
+        omega (arith, own, all)
+    by Greater again = omega (arith, again)
+
+pub lines_append : (a b : List FolderLine) → lines_length (a ++ b) ≡ lines_length a + lines_length b
+lines_append [] b = omega arith
+lines_append (line ∷ a) b = omega (arith, lines_append a b)
+
 pub no_lines : HasLines [] 0
 no_lines = record { ascending = tt; each = All-nil HoldsRules; number = refl; few = omega arith }
+
+pub no_files : AreFilesOf [] []
+no_files = record { in_order = tt; texts = λ name. refl; some = All-nil (λ (file : FolderFile). 0 < length file.text) }

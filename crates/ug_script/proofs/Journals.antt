@@ -29,6 +29,7 @@ use Rattle.ug_core.specs.Policy.{Judging}
 use Rattle.ug_core.specs.Answering.{acting, asking, deed_after}
 use Rattle.ug_core.specs.Durable.{IsKept}
 use Rattle.ug_core.specs.Event.{DaemonState, handling, has_numbers, ready, trying}
+use Rattle.ug_core.specs.Starting.{start_rules}
 use Rattle.ug_core.specs.Stops.{AllReadable}
 use Rattle.ug_core.specs.Storing.{stored_with, storing}
 use Rattle.ug_core.specs.Chain.{Happened, Chain, journal}
@@ -51,7 +52,8 @@ use Rattle.ug_simulation.proofs.Plays.{play_runs}
 use Rattle.ug_core.specs.Chain.{IsEvent, StaysOnDisk}
 use Rattle.ug_core.proofs.Kept.{stays_there}
 use Rattle.ug_core.proofs.Plain.{event_keeps_pending}
-use Rattle.ug_core.proofs.Readable.{all_permanent}
+use Rattle.ug_core.proofs.Numbering.{start_length}
+use Rattle.ug_core.proofs.Readable.{start_permanent}
 use Rattle.ug_core.proofs.Tried.{tries_save}
 use Rattle.ug_core.proofs.Verdicts.{steps_later}
 use Rattle.ug_core.proofs.SoFar.{journal_append}
@@ -61,8 +63,9 @@ use Rattle.ug_script.specs.declared.step.Plan.{Plan}
 use Rattle.ug_script.specs.declared.step.Plan.TheVariants as plan
 use Rattle.ug_script.specs.declared.step.Step.{Step}
 use Rattle.ug_script.specs.declared.step.Step.TheVariants.{Skip, Setup, Move, Schedule, Event, Restart}
-use Rattle.ug_script.specs.Grammar.{step_of_line}
-use Rattle.ug_script.specs.Setup.{Beside, SetupState, no_setup, one_line_more, beside_of, after_reading, policy_of, rules_disk, setup_rule, rules_from, rules_if_read, first_started, started_at, steps_of, with_rules}
+use Rattle.ug_script.specs.FolderLines.{rules_in_folder}
+use Rattle.ug_script.specs.Grammar.{AsksForRules, step_of_line}
+use Rattle.ug_script.specs.Setup.{Beside, SetupState, no_setup, one_line_more, beside_of, after_reading, folder_of, policy_of, rules_disk, setup_rule, setup_rules, rules_from, rules_if_read, first_started, started_at, steps_of, with_rules}
 use Rattle.ug_script.specs.Script.{Script, Phase, fresh, takes_setup, has_started, closed_phase, with_setup_closed, daemon_by, daemon_in, disk_by, disk_in, can_start}
 use Rattle.ug_script.specs.Replay.{header, outcome_of, outcome_text, quiet, bad, line_added, with_plan, with_played, with_restart, planned, Played, order_played_by, answered_from, answered_of, begun_again, came_of, disk_of, event_from, event_of, finished, halted, in_script, left_played, restarted, stopped_of, stopped_text, taken, taken_if, tried_by, script_step}
 use Rattle.ug_script.specs.Laws.{calls_of, faults_of, StaysLawful}
@@ -74,7 +77,9 @@ use Rattle.ug_script.proofs.Halts.{halted_moves}
 use Rattle.ug_script.proofs.Lawful.{Holds, HoldsOf, answered_holds, answers, made_by, swept_tells, halted_holds, handled, event_disk, event_holds, event_nobody, event_saved, move_holds, order_runs, plan_holds, no_standing, start_of, swept_from}
 use Rattle.ug_script.proofs.Stopped.{lawful_event}
 use Rattle.ug_script.proofs.Numbers.{Fits, FitsOf, fits_more, event_fits, started_fits, fits_numbers}
-use Rattle.ug_script.proofs.Setups.{IsGiven, InSetup, given_first, given_still, given_added, given_setup, policy_new}
+use Rattle.ug_script.proofs.Readable.{line_asks}
+use Rattle.ug_script.proofs.Starts.{from_file}
+use Rattle.ug_script.proofs.Setups.{IsGiven, InSetup, few_all, given_first, given_still, given_added, given_setup, own_rules, policy_new}
 
 quiet_front : (steps : List (Option Step)) (step : Option Step) → AreQuiet (steps ++ step ∷ []) → AreQuiet steps × (is_quiet step ≡ true)
 quiet_front [] step q = (tt, q.0)
@@ -90,7 +95,7 @@ record Kept (first : World) (n : ℕ) (done : List (Option Step)) (runs : Events
   kept : (disk_in s).ran_out ≡ false
   possible : IsImage (disk_in s).disk.left (disk_in s).disk.text
   start : RunStart
-  few_rules : length start.rules ≤ 65536
+  few_rules : length (folder_of (policy_of s.setup)) + length start.rules ≤ 65536
   file : Disk
   at_start : HoldsAtStart start file
   ended : AreSuccessive (beside_of s.setup) (policy_of s.setup) (first_start s.setup.rules first.kernel) runs.ended start
@@ -123,6 +128,14 @@ first_holds setup k = record { text = refl; left = λ text h. inl (only_image h)
 
 -- ---- a line of setup: another policy, before any event
 
+-- its rules, those of the folder among them
+all_few : (n : ℕ) (done : List (Option Step)) (s : SetupState) → IsGiven n done s → length (setup_rules s) ≤ 65536
+all_few n done s given =
+    let long : length (setup_rules s) ≡ length (rules_in_folder s.folder.files) + length s.rules = start_length (rules_in_folder s.folder.files) s.rules in
+    let same : length (rules_in_folder s.folder.files) ≡ s.folder.count = given.held.number in
+    let few : s.folder.count + length s.rules ≤ 65536 = given.listed in
+    omega (arith, long, same, few)
+
 setup_kept : (first : World) (n : ℕ) (done : List (Option Step)) (runs : EventsOfRuns) (text : List ℕ) (s : Script) (w : World) (step : Option Step) (setup : SetupState) → n < 1048576 → takes_setup s.phase ≡ true → Kept first n done runs text s w → IsGiven (n + 1) (done ++ step ∷ []) setup → Kept first (n + 1) (done ++ step ∷ []) runs text (record s { setup = setup }) w
 setup_kept first n done runs text s w step setup lt opened h given =
     let o = open_unstarted s.phase opened in
@@ -142,16 +155,17 @@ setup_kept first n done runs text s w step setup lt opened h given =
       fits = λ e.
           let low : w.faults ≤ 2199023255552 * n = (h.fits e).few_faults in
           let more : w.faults ≤ 2199023255552 * (n + 1) = omega (arith, low) in
-          subst (λ (d : DaemonState). FitsOf (n + 1) d w (disk_by setup s.phase)) (sym new) (subst (λ (x : DiskWorld). FitsOf (n + 1) (first_started setup) w x) (sym on) (started_fits (n + 1) 1 setup.rules w.faults 0 (omega arith) given.listed more (omega arith)));
+          subst (λ (d : DaemonState). FitsOf (n + 1) d w (disk_by setup s.phase)) (sym new) (subst (λ (x : DiskWorld). FitsOf (n + 1) (first_started setup) w x) (sym on) (started_fits (n + 1) 1 (setup_rules setup) w.faults 0 (omega arith) (all_few (n + 1) (done ++ step ∷ []) setup given) more (omega arith)));
       given = given;
       kept = ap (λ (x : DiskWorld). x.ran_out) on;
       possible = subst (λ (x : DiskWorld). IsImage x.disk.left x.disk.text) (sym on) (inl refl);
       start = b;
-      few_rules = given.listed;
+      few_rules = few_all (n + 1) (done ++ step ∷ []) setup setup.rules given given.listed;
       file = (rules_disk setup).disk;
       at_start = first_holds setup first.kernel;
       ended = subst (λ (x : EventsOfRuns). AreSuccessive (beside_of setup) (policy_of setup) b x.ended b) (sym none) refl;
-      chain = subst (λ (x : EventsOfRuns). Chain first.kernel file (first_started setup) x.last w.kernel (disk_told (disk_by setup s.phase)) (daemon_by setup s.phase)) (sym none) (moves, stays, new);
+      chain = subst (λ (p : Judging). Chain first.kernel file (started_at 1 (beside_of setup) p) runs.last w.kernel (disk_told (disk_by setup s.phase)) (daemon_by setup s.phase)) (sym (own_rules setup))
+      (subst (λ (x : EventsOfRuns). Chain first.kernel file (first_started setup) x.last w.kernel (disk_told (disk_by setup s.phase)) (daemon_by setup s.phase)) (sym none) (moves, stays, new));
       none = h.none;
       written = h.written;
       nobody = λ q. h.nobody (quiet_front done step q).0;
@@ -159,7 +173,7 @@ setup_kept first n done runs text s w step setup lt opened h given =
       unmoved = λ q. h.unmoved (quiet_front done step q).0;
       unplanned = λ q. h.unplanned (quiet_front done step q).0;
       saved = λ q. ap (λ (d : DaemonState). d.pending) new;
-      stands = λ f r. in_force_stands runs.last (daemon_by setup s.phase) (disk_by setup s.phase).disk.text setup.rules (subst (λ (c : List ℕ). IsRuleFile setup.rules c) (sym (ap (λ (x : DiskWorld). x.disk.text) on)) f) (sym (ap (λ (d : DaemonState). permanent_rules d.sweep.judge.rules) new ∙ all_permanent 1 setup.rules));
+      stands = λ f r. in_force_stands runs.last (daemon_by setup s.phase) (disk_by setup s.phase).disk.text setup.rules (subst (λ (c : List ℕ). IsRuleFile setup.rules c) (sym (ap (λ (x : DiskWorld). x.disk.text) on)) f) (sym (ap (λ (d : DaemonState). permanent_rules d.sweep.judge.rules) new ∙ start_permanent 1 (rules_in_folder setup.folder.files) setup.rules));
     }
 
 added_kept : (first : World) (n : ℕ) (done : List (Option Step)) (runs : EventsOfRuns) (text : List ℕ) (s : Script) (w : World) (step : Option Step) (o : Option SetupState) → n < 1048576 → takes_setup s.phase ≡ true → Kept first n done runs text s w → InSetup (IsGiven (n + 1) (done ++ step ∷ [])) o → KeptAfter first (n + 1) (done ++ step ∷ []) runs text (line_added o s w)
@@ -209,7 +223,7 @@ closed_now : {X : Type 0} → false ≡ true → X
 closed_now e = let none : ⊥ = cc in absurd none
 
 skip_kept : (first : World) (n : ℕ) (done : List (Option Step)) (runs : EventsOfRuns) (text : List ℕ) (s : Script) (w : World) → n < 1048576 → Kept first n done runs text s w → Kept first (n + 1) (done ++ Some Skip ∷ []) runs text s w
-skip_kept first n done runs text s w lt h = on_kept first n done runs text s w w (Some Skip) s.phase s.planned lt h refl refl refl (given_still n done (Some Skip) s.setup refl refl refl refl refl h.given) h.holds (unmoving w.kernel) refl (λ q. h.unfailing (quiet_front done (Some Skip) q).0) (λ q. h.unmoved (quiet_front done (Some Skip) q).0) (λ q. h.unplanned (quiet_front done (Some Skip) q).0)
+skip_kept first n done runs text s w lt h = on_kept first n done runs text s w w (Some Skip) s.phase s.planned lt h refl refl refl (given_still n done (Some Skip) s.setup refl refl refl refl refl refl h.given) h.holds (unmoving w.kernel) refl (λ q. h.unfailing (quiet_front done (Some Skip) q).0) (λ q. h.unmoved (quiet_front done (Some Skip) q).0) (λ q. h.unplanned (quiet_front done (Some Skip) q).0)
 
 -- ---- an event
 
@@ -288,7 +302,7 @@ event_kept first n done runs text event s w lt h =
       holds = event_holds event d w o h.holds;
       on_entries = λ g. event_on_entries event d w o h.holds (h.on_entries g);
       fits = λ e. event_fits n event d w o lt h.holds h.kept (h.fits e);
-      given = given_still n done step s.setup refl refl refl refl refl h.given;
+      given = given_still n done step s.setup refl refl refl refl refl refl h.given;
       kept = event_disk event d w o h.kept;
       possible = event_possible event d w o h.kept h.possible;
       start = h.start;
@@ -314,7 +328,7 @@ event_kept first n done runs text event s w lt h =
 -- ---- a restart
 
 -- a run, from its start to where it came
-daemon_run : (beside : Beside) (policy : Judging) (b : RunStart) (file : Disk) (hs : List Happened) (k : Kernel) (p : Option Disk) (e : DaemonState) → length b.rules ≤ 65536 → HoldsAtStart b file → Chain b.kernel (Some file) (started_at b.number beside (with_rules b.rules policy)) hs k p e → IsDaemonRun beside policy b hs k p e
+daemon_run : (beside : Beside) (policy : Judging) (b : RunStart) (file : Disk) (hs : List Happened) (k : Kernel) (p : Option Disk) (e : DaemonState) → length (folder_of policy) + length b.rules ≤ 65536 → HoldsAtStart b file → Chain b.kernel (Some file) (started_at b.number beside (with_rules b.rules policy)) hs k p e → IsDaemonRun beside policy b hs k p e
 daemon_run beside policy b file hs k p e few holds chain = record {
   few = few;
   file = file;
@@ -348,34 +362,12 @@ run_ended beside policy first (one ∷ runs) b run r h = (h.0, run_ended beside 
 told_now : (o : DiskWorld) → o.ran_out ≡ false → disk_told o ≡ Some o.disk
 told_now o none = rw none refl
 
--- the rules are no more than a daemon takes, and a rule file has room for them
-abbrev AreTaken : List Rule → Type 0
-AreTaken rules = (length rules ≤ 65536) × (length (rules_text_of rules) ≤ rules_limit)
-
--- a text that a daemon starts with is a rule file
-from_text : (text : List ℕ) (rules : List Rule) → rules_from text ≡ Ok rules → IsRuleFile rules text
-from_text text rules h = by_length (nat_le (length text) file_limit) refl h
-  where
-    taken_from : (others : List Rule) (few fits : Bool) → nat_le (length others) 65536 ≡ few → nat_le (length (rules_text_of others)) rules_limit ≡ fits → cond (few && fits) (Ok others) (Err InputTooLong) ≡ Ok rules → (others ≡ rules) × AreTaken rules
-    taken_from others true true e f k =
-        let same : others ≡ rules = cc in
-        let few : length others ≤ 65536 = leb-true (length others) 65536 e in
-        let short : length (rules_text_of others) ≤ rules_limit = leb-true (length (rules_text_of others)) rules_limit f in
-        (same, (subst (λ (rs : List Rule). length rs ≤ 65536) same few, subst (λ (rs : List Rule). length (rules_text_of rs) ≤ rules_limit) same short))
-    taken_from others true false e f k = let none : ⊥ = cc in absurd none
-    taken_from others false fits e f k = let none : ⊥ = cc in absurd none
-
-    by_read : (r : Result (List Rule) TextFault) → file_read text ≡ r → rules_if_read r ≡ Ok rules → (file_read text ≡ Ok rules) × AreTaken rules
-    by_read (Ok others) is k =
-        let x = taken_from others (nat_le (length others) 65536) (nat_le (length (rules_text_of others)) rules_limit) refl refl k in
-        (is ∙ ap (λ (rs : List Rule). Ok rs) x.0, x.1)
-    by_read (Err bad) is k = let none : ⊥ = cc in absurd none
-
-    by_length : (b : Bool) → nat_le (length text) file_limit ≡ b → cond b (rules_if_read (file_read text)) (Err InputTooLong) ≡ Ok rules → IsRuleFile rules text
-    by_length true e k =
-        let x = by_read (file_read text) refl k in
-        record { reads = x.0; within = leb-true (length text) file_limit e; fits = x.1.1; few = x.1.0 }
-    by_length false e k = let none : ⊥ = cc in absurd none
+-- the rules of a restart in the policy of a setup
+restart_few : (n : ℕ) (done : List (Option Step)) (s : SetupState) (rules : List Rule) → IsGiven n done s → s.folder.count + length rules ≤ 65536 → length (start_rules (folder_of (policy_of s)) rules) ≤ 65536
+restart_few n done s rules given few =
+    let all : length (folder_of (policy_of s)) + length rules ≤ 65536 = few_all n done s rules given few in
+    let long : length (start_rules (folder_of (policy_of s)) rules) ≡ length (folder_of (policy_of s)) + length rules = start_length (folder_of (policy_of s)) rules in
+    omega (arith, all, long)
 
 told_reading : (o : DiskWorld) → o.ran_out ≡ false → disk_told (after_reading o) ≡ Some (after_reading o).disk
 told_reading o none = rw none refl
@@ -394,7 +386,7 @@ text_ended stop runs = append-nil (runs_text (runs.ended ++ record { events = ru
 journal_ended : (stop : Option ℕ) (runs : EventsOfRuns) → journal_of (with_end stop runs) ≡ journal_of runs
 journal_ended stop runs = append-nil (journals (runs.ended ++ record { events = runs.last; stop = stop } ∷ [])) ∙ journals_append runs.ended (record { events = runs.last; stop = stop })
 
-restart_kept : (first : World) (n : ℕ) (done : List (Option Step)) (runs : EventsOfRuns) (text : List ℕ) (s : Script) (w : World) (rules : List Rule) → n < 1048576 → rules_from (disk_in s).disk.text ≡ Ok rules → Kept first n done runs text s w
+restart_kept : (first : World) (n : ℕ) (done : List (Option Step)) (runs : EventsOfRuns) (text : List ℕ) (s : Script) (w : World) (rules : List Rule) → n < 1048576 → rules_from s.setup.folder.count (disk_in s).disk.text ≡ Ok rules → Kept first n done runs text s w
     → Kept first (n + 1) (done ++ Some Restart ∷ []) (with_end None runs) (text ++ []) (with_restart rules s) w
 restart_kept first n done runs text s w rules lt loaded h =
     let step : Option Step = Some Restart in
@@ -402,7 +394,8 @@ restart_kept first n done runs text s w rules lt loaded h =
     let o : DiskWorld = disk_in s in
     let beside : Beside = beside_of s.setup in
     let policy : Judging = policy_of s.setup in
-    let read = from_text o.disk.text rules loaded in
+    let taken = from_file s.setup.folder.count o.disk.text rules loaded in
+    let read = taken.0 in
     let chain : Chain h.start.kernel (Some h.file) (started_at h.start.number beside (with_rules h.start.rules policy)) runs.last w.kernel (Some o.disk) d = subst (λ (x : Option Disk). Chain h.start.kernel (Some h.file) (started_at h.start.number beside (with_rules h.start.rules policy)) runs.last w.kernel x d) (told_now o h.kept) h.chain in
     let run : IsDaemonRun beside policy h.start runs.last w.kernel (Some o.disk) d = daemon_run beside policy h.start h.file runs.last w.kernel (Some o.disk) d h.few_rules h.at_start chain in
     let b : RunStart = record { rules = rules; text = o.disk.text; unsure = left_behind h.start runs.last d; number = d.event; kernel = w.kernel } in
@@ -415,7 +408,7 @@ restart_kept first n done runs text s w rules lt loaded h =
       behind = record { file = o.disk; told = refl; text = refl; stands = read; rules = λ f r. stands_so runs.last d o.disk.text rules read.reads (h.stands f r); kept = left_images beside policy h.start runs.last w.kernel o.disk d run o.disk.text h.possible; unsure = refl; number = refl; kernel = refl };
     } in
     let file : Disk = (after_reading o).disk in
-    let given : IsGiven (n + 1) (done ++ step ∷ []) s.setup = given_still n done step s.setup refl refl refl refl refl h.given in
+    let given : IsGiven (n + 1) (done ++ step ∷ []) s.setup = given_still n done step s.setup refl refl refl refl refl refl h.given in
     let same : journal_of (with_end None runs) ≡ journal_of runs = journal_ended None runs in
     record {
       few = omega (arith, lt);
@@ -425,12 +418,12 @@ restart_kept first n done runs text s w rules lt loaded h =
           let low : w.faults ≤ 2199023255552 * n = (h.fits e).few_faults in
           let low_disk : o.faults ≤ 2 * n = (h.fits e).few_disk_faults in
           let events : d.event ≤ n + 1 = (h.fits e).few_events in
-          started_fits (n + 1) d.event rules w.faults o.faults (omega (arith, events)) read.few (omega (arith, low)) (omega (arith, low_disk));
+          started_fits (n + 1) d.event (start_rules (folder_of policy) rules) w.faults o.faults (omega (arith, events)) (restart_few n done s.setup rules h.given taken.1) (omega (arith, low)) (omega (arith, low_disk));
       given = given;
       kept = h.kept;
       possible = h.possible;
       start = b;
-      few_rules = read.few;
+      few_rules = few_all n done s.setup rules h.given taken.1;
       file = file;
       at_start = record { text = refl; left = λ text is. inr (left_images beside policy h.start runs.last w.kernel o.disk d run text is) };
       ended = run_ended beside policy (first_start s.setup.rules first.kernel) runs.ended h.start (record { events = runs.last; stop = None }) this h.ended;
@@ -442,7 +435,7 @@ restart_kept first n done runs text s w rules lt loaded h =
       unmoved = λ q. h.unmoved (quiet_front done step q).0;
       unplanned = λ q. h.unplanned (quiet_front done step q).0;
       saved = λ q. refl;
-      stands = λ f r. in_force_stands [] (started_at d.event beside (with_rules rules policy)) o.disk.text rules f (sym (all_permanent 1 rules));
+      stands = λ f r. in_force_stands [] (started_at d.event beside (with_rules rules policy)) o.disk.text rules f (sym (start_permanent 1 (folder_of policy) rules));
     }
 
 -- ---- a stop
@@ -459,7 +452,7 @@ stop_more call runs h =
     ∙ ap (λ (l : List ℕ). runs_text runs.ended ++ l) (stop_append call runs.last h)
     ∙ sym (append_assoc (runs_text runs.ended) (events_text runs.last) (stopped_text call h.after.sweep.entries))
 
-stop_kept : (first : World) (n : ℕ) (done : List (Option Step)) (runs : EventsOfRuns) (text : List ℕ) (event : events.Event) (s : Script) (w : World) (call : ℕ) (rules : List Rule) → n < 1048576 → rules_from (event_of event s w).disk.disk.text ≡ Ok rules → Kept first n done runs text s w
+stop_kept : (first : World) (n : ℕ) (done : List (Option Step)) (runs : EventsOfRuns) (text : List ℕ) (event : events.Event) (s : Script) (w : World) (call : ℕ) (rules : List Rule) → n < 1048576 → rules_from s.setup.folder.count (event_of event s w).disk.disk.text ≡ Ok rules → Kept first n done runs text s w
     → Kept first (n + 1) (done ++ Some (Event event) ∷ []) (with_end (Some call) (with_events (happened_at event s w ∷ []) runs)) (text ++ stopped_text call (event_of event s w).daemon.sweep.entries) (with_played s (begun_again s.setup rules (event_of event s w))) (over (event_of event s w).world)
 stop_kept first n done runs text event s w call rules lt loaded h =
     let d : DaemonState = daemon_in s in
@@ -471,7 +464,8 @@ stop_kept first n done runs text event s w call rules lt loaded h =
     let beside : Beside = beside_of s.setup in
     let policy : Judging = policy_of s.setup in
     let k : Kernel = (over p.world).kernel in
-    let read = from_text p.disk.disk.text rules loaded in
+    let taken = from_file s.setup.folder.count p.disk.disk.text rules loaded in
+    let read = taken.0 in
     let told : p.disk.ran_out ≡ false = event_disk event d w o h.kept in
     let new : DaemonState = started_at h.start.number beside (with_rules h.start.rules policy) in
     let so_far : Chain h.start.kernel (Some h.file) new hs k (disk_told p.disk) p.daemon = chain_moves h.start.kernel (Some h.file) new hs p.world.kernel k (disk_told p.disk) (disk_told p.disk) p.daemon (event_chain first n done runs text event s w h) (happened_moves p.world.moves p.world.kernel) (stays_there (disk_told p.disk)) in
@@ -499,12 +493,12 @@ stop_kept first n done runs text event s w call rules lt loaded h =
           let low : p.world.faults ≤ 2199023255552 * (n + 1) = f.few_faults in
           let low_disk : p.disk.faults ≤ 2 * (n + 1) = f.few_disk_faults in
           let events : p.daemon.event ≤ (n + 1) + 1 = f.few_events in
-          started_fits (n + 1) p.daemon.event rules p.world.faults p.disk.faults events read.few low low_disk;
-      given = given_still n done step s.setup refl refl refl refl refl h.given;
+          started_fits (n + 1) p.daemon.event (start_rules (folder_of policy) rules) p.world.faults p.disk.faults events (restart_few n done s.setup rules h.given taken.1) low low_disk;
+      given = given_still n done step s.setup refl refl refl refl refl refl h.given;
       kept = told;
       possible = inl refl;
       start = b;
-      few_rules = read.few;
+      few_rules = few_all n done s.setup rules h.given taken.1;
       file = file;
       at_start = record { text = refl; left = λ text is. inl (only_image is) };
       ended = run_ended beside policy (first_start s.setup.rules first.kernel) runs.ended h.start (record { events = hs; stop = Some call }) ending h.ended;
@@ -518,11 +512,11 @@ stop_kept first n done runs text event s w call rules lt loaded h =
       unmoved = λ q e. refl;
       unplanned = λ q. refl;
       saved = λ q. refl;
-      stands = λ f r. in_force_stands [] (started_at p.daemon.event beside (with_rules rules policy)) p.disk.disk.text rules f (sym (all_permanent 1 rules));
+      stands = λ f r. in_force_stands [] (started_at p.daemon.event beside (with_rules rules policy)) p.disk.disk.text rules f (sym (start_permanent 1 (folder_of policy) rules));
     }
 
 -- an event, whether the machine stopped in it or not
-came_kept : (first : World) (n : ℕ) (done : List (Option Step)) (runs : EventsOfRuns) (text : List ℕ) (event : events.Event) (s : Script) (w : World) (stopped : Bool) (loaded : Result (List Rule) LineRefusal) → n < 1048576 → rules_from (event_of event s w).disk.disk.text ≡ loaded → Kept first n done runs text s w
+came_kept : (first : World) (n : ℕ) (done : List (Option Step)) (runs : EventsOfRuns) (text : List ℕ) (event : events.Event) (s : Script) (w : World) (stopped : Bool) (loaded : Result (List Rule) LineRefusal) → n < 1048576 → rules_from s.setup.folder.count (event_of event s w).disk.disk.text ≡ loaded → Kept first n done runs text s w
     → KeptAfter first (n + 1) (done ++ Some (Event event) ∷ []) (with_stop stopped (stop_of event s w) (with_events (happened_at event s w ∷ []) runs)) text (in_script s (cond stopped (stopped_of s.setup (stop_of event s w) (event_of event s w) loaded) (finished (event_of event s w))))
 came_kept first n done runs text event s w true (Ok rules) lt is h = stop_kept first n done runs text event s w (stop_of event s w) rules lt is h
 came_kept first n done runs text event s w true (Err fault) lt is h = tt
@@ -630,17 +624,17 @@ recorded first lines n text s w h =
 
 -- ---- a line
 
-step_kept : (first : World) (n : ℕ) (done : List (Option Step)) (runs : EventsOfRuns) (text : List ℕ) (step : Step) (s : Script) (w : World) → n < 1048576 → Kept first n done runs text s w → KeptAfter first (n + 1) (done ++ Some step ∷ []) (runs_by (Some step) s w runs) text (taken step s w)
-step_kept first n done runs text Skip s w lt h = kept_still first (n + 1) (done ++ Some Skip ∷ []) runs text s w (skip_kept first n done runs text s w lt h)
-step_kept first n done runs text (Setup line) s w lt h =
+step_kept : (first : World) (n : ℕ) (done : List (Option Step)) (runs : EventsOfRuns) (text : List ℕ) (step : Step) (s : Script) (w : World) → n < 1048576 → AsksForRules step → Kept first n done runs text s w → KeptAfter first (n + 1) (done ++ Some step ∷ []) (runs_by (Some step) s w runs) text (taken step s w)
+step_kept first n done runs text Skip s w lt asks h = kept_still first (n + 1) (done ++ Some Skip ∷ []) runs text s w (skip_kept first n done runs text s w lt h)
+step_kept first n done runs text (Setup line) s w lt asks h =
     let step : Option Step = Some (Setup line) in
-    kept_when first (n + 1) (done ++ step ∷ []) runs text (takes_setup s.phase) (line_added (one_line_more line s.setup) s w) s w (λ opened. added_kept first n done runs text s w step (one_line_more line s.setup) lt opened h (given_added n done line s.setup lt h.given))
-step_kept first n done runs text (Move action) s w lt h =
+    kept_when first (n + 1) (done ++ step ∷ []) runs text (takes_setup s.phase) (line_added (one_line_more line s.setup) s w) s w (λ opened. added_kept first n done runs text s w step (one_line_more line s.setup) lt opened h (given_added n done line s.setup lt asks h.given))
+step_kept first n done runs text (Move action) s w lt asks h =
     let step : Option Step = Some (Move action) in
     let v : World = carried action w in
     kept_still first (n + 1) (done ++ step ∷ []) runs text (with_setup_closed s) v
-    (on_kept first n done runs text s w v step (closed_phase s.phase) s.planned lt h (closed_daemon s.setup s.phase) (closed_disk s.setup s.phase) (closed_started s.phase) (given_still n done step s.setup refl refl refl refl refl h.given) (move_holds action (daemon_in s) w h.holds) (moved_moves action w.kernel) refl (λ q. h.unfailing (quiet_front done step q).0) (λ q. h.unmoved (quiet_front done step q).0) (λ q. h.unplanned (quiet_front done step q).0))
-step_kept first n done runs text (Schedule p) s w lt h = plan_kept p
+    (on_kept first n done runs text s w v step (closed_phase s.phase) s.planned lt h (closed_daemon s.setup s.phase) (closed_disk s.setup s.phase) (closed_started s.phase) (given_still n done step s.setup refl refl refl refl refl refl h.given) (move_holds action (daemon_in s) w h.holds) (moved_moves action w.kernel) refl (λ q. h.unfailing (quiet_front done step q).0) (λ q. h.unmoved (quiet_front done step q).0) (λ q. h.unplanned (quiet_front done step q).0))
+step_kept first n done runs text (Schedule p) s w lt asks h = plan_kept p
   where
     step : Option Step
     step = Some (Schedule p)
@@ -649,21 +643,21 @@ step_kept first n done runs text (Schedule p) s w lt h = plan_kept p
     loud q = closed_now (quiet_front done (Some (Schedule p)) q).1
 
     by : (plan : List Planned) (v : World) → HoldsOf (daemon_in s) v → Moves w.kernel v.kernel → v.faults ≡ w.faults → Kept first (n + 1) (done ++ Some (Schedule p) ∷ []) runs text (record (with_setup_closed s) { planned = plan }) v
-    by plan v holds moves faults = on_kept first n done runs text s w v (Some (Schedule p)) (closed_phase s.phase) plan lt h (closed_daemon s.setup s.phase) (closed_disk s.setup s.phase) (closed_started s.phase) (given_still n done (Some (Schedule p)) s.setup refl refl refl refl refl h.given) holds moves faults (λ q. loud q) (λ q. loud q) (λ q. loud q)
+    by plan v holds moves faults = on_kept first n done runs text s w v (Some (Schedule p)) (closed_phase s.phase) plan lt h (closed_daemon s.setup s.phase) (closed_disk s.setup s.phase) (closed_started s.phase) (given_still n done (Some (Schedule p)) s.setup refl refl refl refl refl refl h.given) holds moves faults (λ q. loud q) (λ q. loud q) (λ q. loud q)
 
     plan_kept : (x : Plan) → Kept first (n + 1) (done ++ Some (Schedule p) ∷ []) runs (text ++ []) (with_plan x (with_setup_closed s)) (planned x w)
     plan_kept (plan.Move m) = kept_still first (n + 1) (done ++ Some (Schedule p) ∷ []) runs text (with_setup_closed s) (planned (plan.Move m) w) (by s.planned (planned (plan.Move m) w) (plan_holds (plan.Move m) (daemon_in s) w h.holds) (unmoving w.kernel) refl)
     plan_kept (plan.Fail f) = kept_still first (n + 1) (done ++ Some (Schedule p) ∷ []) runs text (with_setup_closed s) (planned (plan.Fail f) w) (by s.planned (planned (plan.Fail f) w) (plan_holds (plan.Fail f) (daemon_in s) w h.holds) (unmoving w.kernel) refl)
     plan_kept (plan.OnDisk f) = kept_still first (n + 1) (done ++ Some (Schedule p) ∷ []) runs text (with_plan (plan.OnDisk f) (with_setup_closed s)) w (by (s.planned ++ f ∷ []) w h.holds (unmoving w.kernel) refl)
-step_kept first n done runs text (Event event) s w lt h =
+step_kept first n done runs text (Event event) s w lt asks h =
     let p = event_of event s w in
     event_if first (n + 1) (done ++ Some (Event event) ∷ []) runs text event s w p.disk.stopped (came_of s.setup s.planned p) (can_start s.setup s.phase) (has_numbers (daemon_in s) w.faults (disk_in s).faults)
-    (came_kept first n done runs text event s w p.disk.stopped (rules_from p.disk.disk.text) lt refl h)
-step_kept first n done runs text Restart s w lt h = restart_if first (n + 1) (done ++ Some Restart ∷ []) (with_end None runs) text s w (can_start s.setup s.phase) (rules_from (disk_in s).disk.text) (λ rules loaded. restart_kept first n done runs text s w rules lt loaded h)
+    (came_kept first n done runs text event s w p.disk.stopped (rules_from s.setup.folder.count p.disk.disk.text) lt refl h)
+step_kept first n done runs text Restart s w lt asks h = restart_if first (n + 1) (done ++ Some Restart ∷ []) (with_end None runs) text s w (can_start s.setup s.phase) (rules_from s.setup.folder.count (disk_in s).disk.text) (λ rules loaded. restart_kept first n done runs text s w rules lt loaded h)
 
-line_kept : (first : World) (n : ℕ) (done : List (Option Step)) (runs : EventsOfRuns) (text : List ℕ) (step : Option Step) (s : Script) (w : World) → n < 1048576 → Kept first n done runs text s w → KeptAfter first (n + 1) (done ++ step ∷ []) (runs_by step s w runs) text (taken_if step s w)
-line_kept first n done runs text None s w lt h = tt
-line_kept first n done runs text (Some step) s w lt h = step_kept first n done runs text step s w lt h
+line_kept : (first : World) (n : ℕ) (done : List (Option Step)) (runs : EventsOfRuns) (text : List ℕ) (step : Option Step) (s : Script) (w : World) → n < 1048576 → ((asked : Step) → step ≡ Some asked → AsksForRules asked) → Kept first n done runs text s w → KeptAfter first (n + 1) (done ++ step ∷ []) (runs_by step s w runs) text (taken_if step s w)
+line_kept first n done runs text None s w lt asks h = tt
+line_kept first n done runs text (Some step) s w lt asks h = step_kept first n done runs text step s w lt (asks step refl) h
 
 kept_fresh : (first : World) → Holds [] 1 first → Kept first 1 [] no_events [] fresh first
 kept_fresh first h = record {
@@ -675,7 +669,7 @@ kept_fresh first h = record {
   kept = refl;
   possible = inl refl;
   start = first_start [] first.kernel;
-  few_rules = omega arith;
+  few_rules = few_all 1 [] no_setup [] given_first (omega arith);
   file = (rules_disk no_setup).disk;
   at_start = first_holds no_setup first.kernel;
   ended = refl;
@@ -727,7 +721,7 @@ lines_kept first [] done runs n text s w m out t v h e =
     subst (λ (x : List (Option Step)). Kept first m x runs out t v) (sym (append-nil done)) (subst (λ (x : Stage (Option Script × World)). KeptAt first done runs x) e h)
 lines_kept first (line ∷ lines) done runs n text s w m out t v h e =
     let step : Option Step = step_of_line line in
-    rest_kept first done n text (Some s, w) step (runs_by step s w runs) lines m out t v (λ more r u k f. lines_kept first lines (done ++ step ∷ []) (runs_by step s w runs) (n + 1) more r u m out t v k f) (is_within n line) (script_step (Some s, w) line) (λ b. line_kept first n done runs text step s w (within n line b) h) e
+    rest_kept first done n text (Some s, w) step (runs_by step s w runs) lines m out t v (λ more r u k f. lines_kept first lines (done ++ step ∷ []) (runs_by step s w runs) (n + 1) more r u m out t v k f) (is_within n line) (script_step (Some s, w) line) (λ b. line_kept first n done runs text step s w (within n line b) (line_asks line) h) e
 
 -- the header, and the lines behind it
 header_kept : (first : World) (lines : List (List ℕ)) (m : ℕ) (out : List ℕ) (t : Script) (v : World) (b c : Bool) → Holds [] 1 first → plays script_step (cond b (stage_after 0 [] (cond c (quiet fresh first) (Refused BadLine (None, first)))) (Halted BadLine 0 [] (None, first))) lines ≡ Going m out (Some t, v)

@@ -22,6 +22,7 @@ pub mod FileTexts
 pub mod Journals
 pub mod Carrying
 pub mod Filed
+pub mod FolderKept
 mod FirstStop
 mod WholeLines
 mod Counted
@@ -32,6 +33,7 @@ pub mod HexWords
 pub mod Zones
 pub mod FileWords
 pub mod IfaceLines
+pub mod FolderReads
 pub mod LineReads
 pub mod Turns
 pub mod Schedules

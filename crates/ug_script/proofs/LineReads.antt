@@ -38,7 +38,7 @@ use Rattle.ug_script.specs.declared.step.SetupLine.{SetupLine}
 use Rattle.ug_script.specs.declared.step.SetupLine.TheVariants as setup
 use Rattle.ug_script.specs.declared.step.Step.{Step}
 use Rattle.ug_script.specs.declared.step.Step.TheVariants as step
-use Rattle.ug_script.specs.Grammar.{disk_fail_of, failing_at, failing_of, fails_on_disk, grant_of, granting, in_access, in_rule, is_effect, is_fail, left_by, mishap_of, move_behind, move_by, move_of, order_at, order_of, scheduled_at, scheduled_of, step_behind, step_by, step_of_line, stop_of, stopping_at}
+use Rattle.ug_script.specs.Grammar.{disk_fail_of, failing_at, failing_of, fails_on_disk, folder_line_of, grant_of, granting, in_access, in_rule, is_effect, is_fail, left_by, mishap_of, move_behind, move_by, move_of, order_at, order_of, scheduled_at, scheduled_of, step_behind, step_by, step_of_line, stop_of, stopping_at}
 use Rattle.ug_script.specs.IfaceLines.{iface_name_of, new_iface_of}
 use Rattle.ug_script.specs.LineGrammar.{AsksFor, IsCall, IsDiskFail, IsEventLine, IsMoment, IsMoveLine, IsOrderLine, IsPassedOver, IsPlanLine, IsPlug, IsScheduled, IsSetupLine, IsShortName, IsStopLine, effect_words, left_words, mishap_words, start_word, when_word}
 use Rattle.ug_script.specs.LineWords.{line_word_of}
@@ -46,6 +46,7 @@ use Rattle.ug_script.specs.Plugs.{device_of, device_with, files_of, start_of, wi
 use Rattle.ug_script.specs.Words.{bytes_of, call_in, call_of, cut_by_space, is_entry, is_one_line, moment_word, name_of, offset_of, seed_of}
 use Rattle.ug_script.proofs.AccessLines.{access_text, graphic_apart, principal_so, so_principal}
 use Rattle.ug_script.proofs.FileWords.{files_so, so_files}
+use Rattle.ug_script.proofs.FolderReads.{folder_so, so_folder}
 use Rattle.ug_script.proofs.HexWords.{bytes_so, hex_apart, seed_so, so_bytes, so_seed}
 use Rattle.ug_script.proofs.IfaceLines.{iface_so, so_iface, so_uniface, uniface_so}
 use Rattle.ug_script.proofs.LineCuts.{Space, bound, cut_alone, cut_found, cut_so, mapped, so_cut, space}
@@ -168,6 +169,7 @@ moves_so word.Stop text action h = absurd (none-some action h)
 moves_so word.Sweep text action h = absurd (none-some action h)
 moves_so word.Order text action h = absurd (none-some action h)
 moves_so word.Rule text action h = absurd (none-some action h)
+moves_so word.Folder text action h = absurd (none-some action h)
 moves_so word.Conf text action h = absurd (none-some action h)
 moves_so word.Access text action h = absurd (none-some action h)
 moves_so word.Seed text action h = absurd (none-some action h)
@@ -420,6 +422,10 @@ behind_so word.Sweep text asked h =
     subst (AsksFor (codes "sweep " ++ text)) m.2 (ap (λ (t : List ℕ). codes "sweep " ++ t) n.0, n.1)
 behind_so word.Order text asked h = let m = mapped step.Event (order_of text) asked h in subst (AsksFor (codes "order " ++ text)) m.2 (order_so text m.0 m.1)
 behind_so word.Rule text asked h = let m = mapped step.Setup (in_rule (rule_read text)) asked h in subst (AsksFor (codes "rule " ++ text)) m.2 (rule_so text m.0 m.1)
+behind_so word.Folder text asked h =
+    let m = mapped step.Setup (folder_line_of text) asked h in
+    let f = folder_so text m.0 m.1 in
+    subst (AsksFor (codes "folder " ++ text)) (ap step.Setup (sym f.1) ∙ m.2) (text, refl, f.2)
 behind_so word.Conf text asked h = subst (AsksFor (codes "conf " ++ text)) (same_Some (step.Setup (setup.Conf text)) asked h) refl
 behind_so word.Access text asked h = let m = mapped step.Setup (grant_of text) asked h in subst (AsksFor (codes "access " ++ text)) m.2 (access_so text m.0 m.1)
 behind_so word.Seed text asked h =
@@ -486,6 +492,7 @@ reads_on word.Stop text = reads_further 115 (codes "top " ++ text) refl refl
 reads_on word.Sweep text = reads_further 115 (codes "weep " ++ text) refl refl
 reads_on word.Order text = reads_further 111 (codes "rder " ++ text) refl refl
 reads_on word.Rule text = reads_further 114 (codes "ule " ++ text) refl refl
+reads_on word.Folder text = reads_further 102 (codes "older " ++ text) refl refl
 reads_on word.Conf text = reads_further 99 (codes "onf " ++ text) refl refl
 reads_on word.Access text = reads_further 97 (codes "ccess " ++ text) refl refl
 reads_on word.Seed text = reads_further 115 (codes "eed " ++ text) refl refl
@@ -521,6 +528,7 @@ so_event line (Order moment who request) o = let d = so_order line moment who re
 so_setup : (line : List ℕ) (asked : SetupLine) → IsSetupLine line asked → step_of_line line ≡ Some (step.Setup asked)
 unfolding step_behind
 so_setup line (setup.Rule rule) (text, is, says) = line_reads word.Rule line text _ is (ap (λ (r : Result types.Rule Fault). option_map step.Setup (in_rule r)) (says_line text rule says))
+so_setup line (setup.Folder f) (text, is, it) = line_reads word.Folder line text _ is (ap (option_map step.Setup) (so_folder text f it))
 so_setup line (setup.Conf text) is = line_reads word.Conf line text _ is refl
 so_setup line (setup.Access a) (text, is, gives) = line_reads word.Access line text _ is (ap (option_map step.Setup) ((access_text text a).1 gives))
 so_setup line (setup.Seed seed) (digits, is, hex, long) = line_reads word.Seed line digits _ is (ap (option_map (λ seed. step.Setup (setup.Seed seed))) (so_seed digits seed hex long))

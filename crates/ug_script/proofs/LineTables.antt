@@ -37,6 +37,7 @@ word_text word.Stop = codes "stop"
 word_text word.Sweep = codes "sweep"
 word_text word.Order = codes "order"
 word_text word.Rule = codes "rule"
+word_text word.Folder = codes "folder"
 word_text word.Conf = codes "conf"
 word_text word.Access = codes "access"
 word_text word.Seed = codes "seed"
@@ -44,7 +45,7 @@ word_text word.Zone = codes "zone"
 
 setup_word_written : (text : List ℕ) (it : LineWord) → setup_word_of text ≡ Some it → text ≡ word_text it
 unfolding setup_word_of
-setup_word_written text it h = named word_text text (codes "rule") word.Rule it _ refl (λ h. named word_text text (codes "conf") word.Conf it _ refl (λ h. named word_text text (codes "access") word.Access it _ refl (λ h. named word_text text (codes "seed") word.Seed it _ refl (λ h. named word_text text (codes "zone") word.Zone it _ refl (λ h. absurd (none-some it h)) h) h) h) h) h
+setup_word_written text it h = named word_text text (codes "rule") word.Rule it _ refl (λ h. named word_text text (codes "folder") word.Folder it _ refl (λ h. named word_text text (codes "conf") word.Conf it _ refl (λ h. named word_text text (codes "access") word.Access it _ refl (λ h. named word_text text (codes "seed") word.Seed it _ refl (λ h. named word_text text (codes "zone") word.Zone it _ refl (λ h. absurd (none-some it h)) h) h) h) h) h) h
 
 plan_word_written : (text : List ℕ) (it : LineWord) → plan_word_of text ≡ Some it → text ≡ word_text it
 unfolding plan_word_of
@@ -68,6 +69,7 @@ line_word_read word.Stop = refl
 line_word_read word.Sweep = refl
 line_word_read word.Order = refl
 line_word_read word.Rule = refl
+line_word_read word.Folder = refl
 line_word_read word.Conf = refl
 line_word_read word.Access = refl
 line_word_read word.Seed = refl
@@ -86,6 +88,7 @@ word_apart word.Stop = apart_by (codes "stop") refl
 word_apart word.Sweep = apart_by (codes "sweep") refl
 word_apart word.Order = apart_by (codes "order") refl
 word_apart word.Rule = apart_by (codes "rule") refl
+word_apart word.Folder = apart_by (codes "folder") refl
 word_apart word.Conf = apart_by (codes "conf") refl
 word_apart word.Access = apart_by (codes "access") refl
 word_apart word.Seed = apart_by (codes "seed") refl

@@ -22,11 +22,11 @@ use Rattle.ug_table.specs.Laws.{Stand, numbers_of}
 use Rattle.ug_table.specs.declared.standing.Standing.{Standing}
 use Rattle.ug_simulation.specs.Play.{play}
 use Rattle.ug_simulation.proofs.Plays.{play_runs}
+use Rattle.ug_core.specs.Starting.{Marked}
 use Rattle.ug_core.specs.Event as event
 use Rattle.ug_core.specs.Event.{DaemonState, has_numbers, is_low, ready}
 use Rattle.ug_core.specs.Policy.{Judging, policy_answer, policy_later}
 use Rattle.ug_script.proofs.Spent.{Spends, found, sweeping_spends}
-use Rattle.ug_types.specs.declared.rule.Rule.{Rule}
 use Rattle.ug_kernel.specs.Tree.{Prog}
 use Rattle.ug_store.specs.PlayDisk.{play_disk}
 use Rattle.ug_store.specs.Scripted.{DiskWorld}
@@ -229,7 +229,7 @@ event_fits n event d w o lt h out f =
     swept_fits n a.daemon (halted a.disk a.world) a.disk.faults lt (halted_holds a.daemon a.disk a.world (answered_holds event d w o h)) (omega (arith, same_event, old_event)) (omega (arith, same_next, old_next)) (omega (arith, more_ids, old_id)) (omega (arith, calls, start, middle, old_faults)) (omega (arith, tried, saved, old_disk))
 
 -- a daemon that has had no event, or isn't there yet
-pub started_fits : (n event : ℕ) (rules : List Rule) (faults disk_faults : ℕ) → event ≤ n + 1 → length rules ≤ 65536 → faults ≤ 2199023255552 * n → disk_faults ≤ 2 * n → Fits n event 1 (length rules + 1) faults disk_faults
+pub started_fits : (n event : ℕ) (rules : List Marked) (faults disk_faults : ℕ) → event ≤ n + 1 → length rules ≤ 65536 → faults ≤ 2199023255552 * n → disk_faults ≤ 2 * n → Fits n event 1 (length rules + 1) faults disk_faults
 started_fits n event rules faults disk_faults first few low few_disk = record { few_events = omega (arith, first); few_numbers = omega arith; few_ids = omega (arith, few); few_faults = omega (arith, low); few_disk_faults = omega (arith, few_disk) }
 
 -- the numbers leave room

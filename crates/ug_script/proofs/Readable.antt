@@ -10,6 +10,7 @@ use Rattle.ug_script.proofs.LineReads.{line_so}
 
 rule_asks : (line : List ℕ) (asked : SetupLine) → IsSetupLine line asked → AsksForRule asked
 rule_asks line (setup.Rule rule) (text, is, says) = record { line = text; says = says }
+rule_asks line (setup.Folder f) (text, is, it) = it.holds
 rule_asks line (setup.Conf text) h = tt
 rule_asks line (setup.Access a) h = tt
 rule_asks line (setup.Seed seed) h = tt

@@ -1,5 +1,5 @@
 -- A script ends with `input too long` exactly where its first start finds no room for the rules.
-use Rattle.std.proofs.Common.{◌≡◌, ℕ, ◌+◌, ◌≤◌, ◌<◌, arith, Bool, true, false, ◌||◌, cond, nat_lt, if◌then◌else◌, List, [], ◌∷◌, ◌++◌, flat_map, length, length-append, map, Option, Some, None, Result, Ok, Err, refl, sym, ap, subst, ◌∙◌, append-nil, append_assoc}
+use Rattle.std.proofs.Common.{◌≡◌, ◌⊎◌, inl, inr, ℕ, ◌+◌, ◌≤◌, ◌<◌, arith, Bool, true, false, ◌&&◌, ◌||◌, cond, if◌then◌else◌, List, [], ◌∷◌, ◌++◌, flat_map, length, length-append, map, Option, Some, None, Result, Ok, Err, refl, sym, ap, subst, ◌∙◌, append-nil, append_assoc}
 use Rattle.std.specs.Cmp.Lexicographic.{pointwise}
 use Rattle.std.specs.List.{list_any}
 use Rattle.std.specs.Prelude.{codes, decimal, nat_eq}
@@ -17,22 +17,26 @@ use Rattle.ug_command_io.specs.Refusals.{AtEnd, AtLine, RefusesLine, RefusesLine
 use Rattle.ug_command_io.specs.Statuses.{AnswersLines}
 use Rattle.ug_conf.specs.Draft.{Draft}
 use Rattle.ug_conf.specs.Faults.{SettingFault}
+use Rattle.ug_conf.specs.FolderFiles.{folder_length}
 use Rattle.ug_core.specs.Event.{has_numbers}
 use Rattle.ug_core.specs.declared.daemon.Event as events
 use Rattle.ug_script.specs.declared.step.Plan.{Plan}
 use Rattle.ug_script.specs.declared.step.Plan.TheVariants as plan
+use Rattle.ug_script.specs.declared.step.FolderLine.{FolderLine}
 use Rattle.ug_script.specs.declared.step.SetupLine.{SetupLine}
 use Rattle.ug_script.specs.declared.step.SetupLine.TheVariants as setup
 use Rattle.ug_script.specs.declared.step.Step.{Step}
 use Rattle.ug_script.specs.declared.step.Step.TheVariants.{Event, Move, Restart, Schedule, Setup, Skip}
 use Rattle.ug_script.specs.Against.{BehindSetup, NoHeader, NoRoom, NoStep, NotTaken, RefusesScript, SpeaksAgainst, starts_daemon}
+use Rattle.ug_script.specs.FolderLines.{ScriptFolder, lines_length}
 use Rattle.ug_script.specs.Grammar.{step_of_line}
 use Rattle.ug_script.specs.Replay.{Played, begun_again, begun_disk, came_of, event_from, finished, header, in_script, left_played, line_added, quiet, restarted, script_end, script_step, stop_in, stopped_of, taken, taken_if, with_plan, with_played}
 use Rattle.ug_script.specs.Roomless.{FindsNoRoom, TellsRoom, starts_one}
-use Rattle.ug_script.specs.Script.{Script, can_start, daemon_in, disk_in, fresh, has_started, takes_setup, with_setup_closed}
-use Rattle.ug_script.specs.Setup.{SetupState, one_line_more, setup_rule, rules_from, steps_of, with_draft}
+use Rattle.ug_script.specs.Script.{Script, can_start, daemon_in, disk_in, fits_file, fits_folder, fits_rules, fresh, has_started, takes_setup, with_setup_closed}
+use Rattle.ug_script.specs.Setup.{SetupState, folder_asked, has_rule_room, one_line_more, setup_rule, rules_from, steps_of, with_draft}
 use Rattle.ug_script.specs.Words.{is_entry}
 use Rattle.ug_script.proofs.Against.{are_refused}
+use Rattle.ug_script.proofs.Folders.{length_with, lines_append}
 use Rattle.ug_script.proofs.Phases.{closed_started}
 use Rattle.ug_script.proofs.Schedules.{stays_scheduled}
 
@@ -48,25 +52,39 @@ or_one false = refl
 
 record Sets (s : Script) (steps : List (Option Step)) (t : Script) : Type 0 where
   rules : t.setup.rules ≡ s.setup.rules ++ flat_map setup_rule steps
+  files : folder_length t.setup.folder.files ≡ folder_length s.setup.folder.files + lines_length (flat_map folder_asked steps)
   started : has_started t.phase ≡ (has_started s.phase || list_any starts_one steps)
 
 sets_none : (s : Script) → Sets s [] s
-sets_none s = record { rules = sym (append-nil s.setup.rules); started = sym (or_none (has_started s.phase)) }
+sets_none s = record { rules = sym (append-nil s.setup.rules); files = omega arith; started = sym (or_none (has_started s.phase)) }
 
-sets_one : (s t : Script) (asked : Option Step) → t.setup.rules ≡ s.setup.rules ++ setup_rule asked → has_started t.phase ≡ (has_started s.phase || starts_one asked) → Sets s (asked ∷ []) t
-sets_one s t asked rules started = record {
+sets_one : (s t : Script) (asked : Option Step) → t.setup.rules ≡ s.setup.rules ++ setup_rule asked → folder_length t.setup.folder.files ≡ folder_length s.setup.folder.files + lines_length (folder_asked asked) → has_started t.phase ≡ (has_started s.phase || starts_one asked) → Sets s (asked ∷ []) t
+sets_one s t asked rules files started = record {
+  files = files ∙ ap (λ (l : List FolderLine). folder_length s.setup.folder.files + lines_length l) (sym (append-nil (folder_asked asked)));
   rules = rules ∙ ap (λ (l : List types.Rule). s.setup.rules ++ l) (sym (append-nil (setup_rule asked)));
   started = started ∙ ap (λ (b : Bool). has_started s.phase || b) (sym (or_none (starts_one asked)));
 }
 
-sets_still : (s t : Script) (asked : Option Step) → t.setup.rules ≡ s.setup.rules → setup_rule asked ≡ [] → has_started t.phase ≡ has_started s.phase → starts_one asked ≡ false → Sets s (asked ∷ []) t
-sets_still s t asked rules none started unstarted = sets_one s t asked (rules ∙ sym (append-nil s.setup.rules) ∙ ap (λ (l : List types.Rule). s.setup.rules ++ l) (sym none)) (started ∙ sym (or_none (has_started s.phase)) ∙ ap (λ (b : Bool). has_started s.phase || b) (sym unstarted))
+files_still : (s t : Script) (asked : Option Step) → t.setup.folder ≡ s.setup.folder → folder_asked asked ≡ [] → folder_length t.setup.folder.files ≡ folder_length s.setup.folder.files + lines_length (folder_asked asked)
+files_still s t asked folder quiet =
+    let same : folder_length t.setup.folder.files ≡ folder_length s.setup.folder.files = ap (λ (f : ScriptFolder). folder_length f.files) folder in
+    let none : lines_length (folder_asked asked) ≡ 0 = ap (λ (l : List FolderLine). lines_length l) quiet in
+    omega (arith, same, none)
 
-sets_start : (s t : Script) (asked : Option Step) → t.setup.rules ≡ s.setup.rules → setup_rule asked ≡ [] → has_started t.phase ≡ true → starts_one asked ≡ true → Sets s (asked ∷ []) t
-sets_start s t asked rules none started starts = sets_one s t asked (rules ∙ sym (append-nil s.setup.rules) ∙ ap (λ (l : List types.Rule). s.setup.rules ++ l) (sym none)) (started ∙ sym (or_one (has_started s.phase)) ∙ ap (λ (b : Bool). has_started s.phase || b) (sym starts))
+sets_still : (s t : Script) (asked : Option Step) → t.setup.rules ≡ s.setup.rules → setup_rule asked ≡ [] → t.setup.folder ≡ s.setup.folder → folder_asked asked ≡ [] → has_started t.phase ≡ has_started s.phase → starts_one asked ≡ false → Sets s (asked ∷ []) t
+sets_still s t asked rules none folder quiet started unstarted = sets_one s t asked (rules ∙ sym (append-nil s.setup.rules) ∙ ap (λ (l : List types.Rule). s.setup.rules ++ l) (sym none)) (files_still s t asked folder quiet) (started ∙ sym (or_none (has_started s.phase)) ∙ ap (λ (b : Bool). has_started s.phase || b) (sym unstarted))
+
+sets_start : (s t : Script) (asked : Option Step) → t.setup.rules ≡ s.setup.rules → setup_rule asked ≡ [] → t.setup.folder ≡ s.setup.folder → folder_asked asked ≡ [] → has_started t.phase ≡ true → starts_one asked ≡ true → Sets s (asked ∷ []) t
+sets_start s t asked rules none folder quiet started starts = sets_one s t asked (rules ∙ sym (append-nil s.setup.rules) ∙ ap (λ (l : List types.Rule). s.setup.rules ++ l) (sym none)) (files_still s t asked folder quiet) (started ∙ sym (or_one (has_started s.phase)) ∙ ap (λ (b : Bool). has_started s.phase || b) (sym starts))
 
 sets_more : (s t u : Script) (asked : Option Step) (steps : List (Option Step)) → Sets s (asked ∷ []) t → Sets t steps u → Sets s (asked ∷ steps) u
 sets_more s t u asked steps x y = record {
+  files =
+      let one : lines_length (folder_asked asked ++ []) ≡ lines_length (folder_asked asked) + lines_length [] = lines_append (folder_asked asked) [] in
+      let all : lines_length (folder_asked asked ++ flat_map folder_asked steps) ≡ lines_length (folder_asked asked) + lines_length (flat_map folder_asked steps) = lines_append (folder_asked asked) (flat_map folder_asked steps) in
+      let first : folder_length t.setup.folder.files ≡ folder_length s.setup.folder.files + lines_length (folder_asked asked ++ []) = x.files in
+      let rest : folder_length u.setup.folder.files ≡ folder_length t.setup.folder.files + lines_length (flat_map folder_asked steps) = y.files in
+      omega (arith, one, all, first, rest);
   rules = y.rules ∙ ap (λ (l : List types.Rule). l ++ flat_map setup_rule steps) (x.rules ∙ ap (λ (l : List types.Rule). s.setup.rules ++ l) (append-nil (setup_rule asked))) ∙ append_assoc s.setup.rules (setup_rule asked) (flat_map setup_rule steps);
   started = y.started ∙ ap (λ (b : Bool). b || list_any starts_one steps) (x.started ∙ ap (λ (b : Bool). has_started s.phase || b) (or_none (starts_one asked))) ∙ or_assoc (has_started s.phase) (starts_one asked) (list_any starts_one steps);
 }
@@ -83,45 +101,48 @@ sets_when s asked false o p x y = y
 -- what a line of setup gives
 abbrev GivesRules : SetupState → SetupLine → Option SetupState → Type 0
 GivesRules before line None = Unit {0}
-GivesRules before line (Some after) = after.rules ≡ before.rules ++ setup_rule (Some (Setup line))
+GivesRules before line (Some after) =
+    (after.rules ≡ before.rules ++ setup_rule (Some (Setup line)))
+    × (folder_length after.folder.files ≡ folder_length before.folder.files + lines_length (folder_asked (Some (Setup line))))
 
 gives_when : (before : SetupState) (line : SetupLine) (b : Bool) (o : Option SetupState) → GivesRules before line o → GivesRules before line (if b then o else None)
 gives_when before line true o h = h
 gives_when before line false o h = tt
 
 gives_draft : (before : SetupState) (text : List ℕ) (draft : Result Draft SettingFault) → GivesRules before (setup.Conf text) (with_draft draft before)
-gives_draft before text (Ok draft) = sym (append-nil before.rules)
+gives_draft before text (Ok draft) = (sym (append-nil before.rules), omega arith)
 gives_draft before text (Err fault) = tt
 
 gives_rules : (before : SetupState) (line : SetupLine) → GivesRules before line (one_line_more line before)
-gives_rules before (setup.Rule rule) = gives_when before (setup.Rule rule) (nat_lt (length before.rules) 65536) (Some _) refl
+gives_rules before (setup.Rule rule) = gives_when before (setup.Rule rule) (has_rule_room before) (Some _) (refl, omega arith)
+gives_rules before (setup.Folder line) = gives_when before (setup.Folder line) (has_rule_room before) (Some _) (sym (append-nil before.rules), length_with line before.folder.files)
 gives_rules before (setup.Conf text) = gives_when before (setup.Conf text) (is_entry text) (with_draft _ before) (gives_draft before text _)
-gives_rules before (setup.Access line) = sym (append-nil before.rules)
-gives_rules before (setup.Seed seed) = gives_when before (setup.Seed seed) _ (Some _) (sym (append-nil before.rules))
-gives_rules before (setup.Zone offset) = gives_when before (setup.Zone offset) _ (Some _) (sym (append-nil before.rules))
+gives_rules before (setup.Access line) = (sym (append-nil before.rules), omega arith)
+gives_rules before (setup.Seed seed) = gives_when before (setup.Seed seed) _ (Some _) (sym (append-nil before.rules), omega arith)
+gives_rules before (setup.Zone offset) = gives_when before (setup.Zone offset) _ (Some _) (sym (append-nil before.rules), omega arith)
 
 sets_added : (s : Script) (w : World) (line : SetupLine) (o : Option SetupState) → GivesRules s.setup line o → SetsAfter s (Some (Setup line)) (line_added o s w)
 sets_added s w line None h = tt
-sets_added s w line (Some after) h = sets_one s (record s { setup = after }) (Some (Setup line)) h (sym (or_none (has_started s.phase)))
+sets_added s w line (Some after) h = sets_one s (record s { setup = after }) (Some (Setup line)) h.0 h.1 (sym (or_none (has_started s.phase)))
 
 sets_plan : (s : Script) (w : World) (p : Plan) → Sets s (Some (Schedule p) ∷ []) (with_plan p (with_setup_closed s))
-sets_plan s w (plan.Move m) = sets_still s (with_setup_closed s) (Some (Schedule (plan.Move m))) refl refl (closed_started s.phase) refl
-sets_plan s w (plan.Fail f) = sets_still s (with_setup_closed s) (Some (Schedule (plan.Fail f))) refl refl (closed_started s.phase) refl
-sets_plan s w (plan.OnDisk p) = sets_still s (with_plan (plan.OnDisk p) (with_setup_closed s)) (Some (Schedule (plan.OnDisk p))) refl refl (closed_started s.phase) refl
+sets_plan s w (plan.Move m) = sets_still s (with_setup_closed s) (Some (Schedule (plan.Move m))) refl refl refl refl (closed_started s.phase) refl
+sets_plan s w (plan.Fail f) = sets_still s (with_setup_closed s) (Some (Schedule (plan.Fail f))) refl refl refl refl (closed_started s.phase) refl
+sets_plan s w (plan.OnDisk p) = sets_still s (with_plan (plan.OnDisk p) (with_setup_closed s)) (Some (Schedule (plan.OnDisk p))) refl refl refl refl (closed_started s.phase) refl
 
 sets_restarted : (s : Script) (w : World) (loaded : Result (List types.Rule) LineRefusal) → SetsAfter s (Some Restart) (restarted loaded s w)
-sets_restarted s w (Ok rules) = sets_start s _ (Some Restart) refl refl refl refl
+sets_restarted s w (Ok rules) = sets_start s _ (Some Restart) refl refl refl refl refl refl
 sets_restarted s w (Err fault) = tt
 
 sets_played : (s : Script) (event : events.Event) (p : Played) → Sets s (Some (Event event) ∷ []) (with_played s p)
-sets_played s event p = sets_start s (with_played s p) (Some (Event event)) refl refl refl refl
+sets_played s event p = sets_start s (with_played s p) (Some (Event event)) refl refl refl refl refl refl
 
 sets_stopped : (s : Script) (event : events.Event) (call : ℕ) (p : Played) (loaded : Result (List types.Rule) LineRefusal) → SetsAfter s (Some (Event event)) (in_script s (stopped_of s.setup call p loaded))
 sets_stopped s event call p (Ok rules) = sets_played s event (begun_again s.setup rules p)
 sets_stopped s event call p (Err fault) = tt
 
-sets_came : (s : Script) (event : events.Event) (p : Played) (stopped : Bool) → SetsAfter s (Some (Event event)) (in_script s (cond stopped (stopped_of s.setup (stop_in s.planned p) p (rules_from p.disk.disk.text)) (finished p)))
-sets_came s event p true = sets_stopped s event (stop_in s.planned p) p (rules_from p.disk.disk.text)
+sets_came : (s : Script) (event : events.Event) (p : Played) (stopped : Bool) → SetsAfter s (Some (Event event)) (in_script s (cond stopped (stopped_of s.setup (stop_in s.planned p) p (rules_from s.setup.folder.count p.disk.disk.text)) (finished p)))
+sets_came s event p true = sets_stopped s event (stop_in s.planned p) p (rules_from s.setup.folder.count p.disk.disk.text)
 sets_came s event p false = sets_played s event (left_played p)
 
 sets_event : (s : Script) (w : World) (event : events.Event) (start room : Bool) (came : LineOutcome Played) (other : Played) → SetsAfter s (Some (Event event)) (in_script s came) → SetsAfter s (Some (Event event)) (cond start (in_script s (cond room came (Refused BadLine other))) (Refused InputTooLong (Some s, w)))
@@ -130,14 +151,14 @@ sets_event s w event true false came other h = tt
 sets_event s w event false room came other h = tt
 
 sets_step : (s : Script) (w : World) (asked : Step) → SetsAfter s (Some asked) (taken asked s w)
-sets_step s w Skip = sets_still s s (Some Skip) refl refl refl refl
+sets_step s w Skip = sets_still s s (Some Skip) refl refl refl refl refl refl
 sets_step s w (Setup line) = sets_when s (Some (Setup line)) (takes_setup s.phase) (line_added (one_line_more line s.setup) s w) (Refused BadLine (Some s, w)) (sets_added s w line (one_line_more line s.setup) (gives_rules s.setup line)) tt
-sets_step s w (Move action) = sets_still s (with_setup_closed s) (Some (Move action)) refl refl (closed_started s.phase) refl
+sets_step s w (Move action) = sets_still s (with_setup_closed s) (Some (Move action)) refl refl refl refl (closed_started s.phase) refl
 sets_step s w (Schedule p) = sets_plan s w p
 sets_step s w (Event event) =
     let p : Played = event_from event (daemon_in s) w (begun_disk s.planned (disk_in s)) in
     sets_event s w event (can_start s.setup s.phase) (has_numbers (daemon_in s) w.faults (disk_in s).faults) (came_of s.setup s.planned p) _ (sets_came s event p p.disk.stopped)
-sets_step s w Restart = sets_when s (Some Restart) (can_start s.setup s.phase) (restarted (rules_from (disk_in s).disk.text) s w) (Refused InputTooLong (Some s, w)) (sets_restarted s w (rules_from (disk_in s).disk.text)) tt
+sets_step s w Restart = sets_when s (Some Restart) (can_start s.setup s.phase) (restarted (rules_from s.setup.folder.count (disk_in s).disk.text) s w) (Refused InputTooLong (Some s, w)) (sets_restarted s w (rules_from s.setup.folder.count (disk_in s).disk.text)) tt
 
 sets_line : (s : Script) (w : World) (asked : Option Step) → SetsAfter s asked (taken_if asked s w)
 sets_line s w None = tt
@@ -208,14 +229,47 @@ starts_some (Some asked) e = (asked, refl, e)
 abbrev script_closing : Option Script × World → Option (List ℕ)
 script_closing = of_first script_end
 
+abbrev IsRoomless : SetupState → Type 0
+IsRoomless setup = (rules_limit < length (rules_text_of setup.rules)) ⊎ (rules_limit < folder_length setup.folder.files)
+
+neither_way : (a : Bool) → (a && false) ≡ false
+neither_way true = refl
+neither_way false = refl
+
+no_room : (setup : SetupState) → IsRoomless setup → fits_file setup ≡ false
+no_room setup (inl long) = ap (λ (b : Bool). b && fits_folder setup) (lt-leb (length (rules_text_of setup.rules)) rules_limit long)
+no_room setup (inr long) = ap (λ (b : Bool). fits_rules setup && b) (lt-leb (folder_length setup.folder.files) rules_limit long) ∙ neither_way (fits_rules setup)
+
+is_roomless : (setup : SetupState) → fits_file setup ≡ false → IsRoomless setup
+is_roomless setup h = by (fits_rules setup) refl h
+  where
+    by : (b : Bool) → fits_rules setup ≡ b → (b && fits_folder setup) ≡ false → IsRoomless setup
+    by true e k = inr (leb-false (folder_length setup.folder.files) rules_limit k)
+    by false e k = inl (leb-false (length (rules_text_of setup.rules)) rules_limit e)
+
+-- the lines of the folder are the texts of its files
+
+files_long : (earlier : List (List ℕ)) (s : Script) → Sets fresh (steps_of earlier) s → rules_limit < lines_length (flat_map folder_asked (steps_of earlier)) → rules_limit < folder_length s.setup.folder.files
+files_long earlier s sets long =
+    let same : folder_length s.setup.folder.files ≡ 0 + lines_length (flat_map folder_asked (steps_of earlier)) = sets.files in
+    omega (arith, long, same)
+
+lines_long : (earlier : List (List ℕ)) (s : Script) → Sets fresh (steps_of earlier) s → rules_limit < folder_length s.setup.folder.files → rules_limit < lines_length (flat_map folder_asked (steps_of earlier))
+lines_long earlier s sets long =
+    let same : folder_length s.setup.folder.files ≡ 0 + lines_length (flat_map folder_asked (steps_of earlier)) = sets.files in
+    omega (arith, long, same)
+
 room_told : (first : World) (lines : List (List ℕ)) → first.moves ≡ [] → first.fails ≡ [] → FindsNoRoom first lines → whole_text script_closing (plays script_step (Going 0 [] (None, first)) lines) ≡ input_too_long
 room_told first lines moves fails h =
     let sets = sets_all first h.earlier h.count h.text h.script h.world h.taken in
     let unstarted : has_started h.script.phase ≡ false = sets.started ∙ h.unstarted in
     let silent : h.text ≡ [] = (stays_scheduled first moves fails h.earlier h.count h.text h.script h.world h.taken).silent unstarted in
     let asks = starts_some (step_of_line h.line) h.starts in
-    let long : rules_limit < length (rules_text_of h.script.setup.rules) = subst (λ (rules : List types.Rule). rules_limit < length (rules_text_of rules)) (sym sets.rules) h.long in
-    let refused = are_refused (Some h.script, h.world) h.line InputTooLong (NoRoom h.script h.world h.line asks.0 asks.1 asks.2 unstarted (lt-leb (length (rules_text_of h.script.setup.rules)) rules_limit long)) in
+    let none : fits_file h.script.setup ≡ false = no_room h.script.setup (elim h.long [
+      | inl rules ↦ inl (subst (λ (rules : List types.Rule). rules_limit < length (rules_text_of rules)) (sym sets.rules) rules)
+      | inr lines ↦ inr (files_long h.earlier h.script sets lines)
+    ]) in
+    let refused = are_refused (Some h.script, h.world) h.line InputTooLong (NoRoom h.script h.world h.line asks.0 asks.1 asks.2 unstarted none) in
     let halts = behind first h.earlier h.later h.line h.count h.text (Some h.script, h.world) refused.0 InputTooLong h.taken (refuses_within h.count h.text h.line (Some h.script, h.world) refused.0 InputTooLong h.within refused.1) in
     ap (λ (ls : List (List ℕ)). whole_text script_closing (plays script_step (Going 0 [] (None, first)) ls)) h.among
     ∙ ap (λ (stage : Stage (Option Script × World)). whole_text script_closing stage) halts
@@ -256,7 +310,6 @@ by_reason first lines earlier later line count text _ _ among taken within (Behi
 by_reason first lines earlier later line count text _ _ among taken within (NotTaken s w _ given is full) halts next refused e = bad_otherwise first lines count text next (halts next refused) e
 by_reason first lines earlier later line count text _ _ among taken within (NoRoom s w _ asked is starts unstarted full) halts next refused e =
     let sets = sets_all first earlier count text s w taken in
-    let long : rules_limit < length (rules_text_of s.setup.rules) = leb-false (length (rules_text_of s.setup.rules)) rules_limit full in
     record {
       earlier = earlier;
       line = line;
@@ -270,7 +323,10 @@ by_reason first lines earlier later line count text _ _ among taken within (NoRo
       within = within;
       unstarted = sym sets.started ∙ unstarted;
       starts = ap (λ (o : Option Step). starts_one o) is ∙ starts;
-      long = subst (λ (rules : List types.Rule). rules_limit < length (rules_text_of rules)) sets.rules long;
+      long = elim (is_roomless s.setup full) [
+        | inl rules ↦ inl (subst (λ (rules : List types.Rule). rules_limit < length (rules_text_of rules)) sets.rules rules)
+        | inr files ↦ inr (lines_long earlier s sets files)
+      ];
     }
 
 at_line : (first : World) (lines : List (List ℕ)) (fault : LineRefusal) (r : RefusesLine script_step SpeaksAgainst (Start first) lines fault) (b : Bool) → is_within r.count r.line ≡ b → whole_text script_closing (plays script_step (Start first) lines) ≡ input_too_long → FindsNoRoom first lines

@@ -119,8 +119,8 @@ stopped_holds : (done : List (Option Step)) (text : List ℕ) (event : events.Ev
 stopped_holds done text event s call p (Ok rules) = over_holds done _ event s (begun_again s.setup rules p) p.world refl
 stopped_holds done text event s call p (Err fault) = tt
 
-came_holds : (done : List (Option Step)) (text : List ℕ) (event : events.Event) (s : Script) (p : Played) (stopped : Bool) → HoldsAfter (done ++ Some (Event event) ∷ []) text (in_script s (cond stopped (stopped_of s.setup (stop_in s.planned p) p (rules_from p.disk.disk.text)) (finished p)))
-came_holds done text event s p true = stopped_holds done text event s (stop_in s.planned p) p (rules_from p.disk.disk.text)
+came_holds : (done : List (Option Step)) (text : List ℕ) (event : events.Event) (s : Script) (p : Played) (stopped : Bool) → HoldsAfter (done ++ Some (Event event) ∷ []) text (in_script s (cond stopped (stopped_of s.setup (stop_in s.planned p) p (rules_from s.setup.folder.count p.disk.disk.text)) (finished p)))
+came_holds done text event s p true = stopped_holds done text event s (stop_in s.planned p) p (rules_from s.setup.folder.count p.disk.disk.text)
 came_holds done text event s p false = over_holds done _ event s (left_played p) p.world refl
 
 event_holds : (done : List (Option Step)) (text : List ℕ) (event : events.Event) (s : Script) (w : World) (start room : Bool) (came : LineOutcome Played) (other : Played) → HoldsAfter (done ++ Some (Event event) ∷ []) text (in_script s came) → HoldsAfter (done ++ Some (Event event) ∷ []) text (cond start (in_script s (cond room came (Refused BadLine other))) (Refused InputTooLong (Some s, w)))
@@ -154,7 +154,7 @@ step_holds done text (Schedule p) s w h = by p (plan_holds done text p s w h)
 step_holds done text (Event event) s w h =
     let p : Played = event_from event (daemon_in s) w (begun_disk s.planned (disk_in s)) in
     event_holds done text event s w (can_start s.setup s.phase) (has_numbers (daemon_in s) w.faults (disk_in s).faults) (came_of s.setup s.planned p) _ (came_holds done text event s p p.disk.stopped)
-step_holds done text Restart s w h = when (done ++ Some Restart ∷ []) text (can_start s.setup s.phase) (restarted (rules_from (disk_in s).disk.text) s w) (Refused InputTooLong (Some s, w)) (restart_holds done text s w (rules_from (disk_in s).disk.text) h) tt
+step_holds done text Restart s w h = when (done ++ Some Restart ∷ []) text (can_start s.setup s.phase) (restarted (rules_from s.setup.folder.count (disk_in s).disk.text) s w) (Refused InputTooLong (Some s, w)) (restart_holds done text s w (rules_from s.setup.folder.count (disk_in s).disk.text) h) tt
 
 line_holds : (done : List (Option Step)) (text : List ℕ) (asked : Option Step) (s : Script) (w : World) → Holds done text s w → HoldsAfter (done ++ asked ∷ []) text (taken_if asked s w)
 line_holds done text None s w h = tt

@@ -64,7 +64,7 @@ stopped_whole setup call p (Ok rules) = both_whole (first_line p.daemon.sweep.en
 stopped_whole setup call p (Err fault) = tt
 
 came_whole : (setup : SetupState) (plan : List Planned) (p : Played) → WritesWhole (came_of setup plan p)
-came_whole setup plan p = either p.disk.stopped (stopped_of setup (stop_in plan p) p (rules_from p.disk.disk.text)) (finished p) (stopped_whole setup (stop_in plan p) p (rules_from p.disk.disk.text)) (outcome_whole (outcome_of p.daemon))
+came_whole setup plan p = either p.disk.stopped (stopped_of setup (stop_in plan p) p (rules_from setup.folder.count p.disk.disk.text)) (finished p) (stopped_whole setup (stop_in plan p) p (rules_from setup.folder.count p.disk.disk.text)) (outcome_whole (outcome_of p.daemon))
 
 script_whole : (s : Script) (o : LineOutcome Played) → WritesWhole o → WritesWhole (in_script s o)
 script_whole s (Writes text p) w = w
@@ -89,7 +89,7 @@ taken_whole (step.Event event) s w =
     (script_whole s (event_by s.setup event s.planned (daemon_in s) w (disk_in s))
     (either (has_numbers (daemon_in s) w.faults (disk_in s).faults) (came_of s.setup s.planned played) (Refused BadLine (record { daemon = daemon_in s; world = w; disk = disk_in s })) (came_whole s.setup s.planned played) tt))
     tt
-taken_whole step.Restart s w = either (can_start s.setup s.phase) (restarted (rules_from (disk_in s).disk.text) s w) (Refused InputTooLong (Some s, w)) (restarted_whole (rules_from (disk_in s).disk.text) s w) tt
+taken_whole step.Restart s w = either (can_start s.setup s.phase) (restarted (rules_from s.setup.folder.count (disk_in s).disk.text) s w) (Refused InputTooLong (Some s, w)) (restarted_whole (rules_from s.setup.folder.count (disk_in s).disk.text) s w) tt
 
 if_whole : (what : Option Step) (s : Script) (w : World) → WritesWhole (taken_if what s w)
 if_whole None s w = tt

@@ -23,7 +23,7 @@ starts_daemon (step.Event event) = true
 starts_daemon step.Restart = true
 
 -- What speaks against a line where it stands. It is the line itself or its place, or the rules of
--- the `rule` lines: never what the daemon has written to its rule file.
+-- the setup lines: never what the daemon has written to its rule file.
 pub data SpeaksAgainst : Option Script × World → List ℕ → LineRefusal → Type 0 where
   -- it stands first, and isn't the header
   NoHeader : (w : World) (line : List ℕ) → (line ≡ header → ⊥)
@@ -40,7 +40,8 @@ pub data SpeaksAgainst : Option Script × World → List ℕ → LineRefusal →
   NotTaken : (s : Script) (w : World) (line : List ℕ) (setup : SetupLine)
       → step_of_line line ≡ Some (step.Setup setup) → one_line_more setup s.setup ≡ None
       → SpeaksAgainst (Some s, w) line BadLine
-  -- it would start the first daemon, and a rule file has no room for the rules of the `rule` lines
+  -- it would start the first daemon, and a rule file has no room for the rules of the `rule` lines,
+  -- or the texts of the folder's files are too long
   NoRoom : (s : Script) (w : World) (line : List ℕ) (asked : Step)
       → step_of_line line ≡ Some asked → starts_daemon asked ≡ true
       → has_started s.phase ≡ false → fits_file s.setup ≡ false

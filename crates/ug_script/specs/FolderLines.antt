@@ -1,7 +1,7 @@
 -- The files of the folder of rules that `folder` lines give.
 use Rattle.std.specs.Prelude.{◌≡◌, ℕ, ◌+◌, ◌<◌, ◌≤◌, nat_eq, if◌then◌else◌, List, [], ◌∷◌, ◌++◌, length, map, flat_map, All, Result, Ok, Err}
 use Rattle.std.specs.Cmp.Lexicographic.{pointwise, slice_cmp}
-use Rattle.std.specs.List.{AllWithin, HoldsAt}
+use Rattle.std.specs.List.{AllWithin, HoldsAt, sum_by}
 use Rattle.std.specs.Ordering.{nat_cmp}
 use Rattle.std.specs.declared.cmp.Ordering.{Ordering}
 use Rattle.std.specs.declared.cmp.Ordering.TheVariants.{Less, Equal, Greater}
@@ -75,6 +75,10 @@ text_under name files =
 abbrev pub lines_under : List ℕ → List FolderLine → List ℕ
 lines_under name lines =
     flat_map (λ line. if pointwise nat_eq line.name name then ended_line line else []) lines
+
+-- how many bytes the lines have in all, with a newline each
+abbrev pub lines_length : List FolderLine → ℕ
+lines_length lines = sum_by (λ line. length line.text + 1) lines
 
 -- The files have these lines: those of one name are a file, in their order, and the files are in
 -- byte order of their names.

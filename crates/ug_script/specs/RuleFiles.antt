@@ -1,8 +1,9 @@
 -- The rule file of a script's daemon: whatever a stop leaves of it, a new daemon starts with it.
-use Rattle.std.specs.Prelude.{◌≡◌, ℕ, Bool, true, false, List, Result, Ok, Err}
+use Rattle.std.specs.Prelude.{◌≡◌, ℕ, ◌≤◌, Bool, true, false, List, length, Result, Ok, Err}
 use Rattle.ug_store.specs.Disk.{IsImage}
 use Rattle.ug_store.specs.Scripted.{DiskWorld}
-use Rattle.ug_script.specs.Setup.{rules_from}
+use Rattle.ug_core.specs.Event.{DaemonState}
+use Rattle.ug_script.specs.Setup.{folder_of, rules_from}
 
 abbrev pub is_given : {A E : Type 0} → Result A E → Bool
 is_given (Ok value) = true
@@ -19,6 +20,11 @@ StaysReadable before o =
     o.ran_out ≡ false
     → ((text : List ℕ) → IsImage o.disk.left text → is_startable before text ≡ true)
     × ((IsImage o.disk.left o.disk.text → ⊥) → ⊥)
+
+-- The folder's rules that a daemon has are so many, and all its rules are no more than a list has.
+pub record HasFolder (before : ℕ) (d : DaemonState) : Type 0 where
+  pub number : length (folder_of d.sweep.judge) ≡ before
+  pub few : length d.sweep.judge.rules ≤ 65536
 
 -- the files of a disk are as they were, and so is what a stop leaves
 pub record IsStillOn (o p : DiskWorld) : Type 0 where

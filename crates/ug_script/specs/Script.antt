@@ -89,10 +89,10 @@ fits_file setup = fits_rules setup && fits_folder setup
 abbrev pub IsStartedBy : SetupState → Session → Type 0
 IsStartedBy setup session = (session.before ≡ setup.folder.count) × (fits_folder setup ≡ true)
 
+-- so is the session's of that phase, if it has one
 abbrev pub IsPhaseOf : SetupState → progress.Phase → Type 0
-IsPhaseOf setup at.SettingUp = Unit {0}
-IsPhaseOf setup at.Unstarted = Unit {0}
-IsPhaseOf setup (at.Started session) = IsStartedBy setup session
+IsPhaseOf setup phase =
+    (session : Session) → phase ≡ at.Started session → IsStartedBy setup session
 
 -- why no daemon starts over a disk in memory, which fails only where an entry of its calls finds no
 -- memory

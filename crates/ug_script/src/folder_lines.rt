@@ -1,7 +1,7 @@
 // The lines of `folder` lines, file by file.
 ghost use Rattle.std.specs.Prelude.{◌≡◌, ◌<◌, ◌≤◌, ◌++◌, ◌∷◌, [], IfOk, OnOk, OnErr};
 ghost use Rattle.ug_core.specs.Starting.{AreAscending};
-ghost use Rattle.ug_script.specs.FolderLines.{HasLines, HoldsRule, IsPlaceOf, file_of, files_of, no_folder, one_line_file, with_line};
+ghost use Rattle.ug_script.specs.FolderLines.{HasLines, HoldsRule, IsPlaceOf, file_of, files_of, no_folder, one_line_file, with_line, with_line_in};
 
 use crate::step::FolderLine;
 use std::alloc::Global;
@@ -63,6 +63,23 @@ fn first_line(alloc: Global, line: &FolderLine) -> Result<FileText, NoMemory>
     Ok(FileText { name, text })
 }
 
+// Adds a line to its file. A refusal changes nothing.
+fn put_line(alloc: Global, files: &mut Vec<FileText>, line: &FolderLine) -> Result<(), NoMemory>
+    requires { AreAscending (files_of files.old.items) }
+    ensures ok { OnOk result
+        (files_of files.new.items ≡ with_line_in line.now (files_of files.old.items)) }
+    ensures err { OnErr result (files_of files.new.items ≡ files_of files.old.items) }
+{
+    match place_of(files.as_slice(), line.name.bytes()) {
+        Ok(place) => add_text(&mut files[place].text, line.text.bytes()),
+        Err(place) => {
+            let file = first_line(alloc, line)?;
+            files.insert(place, file)?;
+            Ok(())
+        }
+    }
+}
+
 impl FolderLines {
     /// No lines. It takes no memory.
     pub fn new(alloc: Global) -> FolderLines
@@ -90,13 +107,7 @@ impl FolderLines {
         ensures ok { OnOk result (self.new ≡ with_line line.now self.old) }
         ensures err { OnErr result (self.new ≡ self.old) }
     {
-        match place_of(self.files.as_slice(), line.name.bytes()) {
-            Ok(place) => add_text(&mut self.files[place].text, line.text.bytes())?,
-            Err(place) => {
-                let file = first_line(self.alloc, line)?;
-                self.files.insert(place, file)?;
-            }
-        }
+        put_line(self.alloc, &mut self.files, line)?;
         self.count += 1;
         Ok(())
     }

@@ -1,5 +1,6 @@
 // A daemon over a disk in memory.
-ghost use Rattle.ug_script.specs.RuleFiles.{StaysReadable};
+ghost use Rattle.ug_core.specs.Event.{daemon_of};
+ghost use Rattle.ug_script.specs.RuleFiles.{HasFolder, StaysReadable};
 
 use rand_chacha::ChaCha20Rng;
 use ug_core::Daemon;
@@ -13,4 +14,5 @@ pub struct Session {
     pub before: usize,
     pub disk: MemDisk,
     ghost file: { StaysReadable before disk },
+    ghost folder: { HasFolder before (daemon_of daemon) },
 }

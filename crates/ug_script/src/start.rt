@@ -1,5 +1,5 @@
 // The daemons that a script starts.
-ghost use Rattle.std.specs.Prelude.{◌≡◌, ◌≤◌, length, pos, true, false, Err, Ok, IfOk, IfSome, IsTrue, OnErr, OnOk};
+ghost use Rattle.std.specs.Prelude.{◌≡◌, ◌+◌, ◌≤◌, length, pos, true, false, Err, Ok, IfOk, IfSome, IsTrue, OnErr, OnOk};
 ghost use Rattle.ug_command_io.specs.Fold.{BadLine, InputTooLong};
 ghost use Rattle.ug_ruleset.specs.RuleFile.{CanSave, IsSaveable};
 ghost use Rattle.ug_script.specs.RuleFiles.{IsStillOn};

@@ -4,11 +4,12 @@ use Rattle.ug_core.specs.Event.{DaemonState, daemon_of}
 use Rattle.ug_core.specs.declared.daemon.Event as daemon
 use Rattle.ug_core.specs.declared.storing.Stored.{Stored}
 use Rattle.ug_ruleset.specs.RuleFile.{IsSaveable}
-use Rattle.ug_store.specs.Scripted.{DiskWorld}
-use Rattle.ug_sysfs.specs.World.{World}
+use Rattle.ug_store.specs.Scripted.{DiskWorld, MemKeeps}
+use Rattle.ug_sysfs.specs.World.{Gives, World}
 use Rattle.ug_script.specs.Replay.{Played}
 use Rattle.ug_script.proofs.EventSteps.{event_became, event_fixed, event_played}
 use Rattle.ug_script.proofs.Filed.{event_files}
+use Rattle.ug_script.proofs.FolderKept.{keeps_folder}
 use Rattle.ug_script.proofs.events.handle.Goals as goal
 
 pub returns-clause-played : goal.returns-clause-played
@@ -35,4 +36,8 @@ returns-clause-readable c quiet ran kept =
 pub invariant_of-session : goal.invariant_of-session
 invariant_of-session c =
     let h = c.handle_between.ensures.passes in
-    record { file = event_files c.args.event.now h.tried h.became (daemon_of c.args.session.now.daemon) c.args.session.now.disk (daemon_of c.handle_between.new.self) c.handle_between.new.disk h.file h.written h.saveable_after c.args.session.now.file }
+    let kept = keeps_folder Gives MemKeeps c.args.session.now.before h.tried c.args.event.now h.started h.disk_tried (daemon_of c.args.session.now.daemon) h.became h.middle c.handle_between.new.disk h.answered h.resumed (daemon_of c.handle_between.new.self) c.handle_between.new.sysfs h.answers h.runs h.written h.numbered h.numbered_after c.args.session.now.folder in
+    record {
+      file = event_files c.args.session.now.before c.args.event.now h.tried h.became (daemon_of c.args.session.now.daemon) c.args.session.now.disk (daemon_of c.handle_between.new.self) c.handle_between.new.disk h.file h.written h.saveable_after kept c.args.session.now.file;
+      folder = kept.after;
+    }

@@ -1,8 +1,8 @@
-use Rattle.std.proofs.Common.{length}
+use Rattle.std.proofs.Common.{◌≡◌, ℕ, ◌+◌, ◌≤◌, Err, length, sym, ap, subst, arith, ◌∙◌}
 use Rattle.std.proofs.lemmas.Bool.{leb-true}
 use Rattle.ug_print.specs.RuleTexts.{rules_limit, rules_text_of}
 use Rattle.ug_core.specs.Event.{daemon_of}
-use Rattle.ug_script.proofs.Starts.{first_daemon, first_rules}
+use Rattle.ug_script.proofs.Starts.{first_daemon, first_rules, never_bad, too_long_folder}
 use Rattle.ug_script.proofs.start.start_daemon.Goals as goal
 
 pub returns-in-Ok-clause-daemon : goal.returns-in-Ok-clause-daemon
@@ -14,5 +14,5 @@ pub returns-in-Ok-clause-saves : goal.returns-in-Ok-clause-saves
 returns-in-Ok-clause-saves c = record {
   reads = c.in_ok-disk.ensures.reads;
   fits = leb-true (length (rules_text_of c.args.setup.now.rules)) rules_limit c.in_ok-disk.ensures.fits;
-  few = c.are_few-few.ensures.few;
+  few = omega (arith, c.are_few-few.ensures.few);
 }
