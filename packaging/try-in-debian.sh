@@ -160,7 +160,7 @@ check 'behind a policy of generate-policy a permanent verdict turns the rule of 
     'usbguard block-device 2 -p && grep -q "^block id 1050:0011 " /etc/usbguard/rules.conf && ! grep -q "^allow id 1050:0011 " /etc/usbguard/rules.conf && usbguard allow-device 2 -p && grep -q "^allow id 1050:0011 " /etc/usbguard/rules.conf'
 check "another user can't even connect" 'su eve -c "usbguard list-devices --socket /run/usbguard/joe.socket" | grep -qx "link fault"'
 check 'a rule that was appended, and that of a permanent verdict, stand in the rule file, and nothing else is beside it' \
-    'grep -qx "allow id 1050:0015" /etc/usbguard/rules.conf && grep "^allow id 1050:0013 " /etc/usbguard/rules.conf && ls /etc/usbguard | (! grep -v "^usbguard-daemon.conf$\|^rules.conf$\|^IPCAccessControl.d$")'
+    'grep -qx "allow id 1050:0015" /etc/usbguard/rules.conf && grep "^allow id 1050:0013 " /etc/usbguard/rules.conf && ls /etc/usbguard | (! grep -v "^usbguard-daemon.conf$\|^rules.conf$\|^IPCAccessControl.d$\|^rules.d$")'
 check 'a device that no rule names was blocked, and then allowed by order' \
     'grep -x "judged 4 1-3 block implicit" /tmp/journal && grep -x "judged 4 1-3 allow order root" /tmp/journal && grep -x 1 /sys/bus/usb/devices/1-3/authorized'
 stop
@@ -285,6 +285,9 @@ hubs '#AuthorizedDefault=none' 2
 hubs RuleFile=none 2
 check "a hub that can't be written is told" 'mkdir -p /tmp/devices/usb1/authorized_default && echo AuthorizedDefault=none >/tmp/settings
     ! /usr/libexec/usbguard-prepare -c /tmp/settings -d /tmp/devices hubs 2>/tmp/1 && grep -x "usbguard-prepare: can.t write 0 to /tmp/devices/usb1/authorized_default" /tmp/1'
+check 'a rule of the folder is enough for a start' 'mkdir /tmp/folder && printf "RuleFile=/tmp/none\nRuleFolder=/tmp/folder\n" >/tmp/settings &&
+    echo allow >/tmp/folder/10-a.conf~ && ! /usr/libexec/usbguard-prepare -c /tmp/settings rules &&
+    echo allow >/tmp/folder/10-a.conf && /usr/libexec/usbguard-prepare -c /tmp/settings rules'
 echo 1 >"$root/sys/bus/usb/devices/usb1/authorized_default"
 echo AuthorizedDefault=keep >"$root/tmp/settings"
 show 'timeout 3 usbguard daemon --conf /tmp/settings | head -n 3'
