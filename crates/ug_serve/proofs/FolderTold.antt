@@ -106,7 +106,7 @@ module _ {F : Type 0} (reads : F → FileStep → F → Type 0) (files_told : F 
       → (files_told s ≡ Some tree) × FilesTold (files ++ map (file_in tree folder) names) r
   all_told folder [] files s r t tree fits h is =
       (ap files_told (sym h.1) ∙ is, subst (λ (x : Result (List FolderFile) NotStarted). FilesTold (files ++ []) x) (sym h.0) (sym (append-nil files), subst (λ (fs : List FolderFile). folder_length fs ≤ conf_limit) (sym (append-nil files)) fits))
-  all_told folder (name ∷ names) files s r t tree fits h is = behind h.0 h.1 h.2 h.3
+  all_told folder (name ∷ names) files s r t tree fits h is = behind h.0 h.1 (λ more u short later. all_told folder names more u r t tree short later is) h.2 h.3
     where
       one : FolderFile
       one = file_in tree folder name
@@ -122,13 +122,13 @@ module _ {F : Type 0} (reads : F → FileStep → F → Type 0) (files_told : F 
           let text = text_told folder name s k.text u tree k.read at in
           (text.0, added_told files name (or_empty (text_at tree (path_in folder name))) k.text x text.1 k.added)
 
-      behind : (x : Result (List FolderFile) NotStarted) (u : F) → ReadsRuleFile reads folder name files s x u → ReadsBehind (λ more v. ReadsFiles reads folder names more v r t) x r u t → (files_told s ≡ Some tree) × FilesTold (files ++ one ∷ rest) r
-      behind (Ok more) u k later =
+      behind : (x : Result (List FolderFile) NotStarted) (u : F) → ((more : List FolderFile) (v : F) → folder_length more ≤ conf_limit → ReadsFiles reads folder names more v r t → (files_told v ≡ Some tree) × FilesTold (more ++ rest) r) → ReadsRuleFile reads folder name files s x u → ReadsBehind (λ more v. ReadsFiles reads folder names more v r t) x r u t → (files_told s ≡ Some tree) × FilesTold (files ++ one ∷ rest) r
+      behind (Ok more) u next k later =
           let short : folder_length more ≤ conf_limit = short_by files name k.text more k.added in
-          let after = all_told folder names more u r t tree short later is in
+          let after = next more u short later in
           let now = first u (Ok more) k after.0 in
           (now.0, subst (λ (fs : List FolderFile). FilesTold fs r) (ap (λ (fs : List FolderFile). fs ++ rest) now.1.0 ∙ joined) after.1)
-      behind (Err cause) u k later =
+      behind (Err cause) u next k later =
           let now = first u (Err cause) k (ap files_told (sym later.1) ∙ is) in
           (now.0, subst (λ (x : Result (List FolderFile) NotStarted). FilesTold (files ++ one ∷ rest) x) (sym later.0) (subst (λ (fs : List FolderFile). FilesTold fs (Err cause)) joined (longer (files ++ one ∷ []) rest cause now.1)))
 

@@ -1,3 +1,4 @@
+pub mod NameOrder
 pub mod Noted
 pub mod Notifying
 pub mod Ordering

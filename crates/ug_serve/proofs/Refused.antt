@@ -33,8 +33,8 @@ use Rattle.ug_store.specs.declared.store.RecoverFault.TheVariants as recover
 use Rattle.ug_store.specs.declared.disk.RuleDisk
 use Rattle.ug_policy.specs.Rules.{Rules, most_rules}
 use Rattle.ug_kernel.specs.declared.sysfs.Sysfs
-use Rattle.ug_audit.specs.declared.entry.Entry.{Entry}
-use Rattle.ug_audit.specs.declared.entry.ConfigPart.TheVariants as part
+use Rattle.ug_audit.specs.declared.start_entry.ConfigPart.TheVariants as part
+use Rattle.ug_audit.specs.declared.start_entry.StartEntry.{StartEntry}
 use Rattle.ug_core.specs.Event.{DaemonState}
 use Rattle.ug_core.specs.Starting.{BadFile, Outset, StartsAfter, StartsFrom, StartsOnFolder, StartsWith, file_before, folder_read, folder_rules, rules_of_folder}
 use Rattle.ug_core.specs.declared.start_fault.StartFault.{StartFault}
@@ -205,12 +205,12 @@ module _ (tree : Tree) (folder : List ℕ) where
 -- each file is good, and the rules are those of all
 folder_good : (place : ℕ) (files : List FolderFile) (rules : List Rule) → folder_read place files ≡ Ok rules → (refusal_of_each files ≡ None) × (rules_of_files files ≡ length rules)
 folder_good place [] rules e = let none : [] ≡ rules = cc in (refl, ap length none)
-folder_good place (f ∷ files) rules e = by (file_read f.text) (folder_read (place + 1) files) refl refl e
+folder_good place (f ∷ files) rules e = by (file_read f.text) (folder_read (place + 1) files) (λ more later. folder_good (place + 1) files more later) refl refl e
   where
-    by : (one : Result (List Rule) TextFault) (behind : Result (List Rule) BadFile) → file_read f.text ≡ one → folder_read (place + 1) files ≡ behind → file_before place one behind ≡ Ok rules
+    by : (one : Result (List Rule) TextFault) (behind : Result (List Rule) BadFile) → ((more : List Rule) → folder_read (place + 1) files ≡ Ok more → (refusal_of_each files ≡ None) × (rules_of_files files ≡ length more)) → file_read f.text ≡ one → folder_read (place + 1) files ≡ behind → file_before place one behind ≡ Ok rules
         → (refusal_of_each (f ∷ files) ≡ None) × (rules_of_files (f ∷ files) ≡ length rules)
-    by (Ok now) (Ok more) is later k =
-        let rest = folder_good (place + 1) files more later in
+    by (Ok now) (Ok more) next is later k =
+        let rest = next more later in
         let all : now ++ more ≡ rules = cc in
         let here : length (rules_of_read (file_read f.text)) ≡ length now = ap (λ (r : Result (List Rule) TextFault). length (rules_of_read r)) is in
         let sum : rules_of_files (f ∷ files) ≡ length (rules_of_read (file_read f.text)) + rules_of_files files = sum_by-cons (λ x. length (rules_of_read (file_read x.text))) f files in
@@ -219,21 +219,21 @@ folder_good place (f ∷ files) rules e = by (file_read f.text) (folder_read (pl
           ap (λ (r : Result (List Rule) TextFault). first_refusal (refusal_in_file f.name r) (refusal_of_each files)) is ∙ rest.0,
           omega (arith, here, sum, long, whole, rest.1),
         )
-    by (Ok now) (Err bad) is later k = let none : ⊥ = cc in absurd none
-    by (Err bad) behind is later k = let none : ⊥ = cc in absurd none
+    by (Ok now) (Err bad) next is later k = let none : ⊥ = cc in absurd none
+    by (Err bad) behind next is later k = let none : ⊥ = cc in absurd none
 
 -- one file is bad
 folder_bad : (place : ℕ) (files : List FolderFile) (bad : BadFile) → folder_read place files ≡ Err bad → refusal_of_each files ≡ None → ⊥
 folder_bad place [] bad e none = let no : ⊥ = cc in no
-folder_bad place (f ∷ files) bad e none = by (file_read f.text) (folder_read (place + 1) files) refl refl e none
+folder_bad place (f ∷ files) bad e none = by (file_read f.text) (folder_read (place + 1) files) (λ later all. folder_bad (place + 1) files bad later all) refl refl e none
   where
-    by : (one : Result (List Rule) TextFault) (behind : Result (List Rule) BadFile) → file_read f.text ≡ one → folder_read (place + 1) files ≡ behind → file_before place one behind ≡ Err bad → refusal_of_each (f ∷ files) ≡ None → ⊥
-    by (Ok now) (Ok more) is later k all = let no : ⊥ = cc in no
-    by (Ok now) (Err other) is later k all =
+    by : (one : Result (List Rule) TextFault) (behind : Result (List Rule) BadFile) → (folder_read (place + 1) files ≡ Err bad → refusal_of_each files ≡ None → ⊥) → file_read f.text ≡ one → folder_read (place + 1) files ≡ behind → file_before place one behind ≡ Err bad → refusal_of_each (f ∷ files) ≡ None → ⊥
+    by (Ok now) (Ok more) next is later k all = let no : ⊥ = cc in no
+    by (Ok now) (Err other) next is later k all =
         let same : other ≡ bad = cc in
-        folder_bad (place + 1) files bad (later ∙ ap (λ (x : BadFile). Err x) same)
+        next (later ∙ ap (λ (x : BadFile). Err x) same)
         (sym (ap (λ (r : Result (List Rule) TextFault). first_refusal (refusal_in_file f.name r) (refusal_of_each files)) is) ∙ all)
-    by (Err one) behind is later k all =
+    by (Err one) behind next is later k all =
         let found : Some (why.Refused (part_of_file f.name) one) ≡ None = sym (ap (λ (r : Result (List Rule) TextFault). first_refusal (refusal_in_file f.name r) (refusal_of_each files)) is) ∙ all in
         let no : ⊥ = cc in no
 
@@ -321,7 +321,7 @@ module _ (folder : List Rule) where
   after_told whole (Ok text) (Ok started) r h =
       subst (λ (x : List ℕ). refusal_of_rules_text before x ≡ None) r.0 (rules_told text (Ok started.1) (text_fits text whole r.0 r.1) h.1)
   after_told whole (Ok text) (Err e) r h =
-      subst (λ (x : List ℕ). Loaded {Rules} (refusal_of_rules_text before x) (Err e)) r.0 (rules_told text (Err e) (text_fits text whole r.0 r.1) h)
+      subst (λ (x : List ℕ). Loaded {A = Rules} (refusal_of_rules_text before x) (Err e)) r.0 (rules_told text (Err e) (text_fits text whole r.0 r.1) h)
   after_told whole (Err recover.TooLong) loaded r h =
       subst (λ (x : Result (Bool × Rules) StartFault). Loaded (refusal_of_rules_text before whole) x) (sym h) (λ names. some (refusal_of_rules_text before whole) (refused_whole part.Rules) (long_file whole r))
   after_told whole (Err (recover.Failed count)) loaded r h = subst (λ (x : Result (Bool × Rules) StartFault). Loaded (refusal_of_rules_text before whole) x) (sym h) (λ names. tt)
@@ -329,11 +329,11 @@ module _ (folder : List Rule) where
 
 from_told : (texts : Option NotStarted) (outset : Outset) (loaded : Result (Bool × Rules) StartFault) (result : Result DaemonState StartFault) → Loaded texts loaded → StartsFrom outset loaded result → Loaded texts result
 from_told texts outset (Ok l) (Ok d) k h = k
-from_told texts outset (Ok l) (Err e) k h = subst (λ (x : StartFault). Loaded {DaemonState} texts (Err x)) (sym h) (λ names. tt)
+from_told texts outset (Ok l) (Err e) k h = subst (λ (x : StartFault). Loaded {A = DaemonState} texts (Err x)) (sym h) (λ names. tt)
 from_told texts outset (Err e) result k h = subst (λ (r : Result DaemonState StartFault). Loaded texts r) (sym h) k
 
 -- what is refused first stays so
-loaded_first : (first later : Option NotStarted) (e : StartFault) → Loaded {DaemonState} first (Err e) → Loaded {DaemonState} (first_refusal first later) (Err e)
+loaded_first : (first later : Option NotStarted) (e : StartFault) → Loaded {A = DaemonState} first (Err e) → Loaded {A = DaemonState} (first_refusal first later) (Err e)
 loaded_first first later e h = λ names. refused_first first later (refusal_of_start names e) (h names)
 
 cause_told : (texts : Option NotStarted) (files : List FolderFile) (result : Result DaemonState StartFault) → Loaded texts result → Told texts (with_cause files result)
@@ -345,10 +345,10 @@ principals_told texts ps (Ok d) h = h
 principals_told texts ps (Err cause) h = h
 
 -- the folder that isn't taken
-folder_told : (whole files : List FolderFile) (e : StartFault) → IsPermutation whole files → folder_length whole ≤ conf_limit → (Err e ≡ folder_rules files) ⊎ (Err {List Rule} e ≡ Err fault.Memory) → Loaded {DaemonState} (refusal_of_rule_files whole) (Err e)
+folder_told : (whole files : List FolderFile) (e : StartFault) → IsPermutation whole files → folder_length whole ≤ conf_limit → (Err e ≡ folder_rules files) ⊎ (◌≡◌ {A = Result (List Rule) StartFault} (Err e) (Err fault.Memory)) → Loaded {A = DaemonState} (refusal_of_rule_files whole) (Err e)
 folder_told whole files e same fits (inr is) =
     let memory : e ≡ fault.Memory = cc in
-    subst (λ (x : StartFault). Loaded {DaemonState} (refusal_of_rule_files whole) (Err x)) (sym memory) (λ names. tt)
+    subst (λ (x : StartFault). Loaded {A = DaemonState} (refusal_of_rule_files whole) (Err x)) (sym memory) (λ names. tt)
 folder_told whole files e same fits (inl is) = by (folder_read 0 files) refl (folder_fits files (Err e) short (sym is))
   where
     long : folder_length files ≡ folder_length whole
@@ -357,12 +357,12 @@ folder_told whole files e same fits (inl is) = by (folder_read 0 files) refl (fo
     short : folder_length files ≤ file_limit
     short = subst (λ (n : ℕ). n ≤ file_limit) (sym long) fits
 
-    by : (read : Result (List Rule) BadFile) → folder_read 0 files ≡ read → rules_of_folder read ≡ Err e → Loaded {DaemonState} (refusal_of_rule_files whole) (Err e)
+    by : (read : Result (List Rule) BadFile) → folder_read 0 files ≡ read → rules_of_folder read ≡ Err e → Loaded {A = DaemonState} (refusal_of_rule_files whole) (Err e)
     by (Ok rules) given k = let no : ⊥ = cc in absurd no
     by (Err bad) given k =
         let is_bad : fault.BadFolder bad.file bad.fault ≡ e = cc in
         let found : IsSome (refusal_of_rule_files whole) = some_unless_none (refusal_of_rule_files whole) (λ none. folder_bad 0 files bad given (good_in_order whole files same (sym (short_folder whole fits) ∙ none))) in
-        subst (λ (x : StartFault). Loaded {DaemonState} (refusal_of_rule_files whole) (Err x)) is_bad (λ names. found)
+        subst (λ (x : StartFault). Loaded {A = DaemonState} (refusal_of_rule_files whole) (Err x)) is_bad (λ names. found)
 
 -- the rules of one that is
 folder_taken : (whole files : List FolderFile) (rules : List Rule) → IsPermutation whole files → folder_length whole ≤ conf_limit → Ok rules ≡ folder_rules files → (refusal_of_rule_files whole ≡ None) × (rules_of_files whole ≡ length rules)
@@ -499,7 +499,7 @@ module _ {F Y D N W C : Type 0} (reads : F → FileStep → F → Type 0) (sysfs
   started_told outset whole files a _ _ n same fits Without_names on = (n, on, tt)
   started_told outset whole files a _ _ n same fits (Started_from result b starts) on = on_folder outset whole files a starts.folder result b n same fits starts.taken starts.starts on
 
-  opens_told : (path : List ℕ) (clock : ℕ → ℕ) (words : Stream) (f : F) (d : D) (entries : List Entry) (result : Result Started NotStarted) (g : F) (e : D) (tree : Tree) (n : Disk)
+  opens_told : (path : List ℕ) (clock : ℕ → ℕ) (words : Stream) (f : F) (d : D) (entries : List StartEntry) (result : Result Started NotStarted) (g : F) (e : D) (tree : Tree) (n : Disk)
       → Opens reads disk path clock words f d entries result g e → files_told g ≡ Some tree → disk_told e ≡ Some n
       → (m : Disk) × (disk_told d ≡ Some m) × Told (refusal_of_texts tree m.text path) result
   opens_told path clock words f d _ _ _ _ tree n (Unread cause g r) is on =
@@ -561,16 +561,16 @@ module _ {F Y D N W C : Type 0} (reads : F → FileStep → F → Type 0) (sysfs
   same_path : (p path : List ℕ) → Some p ≡ Some path → p ≡ path
   same_path p path e = cc
 
-  pub status_told : (turns : ℕ) (clock : ℕ → ℕ) (words : Stream) (f : F) (s : Objects Y D N W C) (path : Option (List ℕ)) (journal : List Entry) (sockets : AtSockets) (made : List Turned) (status : ℕ) (g : F) (t : Objects Y D N W C)
-      → Serves reads sysfs disk net wait ticks turns clock words f s path journal sockets made status g t
+  pub status_told : (turns : ℕ) (clock : ℕ → ℕ) (words : Stream) (f : F) (s : Objects Y D N W C) (path : Option (List ℕ)) (noted : List StartEntry) (sockets : AtSockets) (made : List Turned) (status : ℕ) (g : F) (t : Objects Y D N W C)
+      → Serves reads sysfs disk net wait ticks turns clock words f s path noted sockets made status g t
       → IsStatusByTexts files_told disk_told path s.disk status g t.disk
   status_told turns clock words f s _ _ _ _ _ _ _ Bad_words = λ at tree n e is on. let no : ⊥ = cc in absurd no
   status_told turns clock words f s _ _ _ _ _ _ _ (No_room path) = λ at tree n e is on. (n, on, status_for (refusal_of_texts tree n.text at) why.Memory tt)
-  status_told turns clock words f s _ _ _ _ _ _ _ (Not_started path entries cause journal g d ms opens all notes) =
+  status_told turns clock words f s _ _ _ _ _ _ _ (Not_started path entries cause g d ms opens notes) =
       λ at tree n e is on.
       let told_so = opens_told path clock words f s.disk entries (Err cause) g d tree n opens is on in
       (told_so.0, told_so.1, subst (λ (x : List ℕ). IsStatusFor (refusal_of_texts tree told_so.0.text x) (start_status cause)) (same_path path at e) (status_for (refusal_of_texts tree told_so.0.text path) cause told_so.2))
-  status_told turns clock words f s _ _ _ _ _ _ _ (Served path entries first c g d ms sockets made status t opens all notes serves) =
+  status_told turns clock words f s _ _ _ _ _ _ _ (Served path entries c g d ms sockets made status t opens notes serves) =
       λ at tree n p is on.
       let after = objects s.sysfs d s.links s.waiter s.clock ms in
       let back = started_disk turns c after sockets made status t n serves on in

@@ -7,11 +7,9 @@ use Rattle.ug_links.specs.declared.clock.Clock
 use Rattle.ug_conf.specs.Files.{FileStep}
 use Rattle.ug_store.specs.declared.disk.RuleDisk
 use Rattle.ug_kernel.specs.declared.sysfs.Sysfs
-use Rattle.ug_audit.specs.declared.entry.Entry.{Entry}
-use Rattle.ug_audit.specs.Noting.{NotesEntries, without_drops}
-use Rattle.ug_audit.proofs.Noting.{notes_on}
+use Rattle.ug_audit.specs.declared.start_entry.StartEntry.{StartEntry}
+use Rattle.ug_audit.specs.Noting.{NotesEntries, NotesStart}
 use Rattle.ug_audit.specs.Panels.{Member}
-use Rattle.ug_serve.specs.Lines.{AreNoted}
 use Rattle.ug_serve.specs.Causes.{start_status, refusal_entries}
 use Rattle.ug_serve.specs.Listening.{listening, listening_status}
 use Rattle.ug_serve.specs.Opening.{Started, Opens}
@@ -98,11 +96,11 @@ known_status n (inr (inr (inl e))) = inr (inr (inr (inr (inr (inr (inl e))))))
 known_status n (inr (inr (inr (inl e)))) = inr (inr (inr (inr (inr (inr (inr (inl e)))))))
 known_status n (inr (inr (inr (inr e)))) = absurd e
 
-tells_refusal : (fault : NotStarted) (noted journal : List Entry) → without_drops journal ≡ noted ++ refusal_entries fault → start_status fault ≡ 3 → TellsRefusal journal
-tells_refusal (why.Refused part bad) noted journal all e = (noted, part, bad, all)
-tells_refusal why.FilesFailed noted journal all e = absurd (omega (arith, e))
-tells_refusal why.Memory noted journal all e = absurd (omega (arith, e))
-tells_refusal why.DiskFailed noted journal all e = absurd (omega (arith, e))
+tells_refusal : (fault : NotStarted) (entries : List StartEntry) → start_status fault ≡ 3 → TellsRefusal (entries ++ refusal_entries fault)
+tells_refusal (why.Refused part bad) entries e = (entries, part, bad, refl)
+tells_refusal why.FilesFailed entries e = absurd (omega (arith, e))
+tells_refusal why.Memory entries e = absurd (omega (arith, e))
+tells_refusal why.DiskFailed entries e = absurd (omega (arith, e))
 
 -- none other than 0, 6 and 10, where words and texts are taken and nothing failed
 pub completes : (n : ℕ) → Has daemon_statuses n → (n ≡ 1 → ⊥) → (n ≡ 3 → ⊥) → (n ≡ 4 → ⊥) → (n ≡ 9 → ⊥) → (n ≡ 11 → ⊥) → Has (0 ∷ 6 ∷ 10 ∷ []) n
@@ -181,41 +179,43 @@ never_served = none_served [] [] [] tt tt
 module _ {F Y D N W C : Type 0} (reads : F → FileStep → F → Type 0) (sysfs : Sysfs.Ghosts Y)
     (disk : RuleDisk.Ghosts D) (net : Links.Ghosts N) (wait : Waiter.Ghosts W) (ticks : Clock.Ghosts C)
     (turns : ℕ) (clock : ℕ → ℕ) (words : Stream) (f : F) (s : Objects Y D N W C) where
-  abbrev Done : Option (List ℕ) → List Entry → AtSockets → List Turned → ℕ → F → Objects Y D N W C → Type 0
-  Done path journal sockets made status g t = Serves reads sysfs disk net wait ticks turns clock words f s path journal sockets made status g t
+  abbrev Done : Option (List ℕ) → List StartEntry → AtSockets → List Turned → ℕ → F → Objects Y D N W C → Type 0
+  Done path noted sockets made status g t = Serves reads sysfs disk net wait ticks turns clock words f s path noted sockets made status g t
 
   abbrev pub Runs : Option (List ℕ) → ℕ → F → Objects Y D N W C → Type 0
   Runs path status g t = RunsDaemon reads sysfs disk net wait ticks turns clock words f s path status g t
 
   -- ---- what follows from the cases
 
-  pub has_status : (path : Option (List ℕ)) (journal : List Entry) (sockets : AtSockets) (made : List Turned) (status : ℕ) (g : F) (t : Objects Y D N W C) → Done path journal sockets made status g t → Has daemon_statuses status
+  pub has_status : (path : Option (List ℕ)) (noted : List StartEntry) (sockets : AtSockets) (made : List Turned) (status : ℕ) (g : F) (t : Objects Y D N W C) → Done path noted sockets made status g t → Has daemon_statuses status
   has_status _ _ _ _ _ _ _ Bad_words = inr (inl refl)
   has_status _ _ _ _ _ _ _ (No_room path) = is_start_status why.Memory
-  has_status _ _ _ _ _ _ _ (Not_started path entries fault journal g d ms opens all notes) = is_start_status fault
-  has_status _ _ _ _ _ _ _ (Served path entries first c g d ms sockets made status t opens all notes serves) = known_status status (started_status sysfs disk net wait ticks turns c (objects s.sysfs d s.links s.waiter s.clock ms) sockets made status t serves)
+  has_status _ _ _ _ _ _ _ (Not_started path entries fault g d ms opens notes) = is_start_status fault
+  has_status _ _ _ _ _ _ _ (Served path entries c g d ms sockets made status t opens notes serves) = known_status status (started_status sysfs disk net wait ticks turns c (objects s.sysfs d s.links s.waiter s.clock ms) sockets made status t serves)
 
-  pub bad_words : (path : Option (List ℕ)) (journal : List Entry) (sockets : AtSockets) (made : List Turned) (status : ℕ) (g : F) (t : Objects Y D N W C) → Done path journal sockets made status g t → status ≡ 1 → path ≡ None
+  pub bad_words : (path : Option (List ℕ)) (noted : List StartEntry) (sockets : AtSockets) (made : List Turned) (status : ℕ) (g : F) (t : Objects Y D N W C) → Done path noted sockets made status g t → status ≡ 1 → path ≡ None
   bad_words _ _ _ _ _ _ _ Bad_words = λ e. refl
   bad_words _ _ _ _ _ _ _ (No_room path) = λ e. absurd (start_not_one why.Memory e)
-  bad_words _ _ _ _ _ _ _ (Not_started path entries fault journal g d ms opens all notes) = λ e. absurd (start_not_one fault e)
-  bad_words _ _ _ _ _ _ _ (Served path entries first c g d ms sockets made status t opens all notes serves) = λ e. absurd (not_one status (started_status sysfs disk net wait ticks turns c (objects s.sysfs d s.links s.waiter s.clock ms) sockets made status t serves) e)
+  bad_words _ _ _ _ _ _ _ (Not_started path entries fault g d ms opens notes) = λ e. absurd (start_not_one fault e)
+  bad_words _ _ _ _ _ _ _ (Served path entries c g d ms sockets made status t opens notes serves) = λ e. absurd (not_one status (started_status sysfs disk net wait ticks turns c (objects s.sysfs d s.links s.waiter s.clock ms) sockets made status t serves) e)
 
-  pub other_words : (path : Option (List ℕ)) (journal : List Entry) (sockets : AtSockets) (made : List Turned) (status : ℕ) (g : F) (t : Objects Y D N W C) → Done path journal sockets made status g t → path ≡ None → Has (1 ∷ 6 ∷ []) status
+  pub other_words : (path : Option (List ℕ)) (noted : List StartEntry) (sockets : AtSockets) (made : List Turned) (status : ℕ) (g : F) (t : Objects Y D N W C) → Done path noted sockets made status g t → path ≡ None → Has (1 ∷ 6 ∷ []) status
   other_words _ _ _ _ _ _ _ Bad_words = λ e. inl refl
   other_words _ _ _ _ _ _ _ (No_room path) = λ e. inr (inl refl)
-  other_words _ _ _ _ _ _ _ (Not_started path entries fault journal g d ms opens all notes) = λ e. let no : ⊥ = cc in absurd no
-  other_words _ _ _ _ _ _ _ (Served path entries first c g d ms sockets made status t opens all notes serves) = λ e. let no : ⊥ = cc in absurd no
+  other_words _ _ _ _ _ _ _ (Not_started path entries fault g d ms opens notes) = λ e. let no : ⊥ = cc in absurd no
+  other_words _ _ _ _ _ _ _ (Served path entries c g d ms sockets made status t opens notes serves) = λ e. let no : ⊥ = cc in absurd no
 
   -- ---- the runs
 
   pub runs_without_words : Runs None 1 f s
   runs_without_words = record {
-    journal = [];
+    start = [];
     sockets = no_sockets;
     made = [];
     serves = Bad_words;
-    noted = (refl, refl);
+    between = s.members;
+    start_noted = refl;
+    turns_noted = (refl, refl);
     all_made = λ e. absurd (omega (arith, e));
     told_refused = λ e. absurd (omega (arith, e));
     access = tt;
@@ -225,11 +225,13 @@ module _ {F Y D N W C : Type 0} (reads : F → FileStep → F → Type 0) (sysfs
 
   pub runs_without_room : (path : Option (List ℕ)) (status : ℕ) → status ≡ start_status why.Memory → Runs path status f s
   runs_without_room path status is = subst (λ (n : ℕ). Runs path n f s) (sym is) (record {
-    journal = [];
+    start = [];
     sockets = no_sockets;
     made = [];
     serves = No_room path;
-    noted = (refl, refl);
+    between = s.members;
+    start_noted = refl;
+    turns_noted = (refl, refl);
     all_made = λ e. absurd (omega (arith, e));
     told_refused = λ e. absurd (omega (arith, e));
     access = tt;
@@ -237,36 +239,40 @@ module _ {F Y D N W C : Type 0} (reads : F → FileStep → F → Type 0) (sysfs
     sessions = λ h. never_served;
   })
 
-  pub runs_refused : (path : List ℕ) (entries : List Entry) (fault : NotStarted) (g : F) (d : D) (ms ns : List Member) (status : ℕ)
+  pub runs_refused : (path : List ℕ) (entries : List StartEntry) (fault : NotStarted) (g : F) (d : D) (ms ns : List Member) (status : ℕ)
       → Opens reads disk path clock words f s.disk entries (Err fault) g d
-      → AreNoted entries s.members ms → AreNoted (refusal_entries fault) ms ns → status ≡ start_status fault
+      → NotesStart entries s.members ms → NotesStart (refusal_entries fault) ms ns → status ≡ start_status fault
       → Runs (Some path) status g (objects s.sysfs d s.links s.waiter s.clock ns)
   runs_refused path entries fault g d ms ns status opens noted refused is =
       let all = both_noted entries (refusal_entries fault) s.members ms ns noted refused in
       subst (λ (n : ℕ). Runs (Some path) n g (objects s.sysfs d s.links s.waiter s.clock ns)) (sym is) (record {
-        journal = all.noted;
+        start = entries ++ refusal_entries fault;
         sockets = no_sockets;
         made = [];
-        serves = Not_started path entries fault all.noted g d ns opens all.all all.notes;
-        noted = all.notes;
+        serves = Not_started path entries fault g d ns opens all;
+        between = ns;
+        start_noted = all;
+        turns_noted = (refl, refl);
         all_made = λ e. absurd (start_not_zero fault e);
-        told_refused = tells_refusal fault entries all.noted all.all;
+        told_refused = tells_refusal fault entries;
         access = tt;
         calls = refl;
         sessions = λ h. never_served;
       })
 
-  pub runs_served : (path : List ℕ) (entries : List Entry) (c : Started) (g : F) (d : D) (ms : List Member) (sockets : AtSockets) (made : List Turned) (status : ℕ) (t : Objects Y D N W C)
+  pub runs_served : (path : List ℕ) (entries : List StartEntry) (c : Started) (g : F) (d : D) (ms : List Member) (sockets : AtSockets) (made : List Turned) (status : ℕ) (t : Objects Y D N W C)
       → Opens reads disk path clock words f s.disk entries (Ok c) g d
-      → AreNoted entries s.members ms
+      → NotesStart entries s.members ms
       → ServesStarted sysfs disk net wait ticks turns c (objects s.sysfs d s.links s.waiter s.clock ms) sockets made status t
       → Runs (Some path) status g t
   runs_served path entries c g d ms sockets made status t opens noted serves = record {
-    journal = noted.noted ++ turns_entries made;
+    start = entries;
     sockets = sockets;
     made = made;
-    serves = Served path entries noted.noted c g d ms sockets made status t opens noted.all noted.notes serves;
-    noted = notes_on [] noted.noted (turns_entries made) s.members ms t.members [] [] noted.notes (started_noted sysfs disk net wait ticks turns c (objects s.sysfs d s.links s.waiter s.clock ms) sockets made status t serves);
+    serves = Served path entries c g d ms sockets made status t opens noted serves;
+    between = ms;
+    start_noted = noted;
+    turns_noted = started_noted sysfs disk net wait ticks turns c (objects s.sysfs d s.links s.waiter s.clock ms) sockets made status t serves;
     all_made = started_all sysfs disk net wait ticks turns c (objects s.sysfs d s.links s.waiter s.clock ms) sockets made status t serves;
     access = started_access sysfs disk net wait ticks turns c (objects s.sysfs d s.links s.waiter s.clock ms) sockets made status t serves;
     calls = started_calls sysfs disk net wait ticks turns c (objects s.sysfs d s.links s.waiter s.clock ms) sockets made status t serves;

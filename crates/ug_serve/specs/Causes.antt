@@ -3,10 +3,10 @@ use Rattle.std.specs.Prelude.{ℕ, List, [], ◌∷◌, Option, Some, None, if�
 use Rattle.ug_types.specs.declared.text_fault.FileFault.{FileFault}
 use Rattle.ug_types.specs.declared.text_fault.FileFault.TheVariants as file
 use Rattle.ug_conf.specs.FolderFiles.{is_rule_file_name}
-use Rattle.ug_audit.specs.declared.entry.Entry.{Entry}
-use Rattle.ug_audit.specs.declared.entry.Entry.TheVariants as entry
-use Rattle.ug_audit.specs.declared.entry.ConfigPart.{ConfigPart}
-use Rattle.ug_audit.specs.declared.entry.ConfigPart.TheVariants as part
+use Rattle.ug_audit.specs.declared.start_entry.ConfigPart.{ConfigPart}
+use Rattle.ug_audit.specs.declared.start_entry.ConfigPart.TheVariants as part
+use Rattle.ug_audit.specs.declared.start_entry.StartEntry.{StartEntry}
+use Rattle.ug_audit.specs.declared.start_entry.StartEntry.TheVariants as entry
 use Rattle.ug_core.specs.declared.start_fault.StartFault.{StartFault}
 use Rattle.ug_core.specs.declared.start_fault.StartFault.TheVariants as fault
 use Rattle.ug_serve.specs.declared.not_started.NotStarted.{NotStarted}
@@ -29,8 +29,8 @@ start_status why.Memory = 6
 start_status why.DiskFailed = 9
 
 -- what is noted of a part that isn't taken
-abbrev pub refusal_entries : NotStarted → List Entry
-refusal_entries (why.Refused what bad) = entry.StartRefused what bad.line bad.kind bad.place ∷ []
+abbrev pub refusal_entries : NotStarted → List StartEntry
+refusal_entries (why.Refused what bad) = entry.Refused what bad.line bad.kind bad.place ∷ []
 refusal_entries why.FilesFailed = []
 refusal_entries why.DiskFailed = []
 refusal_entries why.Memory = []

@@ -8,7 +8,7 @@ use Rattle.ug_conf.specs.declared.files.FileRead.TheVariants as file
 use Rattle.ug_conf.specs.declared.files.FolderRead.{FolderRead}
 use Rattle.ug_conf.specs.declared.files.FolderRead.TheVariants as found
 use Rattle.ug_conf.specs.declared.folder_file.FolderFile.{FolderFile}
-use Rattle.ug_audit.specs.declared.entry.ConfigPart.TheVariants as part
+use Rattle.ug_audit.specs.declared.start_entry.ConfigPart.TheVariants as part
 use Rattle.ug_serve.specs.Access.{AreInByteOrder, ReadsBehind, path_in}
 use Rattle.ug_serve.specs.Causes.{refused_whole}
 use Rattle.ug_serve.specs.declared.not_started.NotStarted.{NotStarted}

@@ -1,4 +1,3 @@
-pub mod Lines
 pub mod Responses
 pub mod Turns
 pub mod Telling

@@ -11,9 +11,9 @@ use Rattle.ug_conf.specs.declared.files.FileRead.TheVariants as file
 use Rattle.ug_conf.specs.declared.folder_file.FolderFile.{FolderFile}
 use Rattle.ug_conf.specs.declared.settings.Settings.{Settings}
 use Rattle.ug_store.specs.declared.disk.RuleDisk
-use Rattle.ug_audit.specs.declared.entry.Entry.{Entry}
-use Rattle.ug_audit.specs.declared.entry.Entry.TheVariants as entry
-use Rattle.ug_audit.specs.declared.entry.ConfigPart.TheVariants as part
+use Rattle.ug_audit.specs.declared.start_entry.ConfigPart.TheVariants as part
+use Rattle.ug_audit.specs.declared.start_entry.StartEntry.{StartEntry}
+use Rattle.ug_audit.specs.declared.start_entry.StartEntry.TheVariants as entry
 use Rattle.ug_core.specs.Event.{DaemonState}
 use Rattle.ug_core.specs.Settings.{classes_of, hub_default}
 use Rattle.ug_core.specs.Starting.{Outset, Starts}
@@ -27,7 +27,7 @@ use Rattle.ug_serve.specs.declared.not_started.NotStarted.{NotStarted}
 use Rattle.ug_serve.specs.declared.not_started.NotStarted.TheVariants as why
 
 -- what is noted of the settings' lines whose keys aren't used
-abbrev pub unused_entries : List ℕ → List Entry
+abbrev pub unused_entries : List ℕ → List StartEntry
 unused_entries lines = map (λ line. entry.UnusedKey line) lines
 
 -- the settings of a text, or its first bad line
@@ -117,7 +117,7 @@ pub record IsAimed {D : Type 0} (disk : RuleDisk.Ghosts D) (path : List ℕ) (s 
 -- settings' lines that aren't used, once they are read.
 pub data Opens {F D : Type 0} (reads : F → FileStep → F → Type 0) (disk : RuleDisk.Ghosts D)
     (path : List ℕ) (clock : ℕ → ℕ) (words : Stream) (f : F) (d : D)
-    : List Entry → Result Started NotStarted → F → D → Type 0 where
+    : List StartEntry → Result Started NotStarted → F → D → Type 0 where
   Unread : (cause : NotStarted) (g : F) → ReadsSettings reads path f (Err cause) g
       → Opens reads disk path clock words f d [] (Err cause) g d
   Access_unread : (settings : Settings) (cause : NotStarted) (g h : F)

@@ -17,7 +17,7 @@ use Rattle.ug_conf.specs.declared.folder_file.FolderFile.{FolderFile}
 use Rattle.ug_conf.specs.declared.settings.Settings.{Settings}
 use Rattle.ug_store.specs.Disk.{Disk}
 use Rattle.ug_store.specs.DiskCalls.{file_limit}
-use Rattle.ug_audit.specs.declared.entry.ConfigPart.TheVariants as part
+use Rattle.ug_audit.specs.declared.start_entry.ConfigPart.TheVariants as part
 use Rattle.ug_serve.specs.Access.{path_in, refused_name}
 use Rattle.ug_serve.specs.Causes.{part_of_file, refused_whole}
 use Rattle.ug_serve.specs.Folders.{folder_file}

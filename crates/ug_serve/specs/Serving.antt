@@ -9,10 +9,10 @@ use Rattle.ug_conf.specs.Files.{FileStep}
 use Rattle.ug_store.specs.declared.disk.RuleDisk
 use Rattle.ug_kernel.specs.declared.sysfs.Sysfs
 use Rattle.ug_acl.specs.Acls.{Addition}
-use Rattle.ug_audit.specs.declared.entry.ConfigPart.{ConfigPart}
-use Rattle.ug_audit.specs.declared.entry.Entry.{Entry}
-use Rattle.ug_audit.specs.declared.entry.Entry.TheVariants as entry
-use Rattle.ug_audit.specs.Noting.{NotesEntries, without_drops}
+use Rattle.ug_audit.specs.declared.start_entry.ConfigPart.{ConfigPart}
+use Rattle.ug_audit.specs.declared.start_entry.StartEntry.{StartEntry}
+use Rattle.ug_audit.specs.declared.start_entry.StartEntry.TheVariants as entry
+use Rattle.ug_audit.specs.Noting.{NotesEntries, NotesStart}
 use Rattle.ug_audit.specs.Panels.{Member}
 use Rattle.ug_serve.specs.Causes.{start_status, refusal_entries}
 use Rattle.ug_serve.specs.Listening.{listening, listening_status}
@@ -109,69 +109,69 @@ pub data ServesStarted {Y D N W C : Type 0} (sysfs : Sysfs.Ghosts Y) (disk : Rul
       → ServesStarted sysfs disk net wait ticks turns c s
       (at_sockets c steps w.server) made (turns_status ended) (objects_of w)
 
--- The daemon from its words, with the journal's entries, the turns that it made and the exit
+-- The daemon from its words, with the entries of its start, the turns that it made and the exit
 -- status. Other words than a path's do nothing, and neither does a daemon that has no room for its
--- words or its first entries. A start that isn't done is noted, where a part isn't taken, and its
--- cause is the status. Else it listens and makes turns, from what the start left. Beside what the
--- start and the turns note, the journal has the `dropped` entries.
+-- words. A start that isn't done is noted, where a part isn't taken, and its cause is the status.
+-- Else it listens and makes turns, from what the start left.
 pub data Serves {F Y D N W C : Type 0} (reads : F → FileStep → F → Type 0)
     (sysfs : Sysfs.Ghosts Y) (disk : RuleDisk.Ghosts D)
     (net : Links.Ghosts N) (wait : Waiter.Ghosts W) (ticks : Clock.Ghosts C)
     (turns : ℕ) (clock : ℕ → ℕ) (words : Stream) (f : F) (s : Objects Y D N W C)
-    : Option (List ℕ) → List Entry → AtSockets → List Turned → ℕ → F → Objects Y D N W C
+    : Option (List ℕ) → List StartEntry → AtSockets → List Turned → ℕ → F → Objects Y D N W C
     → Type 0 where
   Bad_words : Serves reads sysfs disk net wait ticks turns clock words f s
       None [] no_sockets [] 1 f s
   No_room : (path : Option (List ℕ))
       → Serves reads sysfs disk net wait ticks turns clock words f s
       path [] no_sockets [] (start_status Memory) f s
-  Not_started : (path : List ℕ) (entries : List Entry) (fault : NotStarted)
-      (journal : List Entry) (g : F) (d : D) (ms : List Member)
+  Not_started : (path : List ℕ) (entries : List StartEntry) (fault : NotStarted)
+      (g : F) (d : D) (ms : List Member)
       → Opens reads disk path clock words f s.disk entries (Err fault) g d
-      → without_drops journal ≡ entries ++ refusal_entries fault
-      → NotesEntries journal s.members ms
+      → NotesStart (entries ++ refusal_entries fault) s.members ms
       → Serves reads sysfs disk net wait ticks turns clock words f s
-      (Some path) journal no_sockets [] (start_status fault)
+      (Some path) (entries ++ refusal_entries fault) no_sockets [] (start_status fault)
       g (objects s.sysfs d s.links s.waiter s.clock ms)
-  Served : (path : List ℕ) (entries first : List Entry) (c : Started) (g : F) (d : D)
+  Served : (path : List ℕ) (entries : List StartEntry) (c : Started) (g : F) (d : D)
       (ms : List Member) (sockets : AtSockets) (made : List Turned) (status : ℕ)
       (t : Objects Y D N W C)
       → Opens reads disk path clock words f s.disk entries (Ok c) g d
-      → without_drops first ≡ entries
-      → NotesEntries first s.members ms
+      → NotesStart entries s.members ms
       → ServesStarted sysfs disk net wait ticks turns c
       (objects s.sysfs d s.links s.waiter s.clock ms) sockets made status t
       → Serves reads sysfs disk net wait ticks turns clock words f s
-      (Some path) (first ++ turns_entries made) sockets made status g t
+      (Some path) entries sockets made status g t
 
--- a part isn't taken, and the journal's last line tells which, with the first line that is bad
-abbrev pub TellsRefusal : List Entry → Type 0
-TellsRefusal journal =
-    (noted : List Entry) × (part : ConfigPart) × (bad : TextFault)
-    × (without_drops journal ≡ noted ++ entry.StartRefused part bad.line bad.kind bad.place ∷ [])
+-- a part isn't taken, and the last entry of the start tells which, with the first line that is bad
+abbrev pub TellsRefusal : List StartEntry → Type 0
+TellsRefusal noted =
+    (before : List StartEntry) × (part : ConfigPart) × (bad : TextFault)
+    × (noted ≡ before ++ entry.Refused part bad.line bad.kind bad.place ∷ [])
 
 -- The calls of the links in a run, in order: those by which they were asked to listen, and those of
 -- its turns.
 abbrev pub run_calls : AtSockets → List Turned → List LinkStep
 run_calls sockets made = sockets.asked ++ turns_calls made
 
--- A run of the daemon: its journal, which the auditors were given, and its turns. With status 0 all
--- of them were made, and with 3 the journal tells what isn't taken. Who may do what stays as the
--- start left it. Where the calls of the links have answers that new links may give, the turns
--- served the sessions, whatever the status.
+-- A run of the daemon: the entries of its start, and its turns. The auditors were given the former
+-- and then the entries of the turns: that is the journal. With status 0 all turns were made, and
+-- with 3 the journal tells what isn't taken. Who may do what stays as the start left it. Where the
+-- calls of the links have answers that new links may give, the turns served the sessions, whatever
+-- the status.
 pub record RunsDaemon {F Y D N W C : Type 0} (reads : F → FileStep → F → Type 0)
     (sysfs : Sysfs.Ghosts Y) (disk : RuleDisk.Ghosts D)
     (net : Links.Ghosts N) (wait : Waiter.Ghosts W) (ticks : Clock.Ghosts C)
     (turns : ℕ) (clock : ℕ → ℕ) (words : Stream) (f : F) (s : Objects Y D N W C)
     (path : Option (List ℕ)) (status : ℕ) (g : F) (t : Objects Y D N W C) : Type 0 where
-  pub journal : List Entry
+  pub start : List StartEntry
   pub sockets : AtSockets
   pub made : List Turned
   pub serves : Serves reads sysfs disk net wait ticks turns clock words f s
-      path journal sockets made status g t
-  pub noted : NotesEntries journal s.members t.members
+      path start sockets made status g t
+  pub between : List Member
+  pub start_noted : NotesStart start s.members between
+  pub turns_noted : NotesEntries (turns_entries made) between t.members
   pub all_made : status ≡ 0 → length made ≡ turns
-  pub told_refused : status ≡ 3 → TellsRefusal journal
+  pub told_refused : status ≡ 3 → TellsRefusal start
   pub access : HaveAccess sockets.access (turns_events made)
   pub calls : Makes net.gives s.links (run_calls sockets made) t.links
   pub sessions : AreSteps [] (run_calls sockets made)

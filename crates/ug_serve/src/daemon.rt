@@ -1,5 +1,5 @@
 // The top call of the daemon.
-ghost use Rattle.std.specs.Prelude.{◌≡◌, ◌⊎◌, ◌≤◌, ◌<◌, ◌^◌, List, [], ◌∷◌, length, map, Some, None};
+ghost use Rattle.std.specs.Prelude.{◌≡◌, ◌⊎◌, ◌<◌, ◌^◌, List, [], ◌∷◌, length, map, Some, None};
 ghost use Rattle.ug_types.specs.Elements.{Has};
 ghost use Rattle.ug_types.specs.Ends.{Rose};
 ghost use Rattle.ug_audit.specs.Journal.{members};
@@ -14,13 +14,13 @@ ghost use Rattle.ug_arguments.specs.Commands.{settings_path};
 
 use crate::listening::listen_for_all;
 use crate::not_started::NotStarted;
-use crate::noting::{entries_of_start, note_refusal};
+use crate::noting::note_refusal;
 use crate::start::{Started, start};
 use crate::turn::{TurnEnd, serve_turns};
 use jiff::tz::TimeZone;
 use std::alloc::Global;
 use ug_arguments::{WordsFault, read_daemon_words};
-use ug_audit::{Auditor, Entries, Panel};
+use ug_audit::{Auditor, Panel};
 use ug_conf::ConfFiles;
 use ug_kernel::Sysfs;
 use ug_links::{Clock, Links, Waiter};
@@ -82,47 +82,6 @@ fn serve_started<Y: Sysfs, D: RuleDisk, N: Links, W: Waiter, C: Clock>(
     }
 }
 
-/// The daemon with the settings at that path, and with room for an entry of its start.
-fn serve_from<Y: Sysfs, D: RuleDisk, F: ConfFiles, N: Links, W: Waiter, C: Clock>(
-    alloc: Global,
-    path: &[u8],
-    seed: [u8; 32],
-    zone: TimeZone<'_>,
-    sysfs: &mut Y,
-    disk: &mut D,
-    files: &mut F,
-    links: &mut N,
-    waiter: &mut W,
-    clock: &mut C,
-    panel: &mut Panel,
-    entries: &mut Entries,
-    turns: u64,
-) -> u8
-    requires { 65 ≤ entries.old.room }
-    ensures runs { RunsDaemon F.gives Y.Sysfs D.RuleDisk N.Links W.Waiter C.Clock turns
-        (clock_of zone.entry) (words_of_seed seed)
-        files.old (objects sysfs.old disk.old links.old waiter.old clock.old
-        (members (λ b. ⟦<dyn Auditor as Auditor>⟧ b.vtable) panel.old))
-        (Some path.now) result
-        files.new (objects sysfs.new disk.new links.new waiter.new clock.new
-        (members (λ b. ⟦<dyn Auditor as Auditor>⟧ b.vtable) panel.new)) }
-    ensures files_failed { result ≡ 4 → Rose (F.faults files.old) (F.faults files.new) }
-    ensures disk_failed { result ≡ 9 → Rose (D.faults disk.old) (D.faults disk.new) }
-    ensures wait_failed { result ≡ 11 → Rose (N.faults links.old) (N.faults links.new)
-        ⊎ Rose (W.faults waiter.old) (W.faults waiter.new) }
-{
-    match start(alloc, path, seed, zone, disk, files, panel, entries) {
-        Ok(first) => serve_started(
-            alloc, first, sysfs, disk, links, waiter, clock, panel, turns,
-        ),
-        Err(why) => {
-            let status = why.status();
-            note_refusal(panel, entries, why);
-            status
-        }
-    }
-}
-
 /// The daemon with the settings at that path.
 fn serve<Y: Sysfs, D: RuleDisk, F: ConfFiles, N: Links, W: Waiter, C: Clock>(
     alloc: Global,
@@ -150,32 +109,24 @@ fn serve<Y: Sysfs, D: RuleDisk, F: ConfFiles, N: Links, W: Waiter, C: Clock>(
     ensures wait_failed { result ≡ 11 → Rose (N.faults links.old) (N.faults links.new)
         ⊎ Rose (W.faults waiter.old) (W.faults waiter.new) }
 {
-    match entries_of_start(alloc) {
-        Ok(mut entries) => serve_from(
-            alloc,
-            path,
-            seed,
-            zone,
-            sysfs,
-            disk,
-            files,
-            links,
-            waiter,
-            clock,
-            panel,
-            &mut entries,
-            turns,
+    match start(alloc, path, seed, zone, disk, files, panel) {
+        Ok(first) => serve_started(
+            alloc, first, sysfs, disk, links, waiter, clock, panel, turns,
         ),
-        Err(_) => NotStarted::Memory.status(),
+        Err(why) => {
+            let status = why.status();
+            note_refusal(panel, why);
+            status
+        }
     }
 }
 
 /// The daemon. The words are those of the command line behind `daemon`: `--conf PATH` names the settings, or none, which are then those
-/// of `/etc/usbguard/usbguard-daemon.conf`. It reads the settings and the access files, starts from the rule file that the settings name,
-/// listens for each user and group that may do something, in byte order, and makes that many turns. The status is 0; 1 for other words;
-/// 3 where the settings' file is absent, or settings, access files or rules aren't taken; 4 where a file of the configuration couldn't be
-/// read; 6 for want of memory before the first turn; 9 where the rule file couldn't be read; 10 where the numbers leave no room for an
-/// event; 11 where a listener couldn't be had, or a wait failed. The auditors are given the journal.
+/// of `/etc/usbguard/usbguard-daemon.conf`. It reads the settings, the access files and the folder of rules, starts from that folder and the
+/// rule file that the settings name, listens for each user and group that may do something, in byte order, and makes that many turns. The
+/// status is 0; 1 for other words; 3 where the settings' file is absent, or settings, access files or rules aren't taken; 4 where a file of
+/// the configuration couldn't be read; 6 for want of memory before the first turn; 9 where the rule file couldn't be read; 10 where the
+/// numbers leave no room for an event; 11 where a listener couldn't be had, or a wait failed. The auditors are given the journal.
 pub fn run_daemon<Y: Sysfs, D: RuleDisk, F: ConfFiles, N: Links, W: Waiter, C: Clock>(
     alloc: Global,
     words: &[&str],

@@ -4,6 +4,7 @@ ghost use Rattle.std.specs.List.{filter};
 ghost use Rattle.ug_types.specs.Ends.{IsCounted, Rose};
 ghost use Rattle.ug_conf.specs.Files.{conf_limit};
 ghost use Rattle.ug_conf.specs.FolderFiles.{folder_length, is_rule_file_name};
+ghost use Rattle.ug_core.specs.Starting.{AreAscending};
 ghost use Rattle.ug_store.specs.Store.{seen_by};
 ghost use Rattle.ug_serve.specs.Access.{AreInByteOrder};
 ghost use Rattle.ug_serve.specs.Folders.{AddsFile, ReadsRuleFile, ReadsFiles, ReadsRules, ReadsRulesIn, ReadsText, text_given};
@@ -134,6 +135,7 @@ fn read_listed<F: ConfFiles>(
     files: &mut F,
 ) -> Result<List<FolderFile>, NotStarted>
     ensures reads { ReadsRulesIn F.gives folder.now files.old result files.new }
+    ensures ascend { IfOk result AreAscending }
     ensures counted { F.faults files.old ≤ F.faults files.new }
     ensures cause { result ≡ Err FilesFailed → Rose (F.faults files.old) (F.faults files.new) }
     ensures not_disk { ¬ (result ≡ Err DiskFailed) }
@@ -157,6 +159,7 @@ pub fn read_folder<F: ConfFiles>(
     files: &mut F,
 ) -> Result<List<FolderFile>, NotStarted>
     ensures reads { ReadsRules F.gives folder.now files.old result files.new }
+    ensures ascend { IfOk result AreAscending }
     ensures counted { F.faults files.old ≤ F.faults files.new }
     ensures cause { result ≡ Err FilesFailed → Rose (F.faults files.old) (F.faults files.new) }
     ensures not_disk { ¬ (result ≡ Err DiskFailed) }

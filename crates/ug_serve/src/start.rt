@@ -3,11 +3,11 @@ ghost use Rattle.std.specs.Prelude.{◌≡◌, ◌≤◌, ◌<◌, ◌^◌, List
 ghost use Rattle.ug_types.specs.Ends.{Rose};
 ghost use Rattle.ug_store.specs.Store.{seen_by};
 ghost use Rattle.ug_audit.specs.Journal.{members};
-ghost use Rattle.ug_audit.specs.declared.entry.Entry.{Entry};
+ghost use Rattle.ug_audit.specs.Noting.{NotesStart};
+ghost use Rattle.ug_audit.specs.declared.start_entry.StartEntry.{StartEntry};
 ghost use Rattle.ug_core.specs.Event.{daemon_of};
 ghost use Rattle.ug_core.specs.Policy.{clock_of};
-ghost use Rattle.ug_serve.specs.Lines.{AreNoted};
-ghost use Rattle.ug_core.specs.Starting.{Starts};
+ghost use Rattle.ug_core.specs.Starting.{AreAscending, Starts};
 ghost use Rattle.ug_serve.specs.Opening.{Opens, StartsDaemon, outset_of, started, words_of_seed};
 ghost use Rattle.ug_serve.specs.declared.not_started.NotStarted.TheVariants.{FilesFailed, DiskFailed};
 
@@ -21,7 +21,7 @@ use rand_chacha::ChaCha20Rng;
 use rand_core::SeedableRng;
 use std::alloc::Global;
 use ug_acl::Acl;
-use ug_audit::{Auditor, Entries, Panel};
+use ug_audit::{Auditor, Panel};
 use ug_conf::{ConfFiles, FolderFile, Settings};
 use ug_core::{Daemon, StartFault};
 use ug_store::RuleDisk;
@@ -55,6 +55,7 @@ fn start_from<'z, D: RuleDisk>(
     folder: List<FolderFile>,
     disk: &mut D,
 ) -> Result<Daemon<'z, ChaCha20Rng>, StartFault>
+    requires { AreAscending folder }
     ensures starts { Starts D.keeps D.told D.faults
         (outset_of settings acl (clock_of zone.entry) (words_of_seed seed)) folder
         disk.old (seen_by (λ d. daemon_of d) result) disk.new }
@@ -73,6 +74,7 @@ fn start_daemon<'z, D: RuleDisk>(
     folder: List<FolderFile>,
     disk: &mut D,
 ) -> Result<Daemon<'z, ChaCha20Rng>, NotStarted>
+    requires { AreAscending folder }
     ensures starts { StartsDaemon D.RuleDisk
         (outset_of settings acl (clock_of zone.entry) (words_of_seed seed)) folder
         disk.old (seen_by (λ d. daemon_of d) result) disk.new }
@@ -86,8 +88,8 @@ fn start_daemon<'z, D: RuleDisk>(
     }
 }
 
-/// Reads the settings at that path, and starts a daemon from the folder of rules and the rule file that they name. The auditors note the start's entries, but
-/// for that of a part that isn't taken.
+/// Reads the settings at that path, and starts a daemon from the folder of rules and the rule file that they name. The auditors note the
+/// start's entries, but for that of a part that isn't taken.
 pub fn start<'z, F: ConfFiles, D: RuleDisk>(
     alloc: Global,
     path: &[u8],
@@ -96,23 +98,20 @@ pub fn start<'z, F: ConfFiles, D: RuleDisk>(
     disk: &mut D,
     files: &mut F,
     panel: &mut Panel,
-    entries: &mut Entries,
 ) -> Result<Started<'z>, NotStarted>
-    requires { 65 ≤ entries.old.room }
-    ensures room { entries.new.room ≡ entries.old.room }
     ensures few { IfOk result (λ s. length s.principals < 2 ^ 32) }
-    ensures starts { (told : List Entry)
+    ensures starts { (told : List StartEntry)
         × Opens F.gives D.RuleDisk path.now (clock_of zone.entry) (words_of_seed seed)
         files.old disk.old told (seen_by (λ s. started s.principals (daemon_of s.daemon)) result)
         files.new disk.new
-        × AreNoted told (members (λ b. ⟦<dyn Auditor as Auditor>⟧ b.vtable) panel.old)
+        × NotesStart told (members (λ b. ⟦<dyn Auditor as Auditor>⟧ b.vtable) panel.old)
         (members (λ b. ⟦<dyn Auditor as Auditor>⟧ b.vtable) panel.new) }
     ensures files_cause { result ≡ Err FilesFailed
         → Rose (F.faults files.old) (F.faults files.new) }
     ensures disk_cause { result ≡ Err DiskFailed → Rose (D.faults disk.old) (D.faults disk.new) }
 {
     let settings = read_settings(alloc, path, files)?;
-    note_unused(panel, entries, settings.unused.as_slice());
+    note_unused(panel, settings.unused.as_slice());
     let access = read_access(alloc, &settings, files)?;
     let folder = read_folder(alloc, settings.rule_folder.bytes(), files)?;
     disk.aim(alloc, settings.rule_file.bytes())?;

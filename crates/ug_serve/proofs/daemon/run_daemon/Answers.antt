@@ -57,7 +57,7 @@ returns-in-Err-Memory-clause-refused g c =
     c.args.turns (clock_of c.args.zone) (words_of_seed c.args.seed) c.args.files.now (objects c.args.sysfs.now c.args.disk.now c.args.links.now c.args.waiter.now c.args.clock.now (members (λ b. goal.Auditor-dyn g (b.vtable, b.value)) c.args.panel.now)) (settings_path (map (λ (w : Bor (List ℕ)). w.now) c.args.words.now)) c.status.result c.status.ensures in
     status_told g.F.ConfFiles.gives g.Y.Sysfs g.D.RuleDisk g.N.Links g.W.Waiter g.C.Clock
     g.F.ConfFiles.told g.met.F.ConfFiles.tells c.args.turns (clock_of c.args.zone) (words_of_seed c.args.seed) c.args.files.now (objects c.args.sysfs.now c.args.disk.now c.args.links.now c.args.waiter.now c.args.clock.now (members (λ b. goal.Auditor-dyn g (b.vtable, b.value)) c.args.panel.now))
-    (settings_path (map (λ (w : Bor (List ℕ)). w.now) c.args.words.now)) r.journal r.sockets r.made c.status.result c.args.files.now (objects c.args.sysfs.now c.args.disk.now c.args.links.now c.args.waiter.now c.args.clock.now (members (λ b. goal.Auditor-dyn g (b.vtable, b.value)) c.args.panel.now)) r.serves
+    (settings_path (map (λ (w : Bor (List ℕ)). w.now) c.args.words.now)) r.start r.sockets r.made c.status.result c.args.files.now (objects c.args.sysfs.now c.args.disk.now c.args.links.now c.args.waiter.now c.args.clock.now (members (λ b. goal.Auditor-dyn g (b.vtable, b.value)) c.args.panel.now)) r.serves
 
 pub returns-in-Err-Memory-clause-complete : goal.returns-in-Err-Memory-clause-complete
 returns-in-Err-Memory-clause-complete g c = λ words taken files disk links waiter. inr (inl (sym c.status.ensures))
@@ -77,7 +77,7 @@ returns-in-Ok-clause-statuses g c =
     let r = subst (λ (p : Option (List ℕ)). Runs g.F.ConfFiles.gives g.Y.Sysfs g.D.RuleDisk g.N.Links g.W.Waiter g.C.Clock c.args.turns (clock_of c.args.zone) (words_of_seed c.args.seed) c.args.files.now (objects c.args.sysfs.now c.args.disk.now c.args.links.now c.args.waiter.now c.args.clock.now (members (λ b. goal.Auditor-dyn g (b.vtable, b.value)) c.args.panel.now)) p c.serve.result c.serve.new.files (objects c.serve.new.sysfs c.serve.new.disk c.serve.new.links c.serve.new.waiter c.serve.new.clock (members (λ b. goal.Auditor-dyn g (b.vtable, b.value)) c.serve.new.panel))) path c.serve.ensures.runs in
     has_status g.F.ConfFiles.gives g.Y.Sysfs g.D.RuleDisk g.N.Links g.W.Waiter g.C.Clock
     c.args.turns (clock_of c.args.zone) (words_of_seed c.args.seed) c.args.files.now (objects c.args.sysfs.now c.args.disk.now c.args.links.now c.args.waiter.now c.args.clock.now (members (λ b. goal.Auditor-dyn g (b.vtable, b.value)) c.args.panel.now))
-    (settings_path (map (λ (w : Bor (List ℕ)). w.now) c.args.words.now)) r.journal r.sockets r.made c.serve.result c.serve.new.files (objects c.serve.new.sysfs c.serve.new.disk c.serve.new.links c.serve.new.waiter c.serve.new.clock (members (λ b. goal.Auditor-dyn g (b.vtable, b.value)) c.serve.new.panel)) r.serves
+    (settings_path (map (λ (w : Bor (List ℕ)). w.now) c.args.words.now)) r.start r.sockets r.made c.serve.result c.serve.new.files (objects c.serve.new.sysfs c.serve.new.disk c.serve.new.links c.serve.new.waiter c.serve.new.clock (members (λ b. goal.Auditor-dyn g (b.vtable, b.value)) c.serve.new.panel)) r.serves
 
 pub returns-in-Ok-clause-bad_words : goal.returns-in-Ok-clause-bad_words
 returns-in-Ok-clause-bad_words g c =
@@ -85,7 +85,7 @@ returns-in-Ok-clause-bad_words g c =
     let r = subst (λ (p : Option (List ℕ)). Runs g.F.ConfFiles.gives g.Y.Sysfs g.D.RuleDisk g.N.Links g.W.Waiter g.C.Clock c.args.turns (clock_of c.args.zone) (words_of_seed c.args.seed) c.args.files.now (objects c.args.sysfs.now c.args.disk.now c.args.links.now c.args.waiter.now c.args.clock.now (members (λ b. goal.Auditor-dyn g (b.vtable, b.value)) c.args.panel.now)) p c.serve.result c.serve.new.files (objects c.serve.new.sysfs c.serve.new.disk c.serve.new.links c.serve.new.waiter c.serve.new.clock (members (λ b. goal.Auditor-dyn g (b.vtable, b.value)) c.serve.new.panel))) path c.serve.ensures.runs in
     bad_words g.F.ConfFiles.gives g.Y.Sysfs g.D.RuleDisk g.N.Links g.W.Waiter g.C.Clock
     c.args.turns (clock_of c.args.zone) (words_of_seed c.args.seed) c.args.files.now (objects c.args.sysfs.now c.args.disk.now c.args.links.now c.args.waiter.now c.args.clock.now (members (λ b. goal.Auditor-dyn g (b.vtable, b.value)) c.args.panel.now))
-    (settings_path (map (λ (w : Bor (List ℕ)). w.now) c.args.words.now)) r.journal r.sockets r.made c.serve.result c.serve.new.files (objects c.serve.new.sysfs c.serve.new.disk c.serve.new.links c.serve.new.waiter c.serve.new.clock (members (λ b. goal.Auditor-dyn g (b.vtable, b.value)) c.serve.new.panel)) r.serves
+    (settings_path (map (λ (w : Bor (List ℕ)). w.now) c.args.words.now)) r.start r.sockets r.made c.serve.result c.serve.new.files (objects c.serve.new.sysfs c.serve.new.disk c.serve.new.links c.serve.new.waiter c.serve.new.clock (members (λ b. goal.Auditor-dyn g (b.vtable, b.value)) c.serve.new.panel)) r.serves
 
 pub returns-in-Ok-clause-other_words : goal.returns-in-Ok-clause-other_words
 returns-in-Ok-clause-other_words g c =
@@ -93,7 +93,7 @@ returns-in-Ok-clause-other_words g c =
     let r = subst (λ (p : Option (List ℕ)). Runs g.F.ConfFiles.gives g.Y.Sysfs g.D.RuleDisk g.N.Links g.W.Waiter g.C.Clock c.args.turns (clock_of c.args.zone) (words_of_seed c.args.seed) c.args.files.now (objects c.args.sysfs.now c.args.disk.now c.args.links.now c.args.waiter.now c.args.clock.now (members (λ b. goal.Auditor-dyn g (b.vtable, b.value)) c.args.panel.now)) p c.serve.result c.serve.new.files (objects c.serve.new.sysfs c.serve.new.disk c.serve.new.links c.serve.new.waiter c.serve.new.clock (members (λ b. goal.Auditor-dyn g (b.vtable, b.value)) c.serve.new.panel))) path c.serve.ensures.runs in
     other_words g.F.ConfFiles.gives g.Y.Sysfs g.D.RuleDisk g.N.Links g.W.Waiter g.C.Clock
     c.args.turns (clock_of c.args.zone) (words_of_seed c.args.seed) c.args.files.now (objects c.args.sysfs.now c.args.disk.now c.args.links.now c.args.waiter.now c.args.clock.now (members (λ b. goal.Auditor-dyn g (b.vtable, b.value)) c.args.panel.now))
-    (settings_path (map (λ (w : Bor (List ℕ)). w.now) c.args.words.now)) r.journal r.sockets r.made c.serve.result c.serve.new.files (objects c.serve.new.sysfs c.serve.new.disk c.serve.new.links c.serve.new.waiter c.serve.new.clock (members (λ b. goal.Auditor-dyn g (b.vtable, b.value)) c.serve.new.panel)) r.serves
+    (settings_path (map (λ (w : Bor (List ℕ)). w.now) c.args.words.now)) r.start r.sockets r.made c.serve.result c.serve.new.files (objects c.serve.new.sysfs c.serve.new.disk c.serve.new.links c.serve.new.waiter c.serve.new.clock (members (λ b. goal.Auditor-dyn g (b.vtable, b.value)) c.serve.new.panel)) r.serves
 
 pub returns-in-Ok-clause-refused : goal.returns-in-Ok-clause-refused
 returns-in-Ok-clause-refused g c =
@@ -101,7 +101,7 @@ returns-in-Ok-clause-refused g c =
     let r = subst (λ (p : Option (List ℕ)). Runs g.F.ConfFiles.gives g.Y.Sysfs g.D.RuleDisk g.N.Links g.W.Waiter g.C.Clock c.args.turns (clock_of c.args.zone) (words_of_seed c.args.seed) c.args.files.now (objects c.args.sysfs.now c.args.disk.now c.args.links.now c.args.waiter.now c.args.clock.now (members (λ b. goal.Auditor-dyn g (b.vtable, b.value)) c.args.panel.now)) p c.serve.result c.serve.new.files (objects c.serve.new.sysfs c.serve.new.disk c.serve.new.links c.serve.new.waiter c.serve.new.clock (members (λ b. goal.Auditor-dyn g (b.vtable, b.value)) c.serve.new.panel))) path c.serve.ensures.runs in
     status_told g.F.ConfFiles.gives g.Y.Sysfs g.D.RuleDisk g.N.Links g.W.Waiter g.C.Clock
     g.F.ConfFiles.told g.met.F.ConfFiles.tells c.args.turns (clock_of c.args.zone) (words_of_seed c.args.seed) c.args.files.now (objects c.args.sysfs.now c.args.disk.now c.args.links.now c.args.waiter.now c.args.clock.now (members (λ b. goal.Auditor-dyn g (b.vtable, b.value)) c.args.panel.now))
-    (settings_path (map (λ (w : Bor (List ℕ)). w.now) c.args.words.now)) r.journal r.sockets r.made c.serve.result c.serve.new.files (objects c.serve.new.sysfs c.serve.new.disk c.serve.new.links c.serve.new.waiter c.serve.new.clock (members (λ b. goal.Auditor-dyn g (b.vtable, b.value)) c.serve.new.panel)) r.serves
+    (settings_path (map (λ (w : Bor (List ℕ)). w.now) c.args.words.now)) r.start r.sockets r.made c.serve.result c.serve.new.files (objects c.serve.new.sysfs c.serve.new.disk c.serve.new.links c.serve.new.waiter c.serve.new.clock (members (λ b. goal.Auditor-dyn g (b.vtable, b.value)) c.serve.new.panel)) r.serves
 
 pub returns-in-Ok-clause-complete : goal.returns-in-Ok-clause-complete
 returns-in-Ok-clause-complete g c = λ words taken files disk links waiter.
@@ -110,11 +110,11 @@ returns-in-Ok-clause-complete g c = λ words taken files disk links waiter.
     let one =
     bad_words g.F.ConfFiles.gives g.Y.Sysfs g.D.RuleDisk g.N.Links g.W.Waiter g.C.Clock
     c.args.turns (clock_of c.args.zone) (words_of_seed c.args.seed) c.args.files.now (objects c.args.sysfs.now c.args.disk.now c.args.links.now c.args.waiter.now c.args.clock.now (members (λ b. goal.Auditor-dyn g (b.vtable, b.value)) c.args.panel.now))
-    (settings_path (map (λ (w : Bor (List ℕ)). w.now) c.args.words.now)) r.journal r.sockets r.made c.serve.result c.serve.new.files (objects c.serve.new.sysfs c.serve.new.disk c.serve.new.links c.serve.new.waiter c.serve.new.clock (members (λ b. goal.Auditor-dyn g (b.vtable, b.value)) c.serve.new.panel)) r.serves in
+    (settings_path (map (λ (w : Bor (List ℕ)). w.now) c.args.words.now)) r.start r.sockets r.made c.serve.result c.serve.new.files (objects c.serve.new.sysfs c.serve.new.disk c.serve.new.links c.serve.new.waiter c.serve.new.clock (members (λ b. goal.Auditor-dyn g (b.vtable, b.value)) c.serve.new.panel)) r.serves in
     let known =
     has_status g.F.ConfFiles.gives g.Y.Sysfs g.D.RuleDisk g.N.Links g.W.Waiter g.C.Clock
     c.args.turns (clock_of c.args.zone) (words_of_seed c.args.seed) c.args.files.now (objects c.args.sysfs.now c.args.disk.now c.args.links.now c.args.waiter.now c.args.clock.now (members (λ b. goal.Auditor-dyn g (b.vtable, b.value)) c.args.panel.now))
-    (settings_path (map (λ (w : Bor (List ℕ)). w.now) c.args.words.now)) r.journal r.sockets r.made c.serve.result c.serve.new.files (objects c.serve.new.sysfs c.serve.new.disk c.serve.new.links c.serve.new.waiter c.serve.new.clock (members (λ b. goal.Auditor-dyn g (b.vtable, b.value)) c.serve.new.panel)) r.serves in
+    (settings_path (map (λ (w : Bor (List ℕ)). w.now) c.args.words.now)) r.start r.sockets r.made c.serve.result c.serve.new.files (objects c.serve.new.sysfs c.serve.new.disk c.serve.new.links c.serve.new.waiter c.serve.new.clock (members (λ b. goal.Auditor-dyn g (b.vtable, b.value)) c.serve.new.panel)) r.serves in
     completes c.serve.result known (λ e. words (one e)) taken
     (λ e. files (c.serve.ensures.files_failed e)) (λ e. disk (c.serve.ensures.disk_failed e)) (λ e. elim (c.serve.ensures.wait_failed e) [ inl h ↦ links h | inr h ↦ waiter h ])
 

@@ -1,0 +1,5 @@
+use Rattle.ug_serve.proofs.Noted.{one_noted}
+use Rattle.ug_serve.proofs.noting.note_refusal.Goals as goal
+
+pub returns-in-Refused : goal.returns-in-Refused
+returns-in-Refused g c = one_noted _ _ _ c.note_start.ensures
