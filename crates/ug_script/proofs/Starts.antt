@@ -227,9 +227,6 @@ IsSession setup number o d t = StartsOn setup number o d × (t ≡ after_reading
 
 -- a start behind the rules of the setup's folder
 module _ (setup : SetupState) (held : HasLines setup.folder.files setup.folder.count) where
-  folder : List Rule
-  folder = rules_in_folder setup.folder.files
-
   -- with the number of the folder's rules
   counted : (n : ℕ) → length (rules_in_folder setup.folder.files) + n ≡ setup.folder.count + n
   counted n = ap (λ (m : ℕ). m + n) held.number
@@ -269,8 +266,10 @@ module _ (setup : SetupState) (held : HasLines setup.folder.files setup.folder.c
       let none : ⊥ = cc in
       absurd none
 
-  pub starts_on : (outset : Outset) (faults : DiskWorld → ℕ) (o : DiskWorld) (d : DaemonState) (t : DiskWorld) → outset.classes ≡ (policy_of setup).classes → outset.clock ≡ (policy_of setup).clock → outset.words ≡ (policy_of setup).stream → (outset.access ≡ access_of setup) × (outset.hub ≡ (beside_of setup).hub) → Starts MemKeeps disk_told faults outset setup.folder.files o (Ok d) t → Session outset.first o d t
-  starts_on outset faults o d t classes clock words given h = on_folder outset faults o h.folder d t (outset_is setup outset classes clock words) given h.taken h.starts
+  pub starts_on : (outset : Outset) (faults : DiskWorld → ℕ) (o : DiskWorld) (d : DaemonState) (t : DiskWorld) → outset.classes ≡ (policy_of setup).classes → outset.clock ≡ (policy_of setup).clock → outset.words ≡ (policy_of setup).stream → (outset.access ≡ access_of setup) × (outset.hub ≡ (beside_of setup).hub) → (files : List FolderFile) → files ≡ setup.folder.files → Starts MemKeeps disk_told faults outset files o (Ok d) t → Session outset.first o d t
+  starts_on outset faults o d t classes clock words given files is h =
+      let k : Starts MemKeeps disk_told faults outset setup.folder.files o (Ok d) t = subst (λ (fs : List FolderFile). Starts MemKeeps disk_told faults outset fs o (Ok d) t) is h in
+      on_folder outset faults o k.folder d t (outset_is setup outset classes clock words) given k.taken k.starts
 
 -- ---- a start that is refused
 
@@ -346,8 +345,10 @@ module _ (setup : SetupState) (held : HasLines setup.folder.files setup.folder.c
       let same : e ≡ fault.Memory = cc in
       subst (λ (x : StartFault). Refuses setup o (no_start_of x)) (sym same) (refuses_memory setup o)
 
-  pub start_refused : (outset : Outset) (faults : DiskWorld → ℕ) (o : DiskWorld) (e : StartFault) (t : DiskWorld) → Starts MemKeeps disk_told faults outset setup.folder.files o (Err e) t → Refuses setup o (no_start_of e)
-  start_refused outset faults o e t h = refused_on outset faults o h.folder e t h.taken h.starts
+  pub start_refused : (outset : Outset) (faults : DiskWorld → ℕ) (o : DiskWorld) (e : StartFault) (t : DiskWorld) (files : List FolderFile) → files ≡ setup.folder.files → Starts MemKeeps disk_told faults outset files o (Err e) t → Refuses setup o (no_start_of e)
+  start_refused outset faults o e t files is h =
+      let k : Starts MemKeeps disk_told faults outset setup.folder.files o (Err e) t = subst (λ (fs : List FolderFile). Starts MemKeeps disk_told faults outset fs o (Err e) t) is h in
+      refused_on outset faults o k.folder e t k.taken k.starts
 
 -- ---- the first daemon
 

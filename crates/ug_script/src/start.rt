@@ -2,7 +2,7 @@
 ghost use Rattle.std.specs.Prelude.{◌≡◌, ◌+◌, ◌≤◌, length, pos, true, false, Err, Ok, IfOk, IfSome, IsTrue, OnErr, OnOk};
 ghost use Rattle.ug_command_io.specs.Fold.{BadLine, InputTooLong};
 ghost use Rattle.ug_ruleset.specs.RuleFile.{CanSave, IsSaveable};
-ghost use Rattle.ug_script.specs.RuleFiles.{IsStillOn};
+ghost use Rattle.ug_script.specs.RuleFiles.{HasFolder, IsStillOn};
 ghost use Rattle.ug_core.specs.Event.{daemon_of};
 ghost use Rattle.ug_core.specs.Policy.{clock_of};
 ghost use Rattle.ug_core.specs.Settings.{classes_of, hub_default};
@@ -152,6 +152,7 @@ fn start_on(
 ) -> Result<Daemon<'static, ChaCha20Rng>, NoStart>
     ensures started { IfOk result (λ daemon. StartsOn setup.now first disk.old (daemon_of daemon)) }
     ensures fits { OnOk result (fits_folder setup.now ≡ true) }
+    ensures folder { IfOk result (λ daemon. HasFolder setup.now.folder.count (daemon_of daemon)) }
     ensures saves { IfOk result (λ daemon. IsSaveable (daemon_of daemon).sweep.judge.rules) }
     ensures bad { result ≡ Err NoStart.BadRules
         → rules_from setup.now.folder.count disk.old.disk.text ≡ Err BadLine }
