@@ -285,9 +285,6 @@ hubs '#AuthorizedDefault=none' 2
 hubs RuleFile=none 2
 check "a hub that can't be written is told" 'mkdir -p /tmp/devices/usb1/authorized_default && echo AuthorizedDefault=none >/tmp/settings
     ! /usr/libexec/usbguard-prepare -c /tmp/settings -d /tmp/devices hubs 2>/tmp/1 && grep -x "usbguard-prepare: can.t write 0 to /tmp/devices/usb1/authorized_default" /tmp/1'
-check 'a rule of the folder is enough for a start' 'mkdir /tmp/folder && printf "RuleFile=/tmp/none\nRuleFolder=/tmp/folder\n" >/tmp/settings &&
-    echo allow >/tmp/folder/10-a.conf~ && ! /usr/libexec/usbguard-prepare -c /tmp/settings rules &&
-    echo allow >/tmp/folder/10-a.conf && /usr/libexec/usbguard-prepare -c /tmp/settings rules'
 echo 1 >"$root/sys/bus/usb/devices/usb1/authorized_default"
 echo AuthorizedDefault=keep >"$root/tmp/settings"
 show 'timeout 3 usbguard daemon --conf /tmp/settings | head -n 3'
