@@ -165,7 +165,7 @@ setup_kept first n done runs text s w step setup lt opened h given =
       at_start = first_holds setup first.kernel;
       ended = subst (λ (x : EventsOfRuns). AreSuccessive (beside_of setup) (policy_of setup) b x.ended b) (sym none) refl;
       chain = subst (λ (p : Judging). Chain first.kernel file (started_at 1 (beside_of setup) p) runs.last w.kernel (disk_told (disk_by setup s.phase)) (daemon_by setup s.phase)) (sym (own_rules setup))
-      (subst (λ (x : EventsOfRuns). Chain first.kernel file (first_started setup) x.last w.kernel (disk_told (disk_by setup s.phase)) (daemon_by setup s.phase)) (sym none) (moves, stays, new));
+          (subst (λ (x : EventsOfRuns). Chain first.kernel file (first_started setup) x.last w.kernel (disk_told (disk_by setup s.phase)) (daemon_by setup s.phase)) (sym none) (moves, stays, new));
       none = h.none;
       written = h.written;
       nobody = λ q. h.nobody (quiet_front done step q).0;

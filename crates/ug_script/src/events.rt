@@ -227,8 +227,8 @@ fn play_event<K: Sink>(
     kernel: &mut SimKernel,
     out: &mut K,
 ) -> Ran
-    requires numbers { has_numbers (daemon_of session.old.daemon) kernel.old.faults session.old.disk.faults
-        ≡ true }
+    requires numbers { has_numbers (daemon_of session.old.daemon)
+        kernel.old.faults session.old.disk.faults ≡ true }
     requires session { IsStartedBy setup.now session.old }
     ensures ran { Steps (came_of setup.now plan.now
         (event_from event.now (daemon_of session.old.daemon) kernel.old session.old.disk))
@@ -269,8 +269,8 @@ fn run_event<K: Sink>(
     kernel: &mut SimKernel,
     out: &mut K,
 ) -> Ran
-    requires numbers { has_numbers (daemon_of session.old.daemon) kernel.old.faults session.old.disk.faults
-        ≡ true }
+    requires numbers { has_numbers (daemon_of session.old.daemon)
+        kernel.old.faults session.old.disk.faults ≡ true }
     requires session { IsStartedBy setup.now session.old }
     ensures ran { Steps
         (came_of setup.now plan.now (event_from event.now (daemon_of session.old.daemon) kernel.old
