@@ -50,10 +50,7 @@ pub among : (rules : List RuleEntry) → length (map (λ (e : RuleEntry). e.rule
 among [] = omega arith
 among (e ∷ rules) = by e.mark (among rules)
   where
-    abbrev folder : List types.Rule
-    folder = map (λ (e : RuleEntry). e.rule) (filter (λ (e : RuleEntry). is_folder e.mark) rules)
-
-    by : (m : Mark) → length folder + length (permanent_rules rules) ≤ length rules → length (map (λ (e : RuleEntry). e.rule) (if is_folder m then e ∷ filter (λ (e : RuleEntry). is_folder e.mark) rules else filter (λ (e : RuleEntry). is_folder e.mark) rules)) + length (saved_rule m e.rule ++ permanent_rules rules) ≤ length (e ∷ rules)
+    by : (m : Mark) → length (map (λ (e : RuleEntry). e.rule) (filter (λ (e : RuleEntry). is_folder e.mark) rules)) + length (permanent_rules rules) ≤ length rules → length (map (λ (e : RuleEntry). e.rule) (cond (is_folder m) (e ∷ filter (λ (e : RuleEntry). is_folder e.mark) rules) (filter (λ (e : RuleEntry). is_folder e.mark) rules))) + length (saved_rule m e.rule ++ permanent_rules rules) ≤ length (e ∷ rules)
     by mark.Folder h = omega (arith, h)
     by mark.File h = omega (arith, h)
     by mark.Temporary h = omega (arith, h)
