@@ -50,7 +50,8 @@ use Rattle.ug_core.specs.declared.storing.Stored.{Stored}
 use Rattle.ug_core.specs.declared.storing.Stored.TheVariants as stored
 use Rattle.ug_types.specs.declared.saved.Saved.TheVariants as saved
 use Rattle.ug_core.specs.Changes.{change_entry, change_lines, edit_for, ordered_mark, parameter_at, verdict_edit}
-use Rattle.ug_ruleset.specs.RulePlaces.{first_of, has_rule, if_few, if_taken, if_there, made_rule}
+use Rattle.ug_policy.specs.Edits.{folder_behind}
+use Rattle.ug_ruleset.specs.RulePlaces.{first_of, has_folder_rule, has_rule, if_barred, if_few, if_removed, if_taken, made_rule}
 use Rattle.ug_ruleset.specs.declared.edit.Edit.TheVariants.{Insert, Remove, Retarget}
 use Rattle.std.specs.Prelude.{decimal}
 use Rattle.std.proofs.lemmas.Option.{same_Some}
@@ -151,14 +152,23 @@ few_long : (b : Bool) (r : Refusal) → cond b None (Some Refusal.RulesFull) ≡
 few_long true r h = let none : ⊥ = cc in absurd none
 few_long false r h = subst (λ (x : Refusal). is_short_reply (Err x) ≡ false) (same_Some Refusal.RulesFull r h) refl
 
+barred_long : (id : ℕ) (r : Refusal) → Some (Refusal.FolderRule id) ≡ Some r → is_short_reply (Err r) ≡ false
+barred_long id r h = subst (λ (x : Refusal). is_short_reply (Err x) ≡ false) (same_Some (Refusal.FolderRule id) r h) refl
+
 taken_long : (place : After) (rules : List RuleEntry) (r : Refusal) → if_taken place rules ≡ Some r → is_short_reply (Err r) ≡ false
 taken_long after.End rules r h = few_long (nat_lt (length rules) 65536) r h
 taken_long after.Front rules r h = few_long (nat_lt (length rules) 65536) r h
-taken_long (after.Rule id) rules r h = by_there (has_rule id rules) h
+taken_long (after.Rule id) rules r h = by (has_rule id rules) (folder_behind id rules) h
   where
-    by_there : (b : Bool) → first_of (cond b None (Some (Refusal.NoRule id))) (if_few rules) ≡ Some r → is_short_reply (Err r) ≡ false
-    by_there true k = few_long (nat_lt (length rules) 65536) r k
-    by_there false k = there_long id false r k
+    by : (b c : Bool) → first_of (first_of (cond b None (Some (Refusal.NoRule id))) (if_barred c id)) (if_few rules) ≡ Some r → is_short_reply (Err r) ≡ false
+    by false c k = there_long id false r k
+    by true true k = barred_long id r k
+    by true false k = few_long (nat_lt (length rules) 65536) r k
+
+removed_long : (id : ℕ) (b c : Bool) (r : Refusal) → first_of (cond b None (Some (Refusal.NoRule id))) (if_barred c id) ≡ Some r → is_short_reply (Err r) ≡ false
+removed_long id false c r h = there_long id false r h
+removed_long id true true r h = barred_long id r h
+removed_long id true false r h = let none : ⊥ = cc in absurd none
 
 rule_asks : (ss : List Standing) (p : Judging) (place : After) (permanent : Bool) (r : Result Rule Fault) → Asks ss true [] (by_rule p place permanent r)
 rule_asks ss p place permanent (Err bad) = (refl, omega arith)
@@ -175,7 +185,7 @@ granted_asks d request.ListDevices = telling_asks d.sweep.standings (device_rows
 granted_asks d (request.Device number verdict permanent) = standing_asks d.sweep.standings d.sweep.judge number verdict permanent (numbered number d.sweep.standings) refl
 granted_asks d request.ListRules = telling_asks d.sweep.standings (rule_rows d.sweep.judge.rules)
 granted_asks d (request.AppendRule place permanent text) = append_asks d.sweep.standings d.sweep.judge place permanent text
-granted_asks d (request.RemoveRule id) = unless_asks d.sweep.standings (if_there id d.sweep.judge.rules) (Rules (Remove id)) [] (there_long id (has_rule id d.sweep.judge.rules))
+granted_asks d (request.RemoveRule id) = unless_asks d.sweep.standings (if_removed id d.sweep.judge.rules) (Rules (Remove id)) [] (removed_long id (has_rule id d.sweep.judge.rules) (has_folder_rule id d.sweep.judge.rules))
 granted_asks d request.Watch = (refl, refl)
 
 request_asks : (d : DaemonState) (who : Named) (read : Result Request ℕ) → Ways (by_request d who read) (Asks d.sweep.standings)

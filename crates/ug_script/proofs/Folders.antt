@@ -11,6 +11,7 @@ use Rattle.std.specs.declared.cmp.Ordering.TheVariants.{Less, Equal, Greater}
 use Rattle.std.proofs.lemmas.Cmp.{nat_list_cmp_total}
 use Rattle.std.proofs.lemmas.Grind.{flat_map-append}
 use Rattle.std.proofs.lemmas.List.Elements.{All-nil, All-cons, All-head, All-tail}
+use Rattle.std.proofs.lemmas.List.Sums.{sum_by-append, sum_by-cons}
 use Rattle.std.proofs.lemmas.List.Sorted.{searchable_from_sorted}
 use Rattle.ug_types.specs.Elements.{Has}
 use Rattle.ug_types.specs.declared.rule.Rule.{Rule}
@@ -306,25 +307,49 @@ module _ (line : FolderLine) (rule : HoldsRule line.text) where
 
 -- ---- how long the texts are in all
 
+abbrev text_length : FolderFile → ℕ
+text_length file = length file.text
+
+abbrev line_length : FolderLine → ℕ
+line_length line = length line.text + 1
+
 pub length_with : (line : FolderLine) (files : List FolderFile) → folder_length (with_line_in line files) ≡ folder_length files + lines_length (line ∷ [])
 length_with line [] =
     let own : length (ended_line line) ≡ length line.text + 1 = length-append line.text (10 ∷ []) in
-    omega (arith, own)
+    let one : folder_length (one_line_file line ∷ []) ≡ length (ended_line line) + folder_length [] = sum_by-cons text_length (one_line_file line) [] in
+    let more : lines_length (line ∷ []) ≡ (length line.text + 1) + lines_length [] = sum_by-cons line_length line [] in
+    let none : folder_length [] ≡ 0 = refl in
+    let nothing : lines_length [] ≡ 0 = refl in
+    omega (arith, own, one, more, none, nothing)
 length_with line (f ∷ fs) = by (compare line.name f.name) (length_with line fs)
   where
     own : length (ended_line line) ≡ length line.text + 1
     own = length-append line.text (10 ∷ [])
 
+    more : lines_length (line ∷ []) ≡ (length line.text + 1) + lines_length []
+    more = sum_by-cons line_length line []
+
+    nothing : lines_length [] ≡ 0
+    nothing = refl
+
+    before : folder_length (f ∷ fs) ≡ length f.text + folder_length fs
+    before = sum_by-cons text_length f fs
+
     by : (o : Ordering) → folder_length (with_line_in line fs) ≡ folder_length fs + lines_length (line ∷ []) → folder_length (line_at o line f fs (with_line_in line fs)) ≡ folder_length (f ∷ fs) + lines_length (line ∷ [])
-    by Less again = omega (arith, own)
+    by Less again =
+        let one : folder_length (one_line_file line ∷ f ∷ fs) ≡ length (ended_line line) + folder_length (f ∷ fs) = sum_by-cons text_length (one_line_file line) (f ∷ fs) in
+        omega (arith, own, more, nothing, one)
     by Equal again =
+        let file : FolderFile = record f { text = f.text ++ ended_line line } in
+        let one : folder_length (record f { text = f.text ++ ended_line line } ∷ fs) ≡ length (f.text ++ ended_line line) + folder_length fs = sum_by-cons text_length file fs in
         let all : length (f.text ++ ended_line line) ≡ length f.text + length (ended_line line) = length-append f.text (ended_line line) in
-        omega (arith, own, all)
-    by Greater again = omega (arith, again)
+        omega (arith, own, more, nothing, before, one, all)
+    by Greater again =
+        let one : folder_length (f ∷ with_line_in line fs) ≡ length f.text + folder_length (with_line_in line fs) = sum_by-cons text_length f (with_line_in line fs) in
+        omega (arith, before, one, again)
 
 pub lines_append : (a b : List FolderLine) → lines_length (a ++ b) ≡ lines_length a + lines_length b
-lines_append [] b = omega arith
-lines_append (line ∷ a) b = omega (arith, lines_append a b)
+lines_append a b = sum_by-append line_length a b
 
 pub no_lines : HasLines [] 0
 no_lines = record { ascending = tt; each = All-nil HoldsRules; number = refl; few = omega arith }
