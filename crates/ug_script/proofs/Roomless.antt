@@ -1,5 +1,5 @@
 -- A script ends with `input too long` exactly where its first start finds no room for the rules.
-use Rattle.std.proofs.Common.{◌≡◌, ◌⊎◌, inl, inr, ℕ, ◌+◌, ◌≤◌, ◌<◌, arith, Bool, true, false, ◌&&◌, ◌||◌, cond, if◌then◌else◌, List, [], ◌∷◌, ◌++◌, flat_map, length, length-append, map, Option, Some, None, Result, Ok, Err, refl, sym, ap, subst, ◌∙◌, append-nil, append_assoc}
+use Rattle.std.proofs.Common.{add-zero, ◌≡◌, ◌⊎◌, inl, inr, ℕ, ◌+◌, ◌≤◌, ◌<◌, arith, Bool, true, false, ◌&&◌, ◌||◌, cond, if◌then◌else◌, List, [], ◌∷◌, ◌++◌, flat_map, length, length-append, map, Option, Some, None, Result, Ok, Err, refl, sym, ap, subst, ◌∙◌, append-nil, append_assoc}
 use Rattle.std.specs.Cmp.Lexicographic.{pointwise}
 use Rattle.std.specs.List.{list_any}
 use Rattle.std.specs.Prelude.{codes, decimal, nat_eq}
@@ -56,7 +56,7 @@ record Sets (s : Script) (steps : List (Option Step)) (t : Script) : Type 0 wher
   started : has_started t.phase ≡ (has_started s.phase || list_any starts_one steps)
 
 sets_none : (s : Script) → Sets s [] s
-sets_none s = record { rules = sym (append-nil s.setup.rules); files = omega arith; started = sym (or_none (has_started s.phase)) }
+sets_none s = record { rules = sym (append-nil s.setup.rules); files = sym (add-zero (folder_length s.setup.folder.files)); started = sym (or_none (has_started s.phase)) }
 
 sets_one : (s t : Script) (asked : Option Step) → t.setup.rules ≡ s.setup.rules ++ setup_rule asked → folder_length t.setup.folder.files ≡ folder_length s.setup.folder.files + lines_length (folder_asked asked) → has_started t.phase ≡ (has_started s.phase || starts_one asked) → Sets s (asked ∷ []) t
 sets_one s t asked rules files started = record {
@@ -84,7 +84,8 @@ sets_more s t u asked steps x y = record {
       let all : lines_length (folder_asked asked ++ flat_map folder_asked steps) ≡ lines_length (folder_asked asked) + lines_length (flat_map folder_asked steps) = lines_append (folder_asked asked) (flat_map folder_asked steps) in
       let first : folder_length t.setup.folder.files ≡ folder_length s.setup.folder.files + lines_length (folder_asked asked ++ []) = x.files in
       let rest : folder_length u.setup.folder.files ≡ folder_length t.setup.folder.files + lines_length (flat_map folder_asked steps) = y.files in
-      omega (arith, one, all, first, rest);
+      let nothing : lines_length [] ≡ 0 = refl in
+      omega (arith, one, all, first, rest, nothing);
   rules = y.rules ∙ ap (λ (l : List types.Rule). l ++ flat_map setup_rule steps) (x.rules ∙ ap (λ (l : List types.Rule). s.setup.rules ++ l) (append-nil (setup_rule asked))) ∙ append_assoc s.setup.rules (setup_rule asked) (flat_map setup_rule steps);
   started = y.started ∙ ap (λ (b : Bool). b || list_any starts_one steps) (x.started ∙ ap (λ (b : Bool). has_started s.phase || b) (or_none (starts_one asked))) ∙ or_assoc (has_started s.phase) (starts_one asked) (list_any starts_one steps);
 }
@@ -110,16 +111,16 @@ gives_when before line true o h = h
 gives_when before line false o h = tt
 
 gives_draft : (before : SetupState) (text : List ℕ) (draft : Result Draft SettingFault) → GivesRules before (setup.Conf text) (with_draft draft before)
-gives_draft before text (Ok draft) = (sym (append-nil before.rules), omega arith)
+gives_draft before text (Ok draft) = (sym (append-nil before.rules), sym (add-zero (folder_length before.folder.files)))
 gives_draft before text (Err fault) = tt
 
 gives_rules : (before : SetupState) (line : SetupLine) → GivesRules before line (one_line_more line before)
-gives_rules before (setup.Rule rule) = gives_when before (setup.Rule rule) (has_rule_room before) (Some _) (refl, omega arith)
+gives_rules before (setup.Rule rule) = gives_when before (setup.Rule rule) (has_rule_room before) (Some _) (refl, sym (add-zero (folder_length before.folder.files)))
 gives_rules before (setup.Folder line) = gives_when before (setup.Folder line) (has_rule_room before) (Some _) (sym (append-nil before.rules), length_with line before.folder.files)
 gives_rules before (setup.Conf text) = gives_when before (setup.Conf text) (is_entry text) (with_draft _ before) (gives_draft before text _)
-gives_rules before (setup.Access line) = (sym (append-nil before.rules), omega arith)
-gives_rules before (setup.Seed seed) = gives_when before (setup.Seed seed) _ (Some _) (sym (append-nil before.rules), omega arith)
-gives_rules before (setup.Zone offset) = gives_when before (setup.Zone offset) _ (Some _) (sym (append-nil before.rules), omega arith)
+gives_rules before (setup.Access line) = (sym (append-nil before.rules), sym (add-zero (folder_length before.folder.files)))
+gives_rules before (setup.Seed seed) = gives_when before (setup.Seed seed) _ (Some _) (sym (append-nil before.rules), sym (add-zero (folder_length before.folder.files)))
+gives_rules before (setup.Zone offset) = gives_when before (setup.Zone offset) _ (Some _) (sym (append-nil before.rules), sym (add-zero (folder_length before.folder.files)))
 
 sets_added : (s : Script) (w : World) (line : SetupLine) (o : Option SetupState) → GivesRules s.setup line o → SetsAfter s (Some (Setup line)) (line_added o s w)
 sets_added s w line None h = tt
