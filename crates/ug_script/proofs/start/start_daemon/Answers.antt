@@ -1,8 +1,8 @@
-use Rattle.std.proofs.Common.{◌≡◌, ℕ, ◌+◌, ◌≤◌, Err, length, sym, ap, subst, arith, ◌∙◌}
+use Rattle.std.proofs.Common.{length, arith}
 use Rattle.std.proofs.lemmas.Bool.{leb-true}
 use Rattle.ug_print.specs.RuleTexts.{rules_limit, rules_text_of}
 use Rattle.ug_core.specs.Event.{daemon_of}
-use Rattle.ug_script.proofs.Starts.{first_daemon, first_rules, never_bad, too_long_folder}
+use Rattle.ug_script.proofs.Starts.{first_daemon, first_rules}
 use Rattle.ug_script.proofs.start.start_daemon.Goals as goal
 
 pub returns-in-Ok-clause-daemon : goal.returns-in-Ok-clause-daemon

@@ -1,36 +1,48 @@
-use Rattle.std.proofs.Common.{◌≡◌}
+use Rattle.std.proofs.Common.{◌≡◌, ap, subst, ◌∙◌}
 use Rattle.ug_core.specs.Event.{daemon_of}
+use Rattle.ug_script.specs.FolderLines.{HasLines}
 use Rattle.ug_script.specs.Script.{no_start_of}
+use Rattle.ug_script.specs.Setup.{SetupState}
 use Rattle.ug_script.specs.declared.start.NoStart.TheVariants as no_start
 use Rattle.ug_script.proofs.Filed.{start_still, starts_with_folder}
 use Rattle.ug_script.proofs.Starts.{starts_on, start_refused}
 use Rattle.ug_script.proofs.start.start_on.Goals as goal
 
 pub returns-in-Ok-clause-started : goal.returns-in-Ok-clause-started
-returns-in-Ok-clause-started c = (starts_on c.args.setup.now c.in_ok-folder.ensures.lines _ _ c.args.disk.now (daemon_of c.in-Ok.daemon) c.start.new.disk
-    c.in_ok-settings.ensures.classes c.zone_for-zone.ensures c.rng_for-rng.ensures (c.in_ok-access.ensures, c.in_ok-settings.ensures.hub) _ c.in_ok-folder.ensures.files c.in-Ok.ensures.starts).1.0
+returns-in-Ok-clause-started c =
+    let held : HasLines c.args.setup.now.folder.files c.args.setup.now.folder.count = subst (λ (s : SetupState). HasLines s.folder.files s.folder.count) c.setup.view_is c.in_ok-folder.ensures.lines in
+    (starts_on c.args.setup.now held _ _ c.args.disk.now (daemon_of c.in-Ok.daemon) c.start.new.disk
+    c.in_ok-settings.ensures.classes c.zone_for-zone.ensures c.rng_for-rng.ensures (c.in_ok-access.ensures, c.in_ok-settings.ensures.hub) _ (c.in_ok-folder.ensures.files ∙ ap (λ (s : SetupState). s.folder.files) c.setup.view_is) c.in-Ok.ensures.starts).1.0
 
 pub returns-in-Ok-clause-fits : goal.returns-in-Ok-clause-fits
-returns-in-Ok-clause-fits c = (starts_on c.args.setup.now c.in_ok-folder.ensures.lines _ _ c.args.disk.now (daemon_of c.in-Ok.daemon) c.start.new.disk
-    c.in_ok-settings.ensures.classes c.zone_for-zone.ensures c.rng_for-rng.ensures (c.in_ok-access.ensures, c.in_ok-settings.ensures.hub) _ c.in_ok-folder.ensures.files c.in-Ok.ensures.starts).0
+returns-in-Ok-clause-fits c =
+    let held : HasLines c.args.setup.now.folder.files c.args.setup.now.folder.count = subst (λ (s : SetupState). HasLines s.folder.files s.folder.count) c.setup.view_is c.in_ok-folder.ensures.lines in
+    (starts_on c.args.setup.now held _ _ c.args.disk.now (daemon_of c.in-Ok.daemon) c.start.new.disk
+    c.in_ok-settings.ensures.classes c.zone_for-zone.ensures c.rng_for-rng.ensures (c.in_ok-access.ensures, c.in_ok-settings.ensures.hub) _ (c.in_ok-folder.ensures.files ∙ ap (λ (s : SetupState). s.folder.files) c.setup.view_is) c.in-Ok.ensures.starts).0
 
 pub returns-in-Ok-clause-read : goal.returns-in-Ok-clause-read
-returns-in-Ok-clause-read c = (starts_on c.args.setup.now c.in_ok-folder.ensures.lines _ _ c.args.disk.now (daemon_of c.in-Ok.daemon) c.start.new.disk
-    c.in_ok-settings.ensures.classes c.zone_for-zone.ensures c.rng_for-rng.ensures (c.in_ok-access.ensures, c.in_ok-settings.ensures.hub) _ c.in_ok-folder.ensures.files c.in-Ok.ensures.starts).1.1
+returns-in-Ok-clause-read c =
+    let held : HasLines c.args.setup.now.folder.files c.args.setup.now.folder.count = subst (λ (s : SetupState). HasLines s.folder.files s.folder.count) c.setup.view_is c.in_ok-folder.ensures.lines in
+    (starts_on c.args.setup.now held _ _ c.args.disk.now (daemon_of c.in-Ok.daemon) c.start.new.disk
+    c.in_ok-settings.ensures.classes c.zone_for-zone.ensures c.rng_for-rng.ensures (c.in_ok-access.ensures, c.in_ok-settings.ensures.hub) _ (c.in_ok-folder.ensures.files ∙ ap (λ (s : SetupState). s.folder.files) c.setup.view_is) c.in-Ok.ensures.starts).1.1
 
 pub returns-in-Ok-clause-folder : goal.returns-in-Ok-clause-folder
-returns-in-Ok-clause-folder c = starts_with_folder c.args.setup.now c.in_ok-folder.ensures.lines c.args.first c.args.disk.now (daemon_of c.in-Ok.daemon) (starts_on c.args.setup.now c.in_ok-folder.ensures.lines _ _ c.args.disk.now (daemon_of c.in-Ok.daemon) c.start.new.disk
-    c.in_ok-settings.ensures.classes c.zone_for-zone.ensures c.rng_for-rng.ensures (c.in_ok-access.ensures, c.in_ok-settings.ensures.hub) _ c.in_ok-folder.ensures.files c.in-Ok.ensures.starts).1.0
+returns-in-Ok-clause-folder c =
+    let held : HasLines c.args.setup.now.folder.files c.args.setup.now.folder.count = subst (λ (s : SetupState). HasLines s.folder.files s.folder.count) c.setup.view_is c.in_ok-folder.ensures.lines in
+    starts_with_folder c.args.setup.now held c.args.first c.args.disk.now (daemon_of c.in-Ok.daemon) (starts_on c.args.setup.now held _ _ c.args.disk.now (daemon_of c.in-Ok.daemon) c.start.new.disk
+    c.in_ok-settings.ensures.classes c.zone_for-zone.ensures c.rng_for-rng.ensures (c.in_ok-access.ensures, c.in_ok-settings.ensures.hub) _ (c.in_ok-folder.ensures.files ∙ ap (λ (s : SetupState). s.folder.files) c.setup.view_is) c.in-Ok.ensures.starts).1.0
 
 pub returns-in-Err-clause-bad : goal.returns-in-Err-clause-bad
 returns-in-Err-clause-bad c e =
+    let held : HasLines c.args.setup.now.folder.files c.args.setup.now.folder.count = subst (λ (s : SetupState). HasLines s.folder.files s.folder.count) c.setup.view_is c.in_ok-folder.ensures.lines in
     let same : no_start_of c.in-Err.fault ≡ no_start.BadRules = cc in
-    (start_refused c.args.setup.now c.in_ok-folder.ensures.lines _ _ c.args.disk.now c.in-Err.fault c.start.new.disk _ c.in_ok-folder.ensures.files c.in-Err.ensures.starts).bad same
+    (start_refused c.args.setup.now held _ _ c.args.disk.now c.in-Err.fault c.start.new.disk _ (c.in_ok-folder.ensures.files ∙ ap (λ (s : SetupState). s.folder.files) c.setup.view_is) c.in-Err.ensures.starts).bad same
 
 pub returns-in-Err-clause-too_long : goal.returns-in-Err-clause-too_long
 returns-in-Err-clause-too_long c e =
+    let held : HasLines c.args.setup.now.folder.files c.args.setup.now.folder.count = subst (λ (s : SetupState). HasLines s.folder.files s.folder.count) c.setup.view_is c.in_ok-folder.ensures.lines in
     let same : no_start_of c.in-Err.fault ≡ no_start.TooLong = cc in
-    (start_refused c.args.setup.now c.in_ok-folder.ensures.lines _ _ c.args.disk.now c.in-Err.fault c.start.new.disk _ c.in_ok-folder.ensures.files c.in-Err.ensures.starts).too_long same
+    (start_refused c.args.setup.now held _ _ c.args.disk.now c.in-Err.fault c.start.new.disk _ (c.in_ok-folder.ensures.files ∙ ap (λ (s : SetupState). s.folder.files) c.setup.view_is) c.in-Err.ensures.starts).too_long same
 
 pub returns-in-Ok-clause-still : goal.returns-in-Ok-clause-still
 returns-in-Ok-clause-still c = start_still _ _ _ c.args.disk.now _ c.start.new.disk c.in-Ok.ensures.starts
