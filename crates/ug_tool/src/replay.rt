@@ -124,7 +124,7 @@ fn read_replay(alloc: Global, words: &[&str]) -> Result<bool, WordsFault>
 /// words are those of the command line behind the program's name. The status is 0; 1 where they aren't those of `replay`; 2 where a
 /// line isn't in the grammar or a limit is passed; 4 for a read fault; 5 for a write fault; 6 for want of memory. With 1, 2, 4 and 6
 /// the last line tells so. With 2 it is the line itself, its place or a limit that speaks against it, or the rules of the `rule` lines fit no
-/// file: never what an order, or a stop of the machine, has left of the rule file.
+/// file, or the texts of the `folder` lines are too long: never what an order, or a stop of the machine, has left of the rule file.
 pub fn run_replay<S: Source, K: Sink>(
     alloc: Global,
     words: &[&str],
