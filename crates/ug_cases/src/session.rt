@@ -1,5 +1,5 @@
 // A list of rules, the words of a generator, and the devices that are allowed.
-ghost use Rattle.std.specs.Prelude.{OnTrue};
+ghost use Rattle.std.specs.Bool.{OnTrue};
 ghost use Rattle.ug_types.specs.Elements.{Has};
 ghost use Rattle.ug_policy.specs.Edits.{IsThere};
 ghost use Rattle.ug_policy.specs.Rules.{ids};
