@@ -9,7 +9,7 @@ has_at [] i e within is = absurd (omega arith)
 has_at (x ∷ rules) zero e within is = inl (sym (ap (λ (y : RuleEntry). y.id) is))
 has_at (x ∷ rules) (suc i) e within is = inr (has_at rules i e (omega arith) is)
 
-pub returns-then-entry-id-eq-id : goal.returns-then-entry-id-eq-id
-returns-then-entry-id-eq-id c =
+pub returns-then-entry-id : goal.returns-then-entry-id
+returns-then-entry-id c =
     let here : Has (ids c.args.rules.now) c.entry-item.result.id = has_at c.args.rules.now c.loop-entry.entry-index c.entry-item.result (omega arith) c.entry-item.is in
     subst (λ (id : ℕ). Has (ids c.args.rules.now) id) (omega arith) here
