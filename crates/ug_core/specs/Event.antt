@@ -18,6 +18,7 @@ use Rattle.ug_policy.specs.declared.entry.RuleEntry.{RuleEntry}
 use Rattle.ug_proto.specs.declared.reply.Reply.{Reply}
 use Rattle.ug_store.specs.Store.{DiskProg, Ended, DiskRoom, then_disk, saving, pending_after}
 use Rattle.ug_table.specs.State.{State}
+use Rattle.ug_uevent.specs.Streams.{Stream, nothing_begun}
 use Rattle.ug_table.specs.Sweep.{sweeping}
 use Rattle.ug_core.specs.Policy.{Judging, judging_of, context_at, policy_answer, policy_later}
 use Rattle.ug_ruleset.specs.RuleFile.{permanent_text}
@@ -26,12 +27,14 @@ use Rattle.ug_core.specs.declared.daemon.Event.{Event}
 use Rattle.ug_core.specs.declared.daemon.Event.TheVariants.{Sweep, Order}
 
 -- the standings and the judge, with the entries of the last event but for the `dropped` ones; who
--- may do what; whether a save is pending; the number of the next event; the reply to the order of
--- the last one, if it had one; and whether that asked for notices and may have them
+-- may do what; whether a save is pending; what is kept of a stream of uevents; the number of the
+-- next event; the reply to the order of the last one, if it had one; and whether that asked for
+-- notices and may have them
 pub record DaemonState : Type 0 where
   pub sweep : State Judging
   pub access : List Addition
   pub pending : Bool
+  pub stream : Stream
   pub event : ℕ
   pub reply : Option Reply
   pub watch : Bool
@@ -51,6 +54,7 @@ daemon_of {g = g} d = record {
       };
   access = d.acl;
   pending = d.store;
+  stream = d.hints;
   event = d.next_event;
   reply = d.report.reply;
   watch = d.report.watch;
@@ -94,18 +98,19 @@ first_entry number (Sweep moment) = entry.Event number moment
 first_entry number (Order moment who line) = entry.Order number moment who
 
 -- the judge is told the moment, the first entry is noted, and nothing is replied yet
-abbrev pub begun : Event → DaemonState → DaemonState
-begun event d =
+abbrev pub begun_at : Moment → Entry → DaemonState → DaemonState
+begun_at moment first d =
     record d {
       sweep = record d.sweep {
-        judge = record d.sweep.judge
-            { ctx = context_at d.sweep.judge.clock (moment_of event) };
-        entries = first_entry d.event event
-            ∷ [];
+        judge = record d.sweep.judge { ctx = context_at d.sweep.judge.clock moment };
+        entries = first ∷ [];
       };
       reply = None;
       watch = false;
     }
+
+abbrev pub begun : Event → DaemonState → DaemonState
+begun event d = begun_at (moment_of event) (first_entry d.event event) d
 
 abbrev pub tried_with : Option Saved → DaemonState → DaemonState
 tried_with tried d =
@@ -172,6 +177,7 @@ pub record IsStarted (policy : Judging) (to_hubs : Option Write) (first : ℕ) (
   pub listed : d.sweep.listed ≡ false
   pub entries : d.sweep.entries ≡ []
   pub pending : d.pending ≡ false
+  pub stream : d.stream ≡ record { messages = []; begun = nothing_begun }
   pub event : d.event ≡ first
   pub reply : d.reply ≡ None
   pub watch : d.watch ≡ false

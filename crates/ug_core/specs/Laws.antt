@@ -80,6 +80,7 @@ pub record Handled (k : Kernel) (d : DaemonState) (l : Kernel) (e : DaemonState)
   pub hub : e.sweep.hub ≡ d.sweep.hub
   pub access : e.access ≡ d.access
   pub pending : e.pending ≡ d.pending
+  pub stream : e.stream ≡ d.stream
   pub event : e.event ≡ d.event + 1
   pub reply : e.reply ≡ d.reply
   pub watch : e.watch ≡ d.watch

@@ -11,6 +11,7 @@ pub mod Durable
 pub mod Values
 pub mod Bindings
 pub mod Laws
+pub mod Hinting
 pub mod InForce
 pub mod Rulings
 pub mod Chain

@@ -6,7 +6,7 @@ ghost use Rattle.ug_audit.specs.Noting.{NotesEntries, tells_drop, without_drops}
 ghost use Rattle.ug_store.specs.Store.{RunsDisk, pending_after};
 ghost use Rattle.ug_table.specs.Parts.{unsettled_names};
 ghost use Rattle.ug_core.specs.Answering.{HasWholeLines};
-ghost use Rattle.ug_core.specs.Event.{begun, daemon_of, first_entry, handling, has_numbers, is_low, moment_of, noting, NotesAtMost, NotesMore, saving_rules, tried_with, trying};
+ghost use Rattle.ug_core.specs.Event.{begun, begun_at, daemon_of, first_entry, handling, has_numbers, is_low, moment_of, noting, NotesAtMost, NotesMore, saving_rules, tried_with, trying};
 ghost use Rattle.ug_core.specs.Laws.{Handles, HandlesEvent, NamesOnceIn, PassesEvent, TellsSweep, TellsTried};
 
 use crate::between::Between;
@@ -171,12 +171,28 @@ impl<'z, R: Rng> Daemon<'z, R> {
             (members (λ b. ⟦<dyn Auditor as Auditor>⟧ b.vtable) panel.new) }
     {
         let number = self.next_event;
-        self.policy.set_moment(moment_of(event));
-        self.report.event = number;
+        self.begin_with(moment_of(event), first_entry(number, event), panel);
+    }
+
+    // An event begins with that entry.
+    pub(crate) fn begin_with(&mut self, moment: Moment, first: Entry, panel: &mut Panel)
+        requires kind { tells_drop first ≡ false }
+        ensures daemon { daemon_of self.new ≡ begun_at moment first (daemon_of self.old) }
+        ensures spare { 10 * length self.new.table.standings + 63 + live_in panel.new
+            ≤ self.new.report.entries.spare }
+        ensures reply { self.new.report.reply ≡ None }
+        ensures watch { self.new.report.watch ≡ false }
+        ensures number { self.new.report.event ≡ self.old.next_event }
+        ensures noted { NotesEntries self.new.report.entries.entries
+            (members (λ b. ⟦<dyn Auditor as Auditor>⟧ b.vtable) panel.old)
+            (members (λ b. ⟦<dyn Auditor as Auditor>⟧ b.vtable) panel.new) }
+    {
+        self.policy.set_moment(moment);
+        self.report.event = self.next_event;
         self.report.entries.clear();
         self.report.reply = None;
         self.report.watch = false;
-        self.note(first_entry(number, event), panel);
+        self.note(first, panel);
     }
 
     // Notes an entry, for which there is room.
@@ -198,7 +214,7 @@ impl<'z, R: Rng> Daemon<'z, R> {
 
     // A pending save is tried.
     #[tactic(auto, unfolding(crate::specs::Event::trying))]
-    fn save_pending<D: RuleDisk>(
+    pub(crate) fn save_pending<D: RuleDisk>(
         &mut self,
         alloc: Global,
         disk: &mut D,

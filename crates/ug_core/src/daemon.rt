@@ -1,5 +1,5 @@
 // The daemon's state.
-ghost use Rattle.std.specs.Prelude.{◌≤◌, ◌+◌, ◌*◌, length};
+ghost use Rattle.std.specs.Prelude.{◌≡◌, ◌≤◌, ◌+◌, ◌*◌, [], length};
 
 use crate::policy::Policy;
 use crate::report::Report;
@@ -9,6 +9,7 @@ use ug_kernel::Write;
 use ug_store::Store;
 use ug_table::Table;
 use ug_types::{Moment, Principal, Text};
+use ug_uevent::Hints;
 
 /// What the daemon is to do.
 #[derive(Drop)]
@@ -19,8 +20,8 @@ pub enum Event {
     Order(Moment, Principal, Text),
 }
 
-/// The policy, the standings, what is written to the default of each root hub, the store of the rule file, who may do what, and the report of
-/// the last event.
+/// The policy, the standings, what is written to the default of each root hub, the store of the rule file, who may do what, what is kept of a
+/// stream of uevents, and the report of the last event.
 #[derive(Drop)]
 pub struct Daemon<'z, R: Rng> {
     pub(crate) policy: Policy<'z, R>,
@@ -28,7 +29,9 @@ pub struct Daemon<'z, R: Rng> {
     pub(crate) hub_default: Option<Write>,
     pub(crate) store: Store,
     pub(crate) acl: Acl,
+    pub(crate) hints: Hints,
     pub(crate) next_event: u64,
     pub(crate) report: Report,
     ghost room: { 10 * length table.standings + 128 ≤ report.entries.room },
+    ghost handed_out: { hints.messages ≡ [] },
 }

@@ -9,6 +9,7 @@ mod classes;
 mod daemon;
 mod device_list;
 mod folder;
+mod hinting;
 mod laws;
 mod list_laws;
 mod load;

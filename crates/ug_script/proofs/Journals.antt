@@ -320,7 +320,7 @@ daemon_run beside policy b file hs k p e few holds chain = record {
   file = file;
   holds = holds;
   chain = chain;
-  run = is_run (with_rules b.rules policy) beside.hub b.number b.kernel (Some file) (started_at b.number beside (with_rules b.rules policy)) hs k p e (record { judge = refl; hub = refl; standings = refl; next = refl; listed = refl; entries = refl; pending = refl; event = refl; reply = refl; watch = refl }) chain;
+  run = is_run (with_rules b.rules policy) beside.hub b.number b.kernel (Some file) (started_at b.number beside (with_rules b.rules policy)) hs k p e (record { judge = refl; hub = refl; standings = refl; next = refl; listed = refl; entries = refl; pending = refl; stream = refl; event = refl; reply = refl; watch = refl }) chain;
 }
 
 -- each text that a crash may leave behind a run is one of those that it might have left

@@ -153,6 +153,7 @@ swept_from a m h =
       hub = sweep_keeps_hub Gives m a.sweep v t (play_runs p m);
       access = refl;
       pending = refl;
+      stream = refl;
       event = refl;
       reply = refl;
       watch = refl;

@@ -27,27 +27,32 @@ use Rattle.ug_core.specs.declared.classes.Classes.{Classes}
 use Rattle.ug_core.specs.Starting.{Starts, Loads, StartsWith, StartsAfter, StartsFrom, fault_of_recovery, StartsWithRules, HoldsJust, HasRulesOf, Outset, policy_at}
 use Rattle.ug_core.specs.declared.start_fault.StartFault.{StartFault}
 use Rattle.ug_core.specs.declared.start_fault.StartFault.TheVariants as fault
+use Rattle.ug_uevent.specs.Streams.{Stream, nothing_begun}
 use Rattle.ug_script.specs.declared.start.NoStart.{NoStart}
 use Rattle.ug_script.specs.declared.start.NoStart.TheVariants as no_start
 use Rattle.ug_script.specs.Setup.{Beside, SetupState, StartsOn, access_of, beside_of, after_reading, policy_of, rules_from, rules_if_read, rules_taken, first_started, started_at, with_rules}
 use Rattle.ug_script.specs.Script.{fits_file, no_start_of}
 
-abbrev made : List Standing → ℕ → Bool → Judging → Option Write → List Entry → List Addition → Bool → ℕ → Option Reply → Bool → DaemonState
-made ss next listed judge hub es access pending number reply watch = record { sweep = record { standings = ss; next = next; listed = listed; judge = judge; hub = hub; entries = es }; access = access; pending = pending; event = number; reply = reply; watch = watch }
+abbrev no_stream : Stream
+no_stream = record { messages = []; begun = nothing_begun }
+
+abbrev made : List Standing → ℕ → Bool → Judging → Option Write → List Entry → List Addition → Bool → Stream → ℕ → Option Reply → Bool → DaemonState
+made ss next listed judge hub es access pending stream number reply watch = record { sweep = record { standings = ss; next = next; listed = listed; judge = judge; hub = hub; entries = es }; access = access; pending = pending; stream = stream; event = number; reply = reply; watch = watch }
 
 started_is : (p : Judging) (beside : Beside) (number : ℕ) (d : DaemonState) → IsStarted p beside.hub number d → d.access ≡ beside.access → d ≡ started_at number beside p
 started_is p beside number d h given =
-    ap (λ (x : List Standing). made x d.sweep.next d.sweep.listed d.sweep.judge d.sweep.hub d.sweep.entries d.access d.pending d.event d.reply d.watch) h.standings
-    ∙ ap (λ (x : ℕ). made [] x d.sweep.listed d.sweep.judge d.sweep.hub d.sweep.entries d.access d.pending d.event d.reply d.watch) h.next
-    ∙ ap (λ (x : Bool). made [] 1 x d.sweep.judge d.sweep.hub d.sweep.entries d.access d.pending d.event d.reply d.watch) h.listed
-    ∙ ap (λ (x : Judging). made [] 1 false x d.sweep.hub d.sweep.entries d.access d.pending d.event d.reply d.watch) h.judge
-    ∙ ap (λ (x : Option Write). made [] 1 false p x d.sweep.entries d.access d.pending d.event d.reply d.watch) h.hub
-    ∙ ap (λ (x : List Entry). made [] 1 false p beside.hub x d.access d.pending d.event d.reply d.watch) h.entries
-    ∙ ap (λ (x : List Addition). made [] 1 false p beside.hub [] x d.pending d.event d.reply d.watch) given
-    ∙ ap (λ (x : Bool). made [] 1 false p beside.hub [] beside.access x d.event d.reply d.watch) h.pending
-    ∙ ap (λ (x : ℕ). made [] 1 false p beside.hub [] beside.access false x d.reply d.watch) h.event
-    ∙ ap (λ (x : Option Reply). made [] 1 false p beside.hub [] beside.access false number x d.watch) h.reply
-    ∙ ap (λ (x : Bool). made [] 1 false p beside.hub [] beside.access false number None x) h.watch
+    ap (λ (x : List Standing). made x d.sweep.next d.sweep.listed d.sweep.judge d.sweep.hub d.sweep.entries d.access d.pending d.stream d.event d.reply d.watch) h.standings
+    ∙ ap (λ (x : ℕ). made [] x d.sweep.listed d.sweep.judge d.sweep.hub d.sweep.entries d.access d.pending d.stream d.event d.reply d.watch) h.next
+    ∙ ap (λ (x : Bool). made [] 1 x d.sweep.judge d.sweep.hub d.sweep.entries d.access d.pending d.stream d.event d.reply d.watch) h.listed
+    ∙ ap (λ (x : Judging). made [] 1 false x d.sweep.hub d.sweep.entries d.access d.pending d.stream d.event d.reply d.watch) h.judge
+    ∙ ap (λ (x : Option Write). made [] 1 false p x d.sweep.entries d.access d.pending d.stream d.event d.reply d.watch) h.hub
+    ∙ ap (λ (x : List Entry). made [] 1 false p beside.hub x d.access d.pending d.stream d.event d.reply d.watch) h.entries
+    ∙ ap (λ (x : List Addition). made [] 1 false p beside.hub [] x d.pending d.stream d.event d.reply d.watch) given
+    ∙ ap (λ (x : Bool). made [] 1 false p beside.hub [] beside.access x d.stream d.event d.reply d.watch) h.pending
+    ∙ ap (λ (x : Stream). made [] 1 false p beside.hub [] beside.access false x d.event d.reply d.watch) h.stream
+    ∙ ap (λ (x : ℕ). made [] 1 false p beside.hub [] beside.access false no_stream x d.reply d.watch) h.event
+    ∙ ap (λ (x : Option Reply). made [] 1 false p beside.hub [] beside.access false no_stream number x d.watch) h.reply
+    ∙ ap (λ (x : Bool). made [] 1 false p beside.hub [] beside.access false no_stream number None x) h.watch
 
 -- ---- the rules of a text
 

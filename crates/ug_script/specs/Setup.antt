@@ -21,6 +21,7 @@ use Rattle.ug_lines.specs.LineReading.{lines_read}
 use Rattle.ug_core.specs.Starting.{Marked, entries_from, start_rules}
 use Rattle.ug_core.specs.Settings.{classes_of, hub_default}
 use Rattle.ug_core.specs.Policy.{Judging}
+use Rattle.ug_uevent.specs.Streams.{nothing_begun}
 use Rattle.ug_core.specs.Event.{DaemonState}
 use Rattle.ug_print.specs.RuleTexts.{rules_limit, rules_text_of}
 use Rattle.ug_rule.specs.Files.{file_read}
@@ -196,6 +197,7 @@ started_at number beside policy =
       };
       access = beside.access;
       pending = false;
+      stream = record { messages = []; begun = nothing_begun };
       event = number;
       reply = None;
       watch = false;

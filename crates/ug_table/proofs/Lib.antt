@@ -2,6 +2,7 @@ pub mod Common
 pub mod Loops
 pub mod Allowed
 pub mod Devices
+pub mod Distinct
 pub mod Standings
 pub mod Says
 pub mod Steps

@@ -15,6 +15,7 @@ pub mod PartOrder
 pub mod Parts
 pub mod One
 pub mod Several
+pub mod Compared
 pub mod Orders
 pub mod Slots
 pub mod Watched

@@ -1,5 +1,5 @@
 // The sweep over all devices.
-ghost use Rattle.std.specs.Prelude.{◌≡◌, ◌≤◌, ◌<◌, ◌+◌, ◌-◌, ◌*◌, ◌^◌, ◌++◌, ◌∷◌, [], min, length, vec_capacity};
+ghost use Rattle.std.specs.Prelude.{◌≡◌, ◌≤◌, ◌<◌, ◌+◌, ◌-◌, ◌*◌, ◌^◌, ◌++◌, ◌∷◌, [], min, length, vec_capacity, OnErr, OnOk};
 ghost use Rattle.std.specs.List.Sorted.{IsSorted};
 ghost use Rattle.ug_types.specs.Names.{sweep_cmp};
 ghost use Rattle.ug_table.specs.Slots.{filled};
@@ -24,7 +24,7 @@ use std::alloc::Global;
 use ug_audit::{Auditor, Entry, Fault, Journal};
 use ug_kernel::{Listing, Sysfs, Write};
 use ug_node::failed_call;
-use ug_types::{List, NodeName, sort_names};
+use ug_types::{List, NoMemory, NodeName, sort_names};
 
 // An entry for a standing whose name isn't listed.
 fn bid_one(s: &Standing, names: &[NodeName], out: &mut Journal)
@@ -198,6 +198,23 @@ impl Table {
         }
     }
 
+    /// Makes room for what is noted where each standing is settled, and so many names are. A refusal changes nothing.
+    pub fn make_room(&self, names: usize, out: &mut Journal) -> Result<(), NoMemory>
+        ensures same { SameEntries (λ b. ⟦<dyn Auditor as Auditor>⟧ b.vtable) out.old out.new }
+        ensures entries { (noted_in out.new).entries ≡ (noted_in out.old).entries }
+        ensures all { out.new.entries.now.entries ≡ out.old.entries.now.entries }
+        ensures panel { out.new.panel.now ≡ out.old.panel.now }
+        ensures ok { OnOk result (10 * (length self.now.standings + names) + 65
+            ≤ (noted_in out.new).spare) }
+        ensures more { (noted_in out.old).spare ≤ (noted_in out.new).spare }
+        ensures room { (noted_in out.old).room ≤ (noted_in out.new).room }
+        ensures enough { OnOk result (10 * (length self.now.standings + names) + 65
+            ≤ (noted_in out.new).room) }
+        ensures err { OnErr result (out.new.entries.now ≡ out.old.entries.now) }
+    {
+        out.reserve(room_for(self.standings.count(), names))
+    }
+
     /// Settles each of these names in order, without a listing: the standings of other names stay as they are, and no
     /// other name is told. A device was present at the start where that is said. It is what a sweep does behind its
     /// listing.
@@ -344,7 +361,7 @@ impl Table {
                 return;
             }
         };
-        if out.reserve(room_for(&self.standings, &names)).is_err() {
+        if self.make_room(names.len(), out).is_err() {
             self.go_unlisted(alloc, sysfs, Fault::Memory, judge, hub_default, out);
             return;
         }
@@ -356,12 +373,11 @@ impl Table {
     }
 }
 
-// Ten entries for each name, and some for the event.
-fn room_for(standings: &Standings, names: &[NodeName]) -> usize
-    ensures { min (2 ^ 64 - 1) (10 * (length standings.now.items + length names.now) + 65)
-        ≤ result }
+// Ten entries for each, and some for the event.
+fn room_for(standings: usize, names: usize) -> usize
+    ensures { min (2 ^ 64 - 1) (10 * (standings + names) + 65) ≤ result }
 {
-    let count = standings.count() as u128 + names.len() as u128;
+    let count = standings as u128 + names as u128;
     let room = 10 * count + 65;
     if room > usize::MAX as u128 {
         usize::MAX

@@ -28,6 +28,7 @@ returns-clause-law g c = λ l e.
           refl
           refl
           refl
+          refl
           refl,
     )
 

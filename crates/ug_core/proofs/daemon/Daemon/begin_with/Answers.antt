@@ -1,7 +1,7 @@
 use Rattle.std.proofs.Common.{length, ap, arith}
 use Rattle.ug_audit.proofs.Noting.{live_few}
 use Rattle.ug_core.specs.Event.{DaemonState}
-use Rattle.ug_core.proofs.daemon.Daemon.begin.Goals as goal
+use Rattle.ug_core.proofs.daemon.Daemon.begin_with.Goals as goal
 
 pub note-requires-clause-place : goal.note-requires-clause-place
 note-requires-clause-place g c =
