@@ -97,7 +97,7 @@ module _ (event : events.Event) (s : Script) (w : World) (runs : EventsOfRuns) (
   hs : AllReadable (runs.last ++ happened_at event s w ∷ [])
   hs = events_more runs.last (happened_at event s w) h.last reads.1
 
-  came_reread : (stopped : Bool) (loaded : Result (List Rule) LineRefusal) → RereadBy (in_script s (cond stopped (stopped_of s.setup (stop_of event s w) (event_of event s w) loaded) (finished (event_of event s w)))) (with_stop stopped (stop_of event s w) (with_events (happened_at event s w ∷ []) runs))
+  came_reread : (stopped : Bool) (loaded : Result (List Rule) LineRefusal) → RereadBy (in_script s (cond stopped (stopped_of s.setup (stop_of event s w) (event_of event s w) loaded) (finished s.setup.ifaces (event_of event s w)))) (with_stop stopped (stop_of event s w) (with_events (happened_at event s w ∷ []) runs))
   came_reread true (Ok rules) = record { first = λ e. starts_reread s runs reads.0 h; ended = runs_more runs.ended (record { events = runs.last ++ happened_at event s w ∷ []; stop = Some (stop_of event s w) }) h.ended hs; last = tt }
   came_reread true (Err fault) = tt
   came_reread false loaded = record { first = λ e. starts_reread s runs reads.0 h; ended = h.ended; last = hs }

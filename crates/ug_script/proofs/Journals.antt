@@ -2,7 +2,7 @@
 -- and a script without failures names nobody and judges each device once. Wherever lines lead, the script is lawful.
 use Rattle.std.proofs.lemmas.Bool.{leb-true}
 use Rattle.std.proofs.lemmas.Bool.Decides.{nat_tests}
-use Rattle.std.proofs.Common.{◌≡◌, ℕ, ◌+◌, ◌*◌, ◌<◌, ◌≤◌, arith, Bool, true, false, ◌&&◌, ◌||◌, cond, nat_eq, nat_lt, nat_le, map, List, [], ◌∷◌, ◌++◌, length, flat_map, Option, Some, None, inl, inr, refl, sym, ◌∙◌, ap, subst, append_assoc, append-nil}
+use Rattle.std.proofs.Common.{◌≡◌, ℕ, ◌+◌, ◌*◌, ◌<◌, ◌≤◌, arith, Bool, true, false, ◌&&◌, ◌||◌, cond, nat_eq, nat_lt, nat_le, map, List, [], ◌∷◌, ◌++◌, length, length-append, flat_map, Option, Some, None, inl, inr, refl, sym, ◌∙◌, ap, subst, append_assoc, append-nil}
 use Rattle.std.specs.Cmp.Lexicographic.{pointwise}
 use Rattle.std.specs.List.{list_any}
 use Rattle.ug_types.specs.Elements.{Has}
@@ -67,13 +67,20 @@ use Rattle.ug_script.specs.FolderLines.{rules_in_folder}
 use Rattle.ug_script.specs.Grammar.{AsksForRules, step_of_line}
 use Rattle.ug_script.specs.Setup.{Beside, SetupState, no_setup, one_line_more, beside_of, after_reading, folder_of, policy_of, rules_disk, setup_rule, setup_rules, rules_from, rules_if_read, first_started, started_at, steps_of, with_rules}
 use Rattle.ug_script.specs.Script.{Script, Phase, fresh, takes_setup, has_started, closed_phase, with_setup_closed, daemon_by, daemon_in, disk_by, disk_in, can_start}
-use Rattle.ug_script.specs.Replay.{header, outcome_of, outcome_text, quiet, bad, line_added, with_plan, with_played, with_restart, planned, Played, order_played_by, answered_from, answered_of, begun_again, came_of, disk_of, event_from, event_of, finished, halted, in_script, left_played, restarted, stopped_of, stopped_text, taken, taken_if, tried_by, script_step}
-use Rattle.ug_script.specs.Laws.{calls_of, faults_of, StaysLawful}
-use Rattle.ug_script.specs.Journal.{happened_at, left_by, left_behind, EventsOfRuns, RunEnd, no_events, with_end, with_events, with_stop, runs_by, runs_after, runs_in, stop_of, text_to_stop, journals, journal_of, events_text, run_text, runs_text, text_of_runs, RunStart, first_start, HoldsAtStart, IsDaemonRun, EndedRun, AreSuccessive, JudgesOnce, is_quiet, AreQuiet, Recorded, StaysRecorded}
+use Rattle.ug_script.specs.Replay.{header, outcome_of, outcome_text, quiet, bad, line_added, with_plan, with_played, with_restart, planned, Played, order_played_by, answered_from, answered_of, begun_again, came_of, disk_of, event_from, event_of, finished, finished_text, halted, in_script, left_played, restarted, stopped_of, stopped_text, taken, taken_if, tried_by, script_step}
+use Rattle.ug_script.specs.Laws.{calls_of, faults_of, IsFaultless, StaysLawful}
+use Rattle.ug_script.specs.Journal.{happened_at, pass_at, ended_by, left_by, left_behind, EventsOfRuns, RunEnd, no_events, with_end, with_events, with_stop, runs_by, runs_after, runs_in, stop_of, text_to_stop, journals, journal_of, events_text, run_text, runs_text, text_of_runs, RunStart, first_start, HoldsAtStart, IsDaemonRun, EndedRun, AreSuccessive, JudgesOnce, is_quiet, AreQuiet, Recorded, StaysRecorded}
 use Rattle.ug_script.proofs.FileTexts.{StandsBehind, event_file, event_stands, event_text, in_force_stands, readable_front, stands_so}
-use Rattle.ug_script.proofs.OnEntries.{event_on_entries}
+use Rattle.ug_script.proofs.OnEntries.{event_ends_on_entries, event_on_entries}
 use Rattle.ug_script.proofs.Phases.{open_unstarted, closed_daemon, closed_disk, closed_started}
 use Rattle.ug_script.proofs.Halts.{halted_moves}
+use Rattle.ug_script.specs.Passes.{pass_behind}
+use Rattle.ug_script.proofs.PassBehind.{IsBehind, behind_holds, event_ends, pass_is_behind}
+use Rattle.ug_sysfs.specs.IfaceMoves.{sound_one}
+use Rattle.ug_sysfs.specs.Serving.{bus_in}
+use Rattle.ug_script.proofs.BusSound.{IsSoundWorld, over_sound}
+use Rattle.ug_script.proofs.FewStandings.{event_few}
+use Rattle.ug_script.proofs.PassFits.{event_sound, left_sound, pass_fits}
 use Rattle.ug_script.proofs.Lawful.{Holds, HoldsOf, answered_holds, answers, made_by, swept_tells, halted_holds, handled, event_disk, event_holds, event_nobody, event_saved, move_holds, order_runs, plan_holds, no_standing, start_of, swept_from}
 use Rattle.ug_script.proofs.Stopped.{lawful_event}
 use Rattle.ug_script.proofs.Numbers.{Fits, FitsOf, fits_more, event_fits, started_fits, fits_numbers}
@@ -90,7 +97,9 @@ record Kept (first : World) (n : ℕ) (done : List (Option Step)) (runs : Events
   few : n ≤ 1048576
   holds : HoldsOf (daemon_in s) w
   on_entries : HasOnEntries first.kernel → HasOnEntries w.kernel
-  fits : first.faults ≡ 0 → FitsOf n (daemon_in s) w (disk_in s)
+  few_standings : length (daemon_in s).sweep.standings ≤ 65536
+  bus : IsSoundWorld first → IsSoundWorld w
+  fits : IsFaultless first → FitsOf n (daemon_in s) w (disk_in s)
   given : IsGiven n done s.setup
   kept : (disk_in s).ran_out ≡ false
   possible : IsImage (disk_in s).disk.left (disk_in s).disk.text
@@ -101,6 +110,7 @@ record Kept (first : World) (n : ℕ) (done : List (Option Step)) (runs : Events
   ended : AreSuccessive (beside_of s.setup) (policy_of s.setup) (first_start s.setup.rules first.kernel) runs.ended start
   chain : Chain start.kernel (Some file) (started_at start.number (beside_of s.setup) (with_rules start.rules (policy_of s.setup))) runs.last w.kernel (disk_told (disk_in s)) (daemon_in s)
   none : has_started s.phase ≡ false → runs ≡ no_events
+  passes : length runs.last ≡ length runs.passes
   written : text ≡ text_of_runs runs
   nobody : AreQuiet done → IsUnfailing first → NameNobody (journal_of runs)
   unfailing : AreQuiet done → IsUnfailing first → IsUnfailing w
@@ -152,6 +162,8 @@ setup_kept first n done runs text s w step setup lt opened h given =
       few = omega (arith, lt);
       holds = subst (λ (d : DaemonState). HoldsOf d w) (sym new) (record { told = h.holds.told; sound = h.holds.sound; stand = no_standing w.kernel });
       on_entries = h.on_entries;
+      few_standings = let same = ap (λ (d : DaemonState). length d.sweep.standings) new in omega (arith, same);
+      bus = h.bus;
       fits = λ e.
           let low : w.faults ≤ 2199023255552 * n = (h.fits e).few_faults in
           let more : w.faults ≤ 2199023255552 * (n + 1) = omega (arith, low) in
@@ -165,8 +177,9 @@ setup_kept first n done runs text s w step setup lt opened h given =
       at_start = first_holds setup first.kernel;
       ended = subst (λ (x : EventsOfRuns). AreSuccessive (beside_of setup) (policy_of setup) b x.ended b) (sym none) refl;
       chain = subst (λ (p : Judging). Chain first.kernel file (started_at 1 (beside_of setup) p) runs.last w.kernel (disk_told (disk_by setup s.phase)) (daemon_by setup s.phase)) (sym (own_rules setup))
-      (subst (λ (x : EventsOfRuns). Chain first.kernel file (first_started setup) x.last w.kernel (disk_told (disk_by setup s.phase)) (daemon_by setup s.phase)) (sym none) (moves, stays, new));
+          (subst (λ (x : EventsOfRuns). Chain first.kernel file (first_started setup) x.last w.kernel (disk_told (disk_by setup s.phase)) (daemon_by setup s.phase)) (sym none) (moves, stays, new));
       none = h.none;
+      passes = h.passes;
       written = h.written;
       nobody = λ q. h.nobody (quiet_front done step q).0;
       unfailing = λ q. h.unfailing (quiet_front done step q).0;
@@ -186,14 +199,16 @@ kept_when first n done runs text false o s w x = tt
 
 -- ---- a line that changes neither the policy nor the daemon
 
-on_kept : (first : World) (n : ℕ) (done : List (Option Step)) (runs : EventsOfRuns) (text : List ℕ) (s : Script) (w v : World) (step : Option Step) (phase : Phase) (plan : List Planned) → n < 1048576 → Kept first n done runs text s w → daemon_by s.setup phase ≡ daemon_in s → disk_by s.setup phase ≡ disk_in s → has_started phase ≡ has_started s.phase → IsGiven (n + 1) (done ++ step ∷ []) s.setup → HoldsOf (daemon_in s) v → Moves w.kernel v.kernel → v.faults ≡ w.faults
+on_kept : (first : World) (n : ℕ) (done : List (Option Step)) (runs : EventsOfRuns) (text : List ℕ) (s : Script) (w v : World) (step : Option Step) (phase : Phase) (plan : List Planned) → n < 1048576 → Kept first n done runs text s w → daemon_by s.setup phase ≡ daemon_in s → disk_by s.setup phase ≡ disk_in s → has_started phase ≡ has_started s.phase → IsGiven (n + 1) (done ++ step ∷ []) s.setup → HoldsOf (daemon_in s) v → Moves w.kernel v.kernel → v.faults ≡ w.faults → (IsSoundWorld w → IsSoundWorld v)
     → (AreQuiet (done ++ step ∷ []) → IsUnfailing first → IsUnfailing v) → (AreQuiet (done ++ step ∷ []) → first.moves ≡ [] → v.moves ≡ []) → (AreQuiet (done ++ step ∷ []) → plan ≡ []) → Kept first (n + 1) (done ++ step ∷ []) runs text (record s { phase = phase; planned = plan }) v
-on_kept first n done runs text s w v step phase plan lt h same on event_begun given holds moves faults unfailing unmoved unplanned =
+on_kept first n done runs text s w v step phase plan lt h same on event_begun given holds moves faults keeps unfailing unmoved unplanned =
     let new : DaemonState = started_at h.start.number (beside_of s.setup) (with_rules h.start.rules (policy_of s.setup)) in
     record {
       few = omega (arith, lt);
       holds = subst (λ (d : DaemonState). HoldsOf d v) (sym same) holds;
       on_entries = λ g. moves_on_entries w.kernel v.kernel moves (h.on_entries g);
+      few_standings = let few = h.few_standings in let long = ap (λ (d : DaemonState). length d.sweep.standings) same in omega (arith, few, long);
+      bus = λ b. keeps (h.bus b);
       fits = λ e.
           let d : DaemonState = daemon_in s in
           let o : DiskWorld = disk_in s in
@@ -210,6 +225,7 @@ on_kept first n done runs text s w v step phase plan lt h same on event_begun gi
       ended = h.ended;
       chain = subst (λ (o : DiskWorld). Chain h.start.kernel (Some h.file) new runs.last v.kernel (disk_told o) (daemon_by s.setup phase)) (sym on) (subst (λ (d : DaemonState). Chain h.start.kernel (Some h.file) new runs.last v.kernel (disk_told (disk_in s)) d) (sym same) (chain_moves h.start.kernel (Some h.file) new runs.last w.kernel v.kernel (disk_told (disk_in s)) (disk_told (disk_in s)) (daemon_in s) h.chain moves (stays_there (disk_told (disk_in s)))));
       none = λ e. h.none (sym event_begun ∙ e);
+      passes = h.passes;
       written = h.written;
       nobody = λ q. h.nobody (quiet_front done step q).0;
       unfailing = unfailing;
@@ -223,7 +239,7 @@ closed_now : {X : Type 0} → false ≡ true → X
 closed_now e = let none : ⊥ = cc in absurd none
 
 skip_kept : (first : World) (n : ℕ) (done : List (Option Step)) (runs : EventsOfRuns) (text : List ℕ) (s : Script) (w : World) → n < 1048576 → Kept first n done runs text s w → Kept first (n + 1) (done ++ Some Skip ∷ []) runs text s w
-skip_kept first n done runs text s w lt h = on_kept first n done runs text s w w (Some Skip) s.phase s.planned lt h refl refl refl (given_still n done (Some Skip) s.setup refl refl refl refl refl refl h.given) h.holds (unmoving w.kernel) refl (λ q. h.unfailing (quiet_front done (Some Skip) q).0) (λ q. h.unmoved (quiet_front done (Some Skip) q).0) (λ q. h.unplanned (quiet_front done (Some Skip) q).0)
+skip_kept first n done runs text s w lt h = on_kept first n done runs text s w w (Some Skip) s.phase s.planned lt h refl refl refl (given_still n done (Some Skip) s.setup refl refl refl refl refl refl h.given) h.holds (unmoving w.kernel) refl (λ b. b) (λ q. h.unfailing (quiet_front done (Some Skip) q).0) (λ q. h.unmoved (quiet_front done (Some Skip) q).0) (λ q. h.unplanned (quiet_front done (Some Skip) q).0)
 
 -- ---- an event
 
@@ -266,17 +282,26 @@ event_possible event d w o told is = by_event event (ready event (tried_by d o).
     by_event (Sweep moment) r m q told is = is
     by_event (Order moment who line) r m q told is = play_stays_possible (storing r (play (asking r who line) m).0.change) q told is
 
-events_append : (gs hs : List Happened) → events_text (gs ++ hs) ≡ events_text gs ++ events_text hs
-events_append [] hs = refl
-events_append (g ∷ gs) hs = ap (λ (l : List ℕ). outcome_text (outcome_of g.after) ++ l) (events_append gs hs) ∙ sym (append_assoc (outcome_text (outcome_of g.after)) (events_text gs) (events_text hs))
+-- what one event and its pass write
+abbrev one_text : Happened → List ℕ → List ℕ
+one_text h pass = outcome_text (outcome_of h.after) ++ pass
 
-text_more : (runs : EventsOfRuns) (h : Happened) → text_of_runs (with_events (h ∷ []) runs) ≡ text_of_runs runs ++ outcome_text (outcome_of h.after)
-text_more runs h =
-    ap (λ (l : List ℕ). runs_text runs.ended ++ l) (events_append runs.last (h ∷ []) ∙ ap (λ (l : List ℕ). events_text runs.last ++ l) (append-nil (outcome_text (outcome_of h.after))))
-    ∙ sym (append_assoc (runs_text runs.ended) (events_text runs.last) (outcome_text (outcome_of h.after)))
+events_append : (gs : List Happened) (passes : List (List ℕ)) (h : Happened) (pass : List ℕ) → length gs ≡ length passes → events_text (gs ++ h ∷ []) (passes ++ pass ∷ []) ≡ events_text gs passes ++ one_text h pass
+events_append [] [] h pass e = append-nil (one_text h pass)
+events_append [] (p ∷ ps) h pass e = absurd (omega (arith, e))
+events_append (g ∷ gs) [] h pass e = absurd (omega (arith, e))
+events_append (g ∷ gs) (p ∷ ps) h pass e = ap (λ (l : List ℕ). one_text g p ++ l) (events_append gs ps h pass (omega (arith, e))) ∙ sym (append_assoc (one_text g p) (events_text gs ps) (one_text h pass))
 
-journal_more : (runs : EventsOfRuns) (h : Happened) → journal_of (with_events (h ∷ []) runs) ≡ journal_of runs ++ h.after.sweep.entries
-journal_more runs h =
+text_more : (runs : EventsOfRuns) (h : Happened) (pass : List ℕ) → length runs.last ≡ length runs.passes → text_of_runs (with_events (h ∷ []) (pass ∷ []) runs) ≡ text_of_runs runs ++ one_text h pass
+text_more runs h pass e =
+    ap (λ (l : List ℕ). runs_text runs.ended ++ l) (events_append runs.last runs.passes h pass e)
+    ∙ sym (append_assoc (runs_text runs.ended) (events_text runs.last runs.passes) (one_text h pass))
+
+one_more_each : (hs : List Happened) (passes : List (List ℕ)) (h : Happened) (pass : List ℕ) → length hs ≡ length passes → length (hs ++ h ∷ []) ≡ length (passes ++ pass ∷ [])
+one_more_each hs passes h pass e = length-append hs (h ∷ []) ∙ ap (λ (n : ℕ). n + 1) e ∙ sym (length-append passes (pass ∷ []))
+
+journal_more : (runs : EventsOfRuns) (h : Happened) (pass : List ℕ) → journal_of (with_events (h ∷ []) (pass ∷ []) runs) ≡ journal_of runs ++ h.after.sweep.entries
+journal_more runs h pass =
     ap (λ (es : List Entry). journals runs.ended ++ es) (journal_append runs.last (h ∷ []) ∙ ap (λ (es : List Entry). journal runs.last ++ es) (append-nil h.after.sweep.entries))
     ∙ sym (append_assoc (journals runs.ended) (journal runs.last) h.after.sweep.entries)
 
@@ -288,20 +313,25 @@ event_stood first n done runs text event s w h f r =
     event_stands runs.last this k.1 (disk_in s).disk.text (event_of event s w).disk.disk.text (event_text event (daemon_in s) w (disk_of s) h.kept) (h.stands f k.0)
 
 event_kept : (first : World) (n : ℕ) (done : List (Option Step)) (runs : EventsOfRuns) (text : List ℕ) (event : events.Event) (s : Script) (w : World) → n < 1048576 → Kept first n done runs text s w
-    → Kept first (n + 1) (done ++ Some (Event event) ∷ []) (with_events (happened_at event s w ∷ []) runs) (text ++ outcome_text (outcome_of (event_of event s w).daemon)) (with_played s (left_played (event_of event s w))) (over (event_of event s w).world)
-event_kept first n done runs text event s w lt h =
+    → (pass : List ℕ) → pass ≡ (pass_behind s.setup.ifaces (event_of event s w).daemon (event_of event s w).world).text
+    → Kept first (n + 1) (done ++ Some (Event event) ∷ []) (with_events (happened_at event s w ∷ []) (pass ∷ []) runs) (text ++ finished_text s.setup.ifaces (event_of event s w)) (with_played s (left_played s.setup.ifaces (event_of event s w))) (left_played s.setup.ifaces (event_of event s w)).world
+event_kept first n done runs text event s w lt h pass passed =
     let d : DaemonState = daemon_in s in
     let o : DiskWorld = disk_of s in
     let p = event_of event s w in
     let step : Option Step = Some (Event event) in
     let this : Happened = happened_at event s w in
-    let all : journal_of (with_events (this ∷ []) runs) ≡ journal_of runs ++ p.daemon.sweep.entries = journal_more runs this in
+    let all : journal_of (with_events (this ∷ []) (pass ∷ []) runs) ≡ journal_of runs ++ p.daemon.sweep.entries = journal_more runs this pass in
     let new : DaemonState = started_at h.start.number (beside_of s.setup) (with_rules h.start.rules (policy_of s.setup)) in
+    let left : World = (left_played s.setup.ifaces p).world in
+    let behind : IsBehind p.world left = pass_is_behind s.setup.ifaces p.daemon p.world in
     record {
       few = omega (arith, lt);
-      holds = event_holds event d w o h.holds;
-      on_entries = λ g. event_on_entries event d w o h.holds (h.on_entries g);
-      fits = λ e. event_fits n event d w o lt h.holds h.kept (h.fits e);
+      holds = behind_holds p.daemon p.world left behind (event_ends event d w o h.holds);
+      on_entries = λ g. moves_on_entries p.world.kernel left.kernel behind.moves (event_ends_on_entries event d w o h.holds (h.on_entries g));
+      few_standings = (event_few event d w o h.holds h.few_standings).1;
+      bus = λ b. left_sound event d w o s.setup.ifaces h.holds (h.bus b);
+      fits = λ e. pass_fits n event d w o s.setup.ifaces lt h.holds h.kept h.few_standings (h.bus e.1) (h.fits e);
       given = given_still n done step s.setup refl refl refl refl refl refl h.given;
       kept = event_disk event d w o h.kept;
       possible = event_possible event d w o h.kept h.possible;
@@ -310,9 +340,10 @@ event_kept first n done runs text event s w lt h =
       file = h.file;
       at_start = h.at_start;
       ended = h.ended;
-      chain = chain_moves h.start.kernel (Some h.file) new (runs.last ++ this ∷ []) p.world.kernel (over p.world).kernel (disk_told p.disk) (disk_told (forgetting p.disk)) p.daemon (event_chain first n done runs text event s w h) (happened_moves p.world.moves p.world.kernel) (forgets p.disk);
+      chain = chain_moves h.start.kernel (Some h.file) new (runs.last ++ this ∷ []) p.world.kernel left.kernel (disk_told p.disk) (disk_told (forgetting p.disk)) p.daemon (event_chain first n done runs text event s w h) behind.moves (forgets p.disk);
       none = λ e. closed_now (sym e);
-      written = ap (λ (z : List ℕ). z ++ outcome_text (outcome_of p.daemon)) h.written ∙ sym (text_more runs this);
+      passes = one_more_each runs.last runs.passes this pass h.passes;
+      written = ap (λ (z : List ℕ). z ++ finished_text s.setup.ifaces p) h.written ∙ ap (λ (z : List ℕ). text_of_runs runs ++ (outcome_text (outcome_of p.daemon) ++ z)) (sym passed) ∙ sym (text_more runs this pass h.passes);
       nobody = λ q e.
           let quiet = (quiet_front done step q).0 in
           subst NameNobody (sym all) (nobody_more (journal_of runs) p.daemon.sweep.entries (h.nobody quiet e) (event_nobody event d w o h.holds.told (h.unfailing quiet e) h.kept (h.unplanned quiet, refl)));
@@ -376,15 +407,15 @@ journals_append : (xs : List RunEnd) (run : RunEnd) → journals (xs ++ run ∷ 
 journals_append [] run = append-nil (journal run.events)
 journals_append (one ∷ xs) run = ap (λ (es : List Entry). journal one.events ++ es) (journals_append xs run) ∙ sym (append_assoc (journal one.events) (journals xs) (journal run.events))
 
-runs_append : (xs : List RunEnd) (run : RunEnd) → runs_text (xs ++ run ∷ []) ≡ runs_text xs ++ run_text run.stop run.events
-runs_append [] run = append-nil (run_text run.stop run.events)
-runs_append (one ∷ xs) run = ap (λ (l : List ℕ). run_text one.stop one.events ++ l) (runs_append xs run) ∙ sym (append_assoc (run_text one.stop one.events) (runs_text xs) (run_text run.stop run.events))
+runs_append : (xs : List RunEnd) (run : RunEnd) → runs_text (xs ++ run ∷ []) ≡ runs_text xs ++ run_text run.stop run.events run.passes
+runs_append [] run = append-nil (run_text run.stop run.events run.passes)
+runs_append (one ∷ xs) run = ap (λ (l : List ℕ). run_text one.stop one.events one.passes ++ l) (runs_append xs run) ∙ sym (append_assoc (run_text one.stop one.events one.passes) (runs_text xs) (run_text run.stop run.events run.passes))
 
-text_ended : (stop : Option ℕ) (runs : EventsOfRuns) → text_of_runs (with_end stop runs) ≡ runs_text runs.ended ++ run_text stop runs.last
-text_ended stop runs = append-nil (runs_text (runs.ended ++ record { events = runs.last; stop = stop } ∷ [])) ∙ runs_append runs.ended (record { events = runs.last; stop = stop })
+text_ended : (stop : Option ℕ) (runs : EventsOfRuns) → text_of_runs (with_end stop runs) ≡ runs_text runs.ended ++ run_text stop runs.last runs.passes
+text_ended stop runs = append-nil (runs_text (runs.ended ++ ended_by stop runs ∷ [])) ∙ runs_append runs.ended (ended_by stop runs)
 
 journal_ended : (stop : Option ℕ) (runs : EventsOfRuns) → journal_of (with_end stop runs) ≡ journal_of runs
-journal_ended stop runs = append-nil (journals (runs.ended ++ record { events = runs.last; stop = stop } ∷ [])) ∙ journals_append runs.ended (record { events = runs.last; stop = stop })
+journal_ended stop runs = append-nil (journals (runs.ended ++ ended_by stop runs ∷ [])) ∙ journals_append runs.ended (ended_by stop runs)
 
 restart_kept : (first : World) (n : ℕ) (done : List (Option Step)) (runs : EventsOfRuns) (text : List ℕ) (s : Script) (w : World) (rules : List Rule) → n < 1048576 → rules_from s.setup.folder.count (disk_in s).disk.text ≡ Ok rules → Kept first n done runs text s w
     → Kept first (n + 1) (done ++ Some Restart ∷ []) (with_end None runs) (text ++ []) (with_restart rules s) w
@@ -399,7 +430,7 @@ restart_kept first n done runs text s w rules lt loaded h =
     let chain : Chain h.start.kernel (Some h.file) (started_at h.start.number beside (with_rules h.start.rules policy)) runs.last w.kernel (Some o.disk) d = subst (λ (x : Option Disk). Chain h.start.kernel (Some h.file) (started_at h.start.number beside (with_rules h.start.rules policy)) runs.last w.kernel x d) (told_now o h.kept) h.chain in
     let run : IsDaemonRun beside policy h.start runs.last w.kernel (Some o.disk) d = daemon_run beside policy h.start h.file runs.last w.kernel (Some o.disk) d h.few_rules h.at_start chain in
     let b : RunStart = record { rules = rules; text = o.disk.text; unsure = left_behind h.start runs.last d; number = d.event; kernel = w.kernel } in
-    let this : EndedRun beside policy h.start (record { events = runs.last; stop = None }) = record {
+    let this : EndedRun beside policy h.start (ended_by None runs) = record {
       kernel = w.kernel;
       disk = Some o.disk;
       daemon = d;
@@ -414,6 +445,8 @@ restart_kept first n done runs text s w rules lt loaded h =
       few = omega (arith, lt);
       holds = record { told = h.holds.told; sound = h.holds.sound; stand = no_standing w.kernel };
       on_entries = h.on_entries;
+      few_standings = omega arith;
+      bus = h.bus;
       fits = λ e.
           let low : w.faults ≤ 2199023255552 * n = (h.fits e).few_faults in
           let low_disk : o.faults ≤ 2 * n = (h.fits e).few_disk_faults in
@@ -426,9 +459,10 @@ restart_kept first n done runs text s w rules lt loaded h =
       few_rules = few_all n done s.setup rules h.given taken.1;
       file = file;
       at_start = record { text = refl; left = λ text is. inr (left_images beside policy h.start runs.last w.kernel o.disk d run text is) };
-      ended = run_ended beside policy (first_start s.setup.rules first.kernel) runs.ended h.start (record { events = runs.last; stop = None }) this h.ended;
+      ended = run_ended beside policy (first_start s.setup.rules first.kernel) runs.ended h.start (ended_by None runs) this h.ended;
       chain = (unmoving w.kernel, subst (λ (x : Option Disk). StaysOnDisk (Some file) x) (sym (told_reading o h.kept)) (stays_there (Some file)), refl);
       none = λ e. closed_now (sym e);
+      passes = refl;
       written = append-nil text ∙ h.written ∙ sym (text_ended None runs);
       nobody = λ q e. subst NameNobody (sym same) (h.nobody (quiet_front done step q).0 e);
       unfailing = λ q. h.unfailing (quiet_front done step q).0;
@@ -441,19 +475,22 @@ restart_kept first n done runs text s w rules lt loaded h =
 -- ---- a stop
 
 -- what is written of a run whose last event was stopped
-stop_append : (call : ℕ) (hs : List Happened) (h : Happened) → text_to_stop call (hs ++ h ∷ []) ≡ events_text hs ++ stopped_text call h.after.sweep.entries
-stop_append call [] h = refl
-stop_append call (g ∷ []) h = ap (λ (l : List ℕ). l ++ stopped_text call h.after.sweep.entries) (sym (append-nil (outcome_text (outcome_of g.after))))
-stop_append call (g ∷ f ∷ hs) h = ap (λ (l : List ℕ). outcome_text (outcome_of g.after) ++ l) (stop_append call (f ∷ hs) h) ∙ sym (append_assoc (outcome_text (outcome_of g.after)) (events_text (f ∷ hs)) (stopped_text call h.after.sweep.entries))
+stop_append : (call : ℕ) (hs : List Happened) (passes : List (List ℕ)) (h : Happened) → length hs ≡ length passes → text_to_stop call (hs ++ h ∷ []) (passes ++ [] ∷ []) ≡ events_text hs passes ++ stopped_text call h.after.sweep.entries
+stop_append call [] [] h e = refl
+stop_append call [] (p ∷ ps) h e = absurd (omega (arith, e))
+stop_append call (g ∷ hs) [] h e = absurd (omega (arith, e))
+stop_append call (g ∷ []) (p ∷ []) h e = ap (λ (l : List ℕ). l ++ stopped_text call h.after.sweep.entries) (sym (append-nil (one_text g p)))
+stop_append call (g ∷ []) (p ∷ q ∷ ps) h e = absurd (omega (arith, e))
+stop_append call (g ∷ f ∷ hs) (p ∷ ps) h e = ap (λ (l : List ℕ). one_text g p ++ l) (stop_append call (f ∷ hs) ps h (omega (arith, e))) ∙ sym (append_assoc (one_text g p) (events_text (f ∷ hs) ps) (stopped_text call h.after.sweep.entries))
 
-stop_more : (call : ℕ) (runs : EventsOfRuns) (h : Happened) → text_of_runs (with_end (Some call) (with_events (h ∷ []) runs)) ≡ text_of_runs runs ++ stopped_text call h.after.sweep.entries
-stop_more call runs h =
-    text_ended (Some call) (with_events (h ∷ []) runs)
-    ∙ ap (λ (l : List ℕ). runs_text runs.ended ++ l) (stop_append call runs.last h)
-    ∙ sym (append_assoc (runs_text runs.ended) (events_text runs.last) (stopped_text call h.after.sweep.entries))
+stop_more : (call : ℕ) (runs : EventsOfRuns) (h : Happened) → length runs.last ≡ length runs.passes → text_of_runs (with_end (Some call) (with_events (h ∷ []) ([] ∷ []) runs)) ≡ text_of_runs runs ++ stopped_text call h.after.sweep.entries
+stop_more call runs h e =
+    text_ended (Some call) (with_events (h ∷ []) ([] ∷ []) runs)
+    ∙ ap (λ (l : List ℕ). runs_text runs.ended ++ l) (stop_append call runs.last runs.passes h e)
+    ∙ sym (append_assoc (runs_text runs.ended) (events_text runs.last runs.passes) (stopped_text call h.after.sweep.entries))
 
 stop_kept : (first : World) (n : ℕ) (done : List (Option Step)) (runs : EventsOfRuns) (text : List ℕ) (event : events.Event) (s : Script) (w : World) (call : ℕ) (rules : List Rule) → n < 1048576 → rules_from s.setup.folder.count (event_of event s w).disk.disk.text ≡ Ok rules → Kept first n done runs text s w
-    → Kept first (n + 1) (done ++ Some (Event event) ∷ []) (with_end (Some call) (with_events (happened_at event s w ∷ []) runs)) (text ++ stopped_text call (event_of event s w).daemon.sweep.entries) (with_played s (begun_again s.setup rules (event_of event s w))) (over (event_of event s w).world)
+    → Kept first (n + 1) (done ++ Some (Event event) ∷ []) (with_end (Some call) (with_events (happened_at event s w ∷ []) ([] ∷ []) runs)) (text ++ stopped_text call (event_of event s w).daemon.sweep.entries) (with_played s (begun_again s.setup rules (event_of event s w))) (over (event_of event s w).world)
 stop_kept first n done runs text event s w call rules lt loaded h =
     let d : DaemonState = daemon_in s in
     let o : DiskWorld = disk_of s in
@@ -472,7 +509,7 @@ stop_kept first n done runs text event s w call rules lt loaded h =
     let chain : Chain h.start.kernel (Some h.file) new hs k (Some p.disk.disk) p.daemon = subst (λ (x : Option Disk). Chain h.start.kernel (Some h.file) new hs k x p.daemon) (told_now p.disk told) so_far in
     let run : IsDaemonRun beside policy h.start hs k (Some p.disk.disk) p.daemon = daemon_run beside policy h.start h.file hs k (Some p.disk.disk) p.daemon h.few_rules h.at_start chain in
     let b : RunStart = record { rules = rules; text = p.disk.disk.text; unsure = []; number = p.daemon.event; kernel = k } in
-    let ending : EndedRun beside policy h.start (record { events = hs; stop = Some call }) = record {
+    let ending : EndedRun beside policy h.start (record { events = hs; passes = runs.passes ++ [] ∷ []; stop = Some call }) = record {
       kernel = k;
       disk = Some p.disk.disk;
       daemon = p.daemon;
@@ -483,11 +520,13 @@ stop_kept first n done runs text event s w call rules lt loaded h =
     let up : DiskWorld = coming_up p.disk in
     let file : Disk = (after_reading up).disk in
     let holds = event_holds event d w o h.holds in
-    let all : journal_of (with_end (Some call) (with_events (this ∷ []) runs)) ≡ journal_of runs ++ p.daemon.sweep.entries = journal_ended (Some call) (with_events (this ∷ []) runs) ∙ journal_more runs this in
+    let all : journal_of (with_end (Some call) (with_events (this ∷ []) ([] ∷ []) runs)) ≡ journal_of runs ++ p.daemon.sweep.entries = journal_ended (Some call) (with_events (this ∷ []) ([] ∷ []) runs) ∙ journal_more runs this [] in
     record {
       few = omega (arith, lt);
       holds = record { told = holds.told; sound = holds.sound; stand = no_standing k };
       on_entries = λ g. event_on_entries event d w o h.holds (h.on_entries g);
+      few_standings = omega arith;
+      bus = λ b. over_sound p.world (event_sound event d w o h.holds (h.bus b));
       fits = λ e.
           let f = event_fits n event d w o lt h.holds h.kept (h.fits e) in
           let low : p.world.faults ≤ 2199023255552 * (n + 1) = f.few_faults in
@@ -501,10 +540,11 @@ stop_kept first n done runs text event s w call rules lt loaded h =
       few_rules = few_all n done s.setup rules h.given taken.1;
       file = file;
       at_start = record { text = refl; left = λ text is. inl (only_image is) };
-      ended = run_ended beside policy (first_start s.setup.rules first.kernel) runs.ended h.start (record { events = hs; stop = Some call }) ending h.ended;
+      ended = run_ended beside policy (first_start s.setup.rules first.kernel) runs.ended h.start (record { events = hs; passes = runs.passes ++ [] ∷ []; stop = Some call }) ending h.ended;
       chain = (unmoving k, subst (λ (x : Option Disk). StaysOnDisk (Some file) x) (sym (told_reading up told)) (stays_there (Some file)), refl);
       none = λ e. closed_now (sym e);
-      written = ap (λ (z : List ℕ). z ++ stopped_text call p.daemon.sweep.entries) h.written ∙ sym (stop_more call runs this);
+      passes = refl;
+      written = ap (λ (z : List ℕ). z ++ stopped_text call p.daemon.sweep.entries) h.written ∙ sym (stop_more call runs this h.passes);
       nobody = λ q e.
           let quiet = (quiet_front done step q).0 in
           subst NameNobody (sym all) (nobody_more (journal_of runs) p.daemon.sweep.entries (h.nobody quiet e) (event_nobody event d w o h.holds.told (h.unfailing quiet e) h.kept (h.unplanned quiet, refl)));
@@ -517,17 +557,17 @@ stop_kept first n done runs text event s w call rules lt loaded h =
 
 -- an event, whether the machine stopped in it or not
 came_kept : (first : World) (n : ℕ) (done : List (Option Step)) (runs : EventsOfRuns) (text : List ℕ) (event : events.Event) (s : Script) (w : World) (stopped : Bool) (loaded : Result (List Rule) LineRefusal) → n < 1048576 → rules_from s.setup.folder.count (event_of event s w).disk.disk.text ≡ loaded → Kept first n done runs text s w
-    → KeptAfter first (n + 1) (done ++ Some (Event event) ∷ []) (with_stop stopped (stop_of event s w) (with_events (happened_at event s w ∷ []) runs)) text (in_script s (cond stopped (stopped_of s.setup (stop_of event s w) (event_of event s w) loaded) (finished (event_of event s w))))
+    → KeptAfter first (n + 1) (done ++ Some (Event event) ∷ []) (with_stop stopped (stop_of event s w) (with_events (happened_at event s w ∷ []) (cond stopped [] (pass_behind s.setup.ifaces (event_of event s w).daemon (event_of event s w).world).text ∷ []) runs)) text (in_script s (cond stopped (stopped_of s.setup (stop_of event s w) (event_of event s w) loaded) (finished s.setup.ifaces (event_of event s w))))
 came_kept first n done runs text event s w true (Ok rules) lt is h = stop_kept first n done runs text event s w (stop_of event s w) rules lt is h
 came_kept first n done runs text event s w true (Err fault) lt is h = tt
-came_kept first n done runs text event s w false loaded lt is h = event_kept first n done runs text event s w lt h
+came_kept first n done runs text event s w false loaded lt is h = event_kept first n done runs text event s w lt h _ refl
 
-event_if : (first : World) (n : ℕ) (done : List (Option Step)) (runs : EventsOfRuns) (text : List ℕ) (event : events.Event) (s : Script) (w : World) (stopped : Bool) (came : LineOutcome Played) (can has : Bool)
-    → KeptAfter first n done (with_stop stopped (stop_of event s w) (with_events (happened_at event s w ∷ []) runs)) text (in_script s came)
-    → KeptAfter first n done (with_stop stopped (stop_of event s w) (with_events (cond (can && has) (happened_at event s w ∷ []) []) runs)) text (cond can (in_script s (cond has came (Refused BadLine (record { daemon = daemon_in s; world = w; disk = disk_in s })))) (Refused InputTooLong (Some s, w)))
-event_if first n done runs text event s w stopped came true true k = k
-event_if first n done runs text event s w stopped came true false k = tt
-event_if first n done runs text event s w stopped came false has k = tt
+event_if : (first : World) (n : ℕ) (done : List (Option Step)) (runs : EventsOfRuns) (text : List ℕ) (event : events.Event) (s : Script) (w : World) (stopped : Bool) (pass : List ℕ) (came : LineOutcome Played) (can has : Bool)
+    → KeptAfter first n done (with_stop stopped (stop_of event s w) (with_events (happened_at event s w ∷ []) (pass ∷ []) runs)) text (in_script s came)
+    → KeptAfter first n done (with_stop stopped (stop_of event s w) (with_events (cond (can && has) (happened_at event s w ∷ []) []) (cond (can && has) (pass ∷ []) []) runs)) text (cond can (in_script s (cond has came (Refused BadLine (record { daemon = daemon_in s; world = w; disk = disk_in s })))) (Refused InputTooLong (Some s, w)))
+event_if first n done runs text event s w stopped pass came true true k = k
+event_if first n done runs text event s w stopped pass came true false k = tt
+event_if first n done runs text event s w stopped pass came false has k = tt
 
 -- ---- lines
 
@@ -633,7 +673,7 @@ step_kept first n done runs text (Move action) s w lt asks h =
     let step : Option Step = Some (Move action) in
     let v : World = carried action w in
     kept_still first (n + 1) (done ++ step ∷ []) runs text (with_setup_closed s) v
-    (on_kept first n done runs text s w v step (closed_phase s.phase) s.planned lt h (closed_daemon s.setup s.phase) (closed_disk s.setup s.phase) (closed_started s.phase) (given_still n done step s.setup refl refl refl refl refl refl h.given) (move_holds action (daemon_in s) w h.holds) (moved_moves action w.kernel) refl (λ q. h.unfailing (quiet_front done step q).0) (λ q. h.unmoved (quiet_front done step q).0) (λ q. h.unplanned (quiet_front done step q).0))
+    (on_kept first n done runs text s w v step (closed_phase s.phase) s.planned lt h (closed_daemon s.setup s.phase) (closed_disk s.setup s.phase) (closed_started s.phase) (given_still n done step s.setup refl refl refl refl refl refl h.given) (move_holds action (daemon_in s) w h.holds) (moved_moves action w.kernel) refl (λ b. sound_one action (bus_in w) b) (λ q. h.unfailing (quiet_front done step q).0) (λ q. h.unmoved (quiet_front done step q).0) (λ q. h.unplanned (quiet_front done step q).0))
 step_kept first n done runs text (Schedule p) s w lt asks h = plan_kept p
   where
     step : Option Step
@@ -642,16 +682,16 @@ step_kept first n done runs text (Schedule p) s w lt asks h = plan_kept p
     loud : {X : Type 0} → AreQuiet (done ++ Some (Schedule p) ∷ []) → X
     loud q = closed_now (quiet_front done (Some (Schedule p)) q).1
 
-    by : (plan : List Planned) (v : World) → HoldsOf (daemon_in s) v → Moves w.kernel v.kernel → v.faults ≡ w.faults → Kept first (n + 1) (done ++ Some (Schedule p) ∷ []) runs text (record (with_setup_closed s) { planned = plan }) v
-    by plan v holds moves faults = on_kept first n done runs text s w v (Some (Schedule p)) (closed_phase s.phase) plan lt h (closed_daemon s.setup s.phase) (closed_disk s.setup s.phase) (closed_started s.phase) (given_still n done (Some (Schedule p)) s.setup refl refl refl refl refl refl h.given) holds moves faults (λ q. loud q) (λ q. loud q) (λ q. loud q)
+    by : (plan : List Planned) (v : World) → HoldsOf (daemon_in s) v → Moves w.kernel v.kernel → v.faults ≡ w.faults → (IsSoundWorld w → IsSoundWorld v) → Kept first (n + 1) (done ++ Some (Schedule p) ∷ []) runs text (record (with_setup_closed s) { planned = plan }) v
+    by plan v holds moves faults keeps = on_kept first n done runs text s w v (Some (Schedule p)) (closed_phase s.phase) plan lt h (closed_daemon s.setup s.phase) (closed_disk s.setup s.phase) (closed_started s.phase) (given_still n done (Some (Schedule p)) s.setup refl refl refl refl refl refl h.given) holds moves faults keeps (λ q. loud q) (λ q. loud q) (λ q. loud q)
 
     plan_kept : (x : Plan) → Kept first (n + 1) (done ++ Some (Schedule p) ∷ []) runs (text ++ []) (with_plan x (with_setup_closed s)) (planned x w)
-    plan_kept (plan.Move m) = kept_still first (n + 1) (done ++ Some (Schedule p) ∷ []) runs text (with_setup_closed s) (planned (plan.Move m) w) (by s.planned (planned (plan.Move m) w) (plan_holds (plan.Move m) (daemon_in s) w h.holds) (unmoving w.kernel) refl)
-    plan_kept (plan.Fail f) = kept_still first (n + 1) (done ++ Some (Schedule p) ∷ []) runs text (with_setup_closed s) (planned (plan.Fail f) w) (by s.planned (planned (plan.Fail f) w) (plan_holds (plan.Fail f) (daemon_in s) w h.holds) (unmoving w.kernel) refl)
-    plan_kept (plan.OnDisk f) = kept_still first (n + 1) (done ++ Some (Schedule p) ∷ []) runs text (with_plan (plan.OnDisk f) (with_setup_closed s)) w (by (s.planned ++ f ∷ []) w h.holds (unmoving w.kernel) refl)
+    plan_kept (plan.Move m) = kept_still first (n + 1) (done ++ Some (Schedule p) ∷ []) runs text (with_setup_closed s) (planned (plan.Move m) w) (by s.planned (planned (plan.Move m) w) (plan_holds (plan.Move m) (daemon_in s) w h.holds) (unmoving w.kernel) refl (λ b. b))
+    plan_kept (plan.Fail f) = kept_still first (n + 1) (done ++ Some (Schedule p) ∷ []) runs text (with_setup_closed s) (planned (plan.Fail f) w) (by s.planned (planned (plan.Fail f) w) (plan_holds (plan.Fail f) (daemon_in s) w h.holds) (unmoving w.kernel) refl (λ b. b))
+    plan_kept (plan.OnDisk f) = kept_still first (n + 1) (done ++ Some (Schedule p) ∷ []) runs text (with_plan (plan.OnDisk f) (with_setup_closed s)) w (by (s.planned ++ f ∷ []) w h.holds (unmoving w.kernel) refl (λ b. b))
 step_kept first n done runs text (Event event) s w lt asks h =
     let p = event_of event s w in
-    event_if first (n + 1) (done ++ Some (Event event) ∷ []) runs text event s w p.disk.stopped (came_of s.setup s.planned p) (can_start s.setup s.phase) (has_numbers (daemon_in s) w.faults (disk_in s).faults)
+    event_if first (n + 1) (done ++ Some (Event event) ∷ []) runs text event s w p.disk.stopped (pass_at event s w) (came_of s.setup s.planned p) (can_start s.setup s.phase) (has_numbers (daemon_in s) w.faults (disk_in s).faults)
     (came_kept first n done runs text event s w p.disk.stopped (rules_from s.setup.folder.count p.disk.disk.text) lt refl h)
 step_kept first n done runs text Restart s w lt asks h = restart_if first (n + 1) (done ++ Some Restart ∷ []) (with_end None runs) text s w (can_start s.setup s.phase) (rules_from s.setup.folder.count (disk_in s).disk.text) (λ rules loaded. restart_kept first n done runs text s w rules lt loaded h)
 
@@ -664,7 +704,9 @@ kept_fresh first h = record {
   few = omega arith;
   holds = h;
   on_entries = λ g. g;
-  fits = λ e. started_fits 1 1 [] first.faults 0 (omega arith) (omega arith) (omega (arith, e)) (omega arith);
+  few_standings = omega arith;
+  bus = λ b. b;
+  fits = λ e. started_fits 1 1 [] first.faults 0 (omega arith) (omega arith) (omega (arith, e.0)) (omega arith);
   given = given_first;
   kept = refl;
   possible = inl refl;

@@ -41,3 +41,11 @@ pub mod MoveLines
 pub mod Births
 pub mod Against
 pub mod Roomless
+mod PassPlays
+mod PassWalk
+mod PassBehind
+mod PassRuns
+mod BusSound
+mod PassFaults
+mod FewStandings
+mod PassFits

@@ -25,7 +25,7 @@ use Rattle.ug_core.specs.Verdicts.{IsLater}
 use Rattle.ug_script.specs.declared.step.AccessLine.{AccessLine}
 use Rattle.ug_script.specs.declared.step.FolderLine.{FolderLine}
 use Rattle.ug_script.specs.declared.step.SetupLine.{SetupLine}
-use Rattle.ug_script.specs.declared.step.SetupLine.TheVariants.{Rule, Folder, Conf, Access, Seed, Zone}
+use Rattle.ug_script.specs.declared.step.SetupLine.TheVariants.{Rule, Folder, Conf, Access, Seed, Zone, IfaceRule}
 use Rattle.ug_script.specs.declared.step.Step.{Step}
 use Rattle.ug_script.specs.declared.step.Step.TheVariants.{Setup}
 use Rattle.ug_script.specs.FolderLines.{AreFilesOf, HasLines, HoldsRule, rules_in_folder, with_line, with_line_in}
@@ -260,6 +260,21 @@ given_added n done (Conf text) s lt asks h = in_when (AfterLine n done (Conf tex
 given_added n done (Access line) s lt asks h = given_access n done line s h
 given_added n done (Seed seed) s lt asks h = in_when (AfterLine n done (Seed seed)) (is_none s.seed) (Some (record s { seed = Some seed })) (λ b. given_seed n done seed s b h)
 given_added n done (Zone offset) s lt asks h = in_when (AfterLine n done (Zone offset)) (is_none s.zone && is_offset offset) (Some (record s { zone = Some offset })) (λ b. given_zone n done offset s (both (is_none s.zone) (is_offset offset) b) h)
+given_added n done (IfaceRule rule) s lt asks h =
+    let still = given_still n done (Some (Setup (IfaceRule rule))) s refl refl refl refl refl refl h in
+    record {
+      files = still.files;
+      held = still.held;
+      rules = still.rules;
+      few_rules = still.few_rules;
+      listed = still.listed;
+      read = still.read;
+      lines = still.lines;
+      few = still.few;
+      granted = still.granted;
+      seeds = still.seeds;
+      zones = still.zones;
+    }
 
 first_alone : {X : Type 0} (other : X) (o : Option X) → given_or other o ≡ first_or other (alone o)
 first_alone other None = refl

@@ -4,6 +4,8 @@ use Rattle.ug_types.specs.Elements.{AllDistinct}
 use Rattle.ug_kernel.specs.Defaults.{HasOnEntries}
 use Rattle.ug_kernel.specs.Kernel.{IsKernel, Kernel}
 use Rattle.ug_kernel.specs.Tree.{Prog, Return, Ask, Room}
+use Rattle.ug_iface.specs.Bus.{IsSoundBus}
+use Rattle.ug_sysfs.specs.Serving.{bus_in}
 use Rattle.ug_sysfs.specs.World.{World, Gives, scripted_answer, event_begun, over}
 use Rattle.ug_table.specs.Laws.{Stand}
 use Rattle.ug_table.specs.Parts.{unsettled_names}
@@ -120,11 +122,15 @@ pub record IsLawfulEvent (event : Event) (s : Script) (w : World) : Type 0 where
       → HasNoStop s.planned (event_of event s w).disk.calls
   pub on_entries : HasOnEntries w.kernel → AtEachCall HasOnEntries event s w
 
+-- no failure was counted, and devices and interfaces are sound
+abbrev pub IsFaultless : World → Type 0
+IsFaultless w = (w.faults ≡ 0) × IsSoundBus (bus_in w)
+
 -- The kernel is sound, and a device that was born while its controller's default was off is on only
 -- after an On entry, if it was so in the first world; and each standing of the daemon, or of the
 -- one that an event would start, is of one of its devices; and so is an event, if one comes next.
--- The disk is told, and a crash may leave the rule file as it is. And where the first world had no
--- fault, the numbers leave room for one, so that the line of an event is never bad.
+-- The disk is told, and a crash may leave the rule file as it is. And where the first world was
+-- without faults, the numbers leave room for one, so that the line of an event is never bad.
 pub record IsLawful (first : World) (s : Script) (w : World) : Type 0 where
   pub sound : IsKernel w.kernel
   pub on_entries : HasOnEntries first.kernel → HasOnEntries w.kernel
@@ -132,7 +138,7 @@ pub record IsLawful (first : World) (s : Script) (w : World) : Type 0 where
   pub events : (event : Event) → IsLawfulEvent event s w
   pub told : (disk_in s).ran_out ≡ false
   pub possible : IsImage (disk_in s).disk.left (disk_in s).disk.text
-  pub numbers : first.faults ≡ 0 → has_numbers (daemon_in s) w.faults (disk_in s).faults ≡ true
+  pub numbers : IsFaultless first → has_numbers (daemon_in s) w.faults (disk_in s).faults ≡ true
 
 -- wherever lines lead from a world without a daemon
 abbrev pub StaysLawful : World → Type 0

@@ -29,6 +29,8 @@ ghost use Rattle.ug_script.specs.declared.step.Step.{Step};
 ghost use Rattle.ug_script.specs.declared.step.Step.TheVariants as step;
 ghost use Rattle.ug_script.specs.Grammar.{grant_of, IsAccess, step_of_line};
 ghost use Rattle.ug_script.specs.IfaceLines.{iface_named};
+ghost use Rattle.ug_iface.specs.Settle.{Aim};
+ghost use Rattle.ug_script.specs.Passes.{RunsPasses, pass_over};
 ghost use Rattle.ug_script.specs.LineGrammar.{AsksFor};
 ghost use Rattle.ug_script.specs.LineExamples.{fails, keyboard_on, off_with_files, on_by_itself, on_disk, schedules};
 ghost use Rattle.ug_script.specs.Births.{StaysBorn};
@@ -100,6 +102,13 @@ pub fn line_words_law()
     ensures ahead { step_of_line (codes "zone +01:30") ≡ Some (step.Setup (setup.Zone (pos 5400))) }
     ensures behind { step_of_line (codes "zone -01:30")
         ≡ Some (step.Setup (setup.Zone (neg_ℤ (pos 5400)))) }
+{}
+
+/// A pass is one call of `settle_ifaces` for each standing that is settled, has the verdict to allow its device and has a
+/// record, by number, one after the other. Its text tells what each call told, and each does what it may.
+pub fn passes_law()
+    ensures calls { (aims : List Aim) (w : World)
+        → RunsPasses w aims (pass_over aims w).text (pass_over aims w).world }
 {}
 
 /// A line of a move does it at once.

@@ -13,6 +13,8 @@ mod laws;
 mod line_word;
 mod move_lines;
 mod parse;
+mod pass_lines;
+mod passes;
 mod plan_lines;
 mod plugs;
 mod progress;
@@ -34,7 +36,7 @@ pub use generator::generate_policy;
 pub use interpreter::Interpreter;
 pub use laws::{
     access_law, birth_law, births_law, default_law, line_words_law, lines_law, moves_law,
-    refusal_law, schedule_law, script_law, words_law, worked_law,
+    passes_law, refusal_law, schedule_law, script_law, words_law, worked_law,
 };
 pub use parse::parse_line;
 pub use runner::Runner;
