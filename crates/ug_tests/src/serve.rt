@@ -273,14 +273,12 @@ fn bad_words_end_the_daemon(rt: HostRuntime) {
     }
 }
 
-// A folder that lists these names.
-fn folder_of(alloc: Global, path: &[u8], listed: &[&[u8]]) -> Option<Vec<MemFolder>> {
+// A folder of access files with one of that name.
+fn access_folder(alloc: Global, name: &[u8]) -> Option<Vec<MemFolder>> {
     let mut names = List::new(alloc);
-    for name in listed {
-        names.push(Text::of(alloc, name).ok()?).ok()?;
-    }
+    names.push(Text::of(alloc, name).ok()?).ok()?;
     let mut folders = Vec::new(alloc);
-    let path = Text::of(alloc, path).ok()?;
+    let path = Text::of(alloc, b"/a").ok()?;
     folders.push(MemFolder::new(path, names)).ok()?;
     Some(folders)
 }
@@ -291,7 +289,7 @@ const ROOT_ALONE: &[u8] = b"IPCAllowedUsers=root\nIPCAccessControlFiles=/a\n";
 fn two_principals(alloc: Global, name: &[u8], path: &[u8], grants: &[u8]) -> Option<MemFiles> {
     let all: [(&[u8], &[u8]); 2] = [(USUAL, ROOT_ALONE), (path, grants)];
     let files = list_of_files(alloc, &all)?;
-    let folders = folder_of(alloc, b"/a", &[name])?;
+    let folders = access_folder(alloc, name)?;
     Some(MemFiles::new(files, folders, Vec::new(alloc)))
 }
 
@@ -355,45 +353,6 @@ fn a_bad_access_file_is_told(rt: HostRuntime) {
     assert!(rt; refused == Some(true));
     let refused = refuses_access(alloc, b"a b", b"/a/a b", b"Devices=list", name);
     assert!(rt; refused == Some(true));
-}
-
-const RULE_FOLDER: &[u8] = b"IPCAllowedUsers=root\nRuleFolder=/r\n";
-
-// A folder of rules, in which two files with these texts count, and one that isn't there.
-fn ruled(alloc: Global, first: &[u8], second: &[u8]) -> Option<MemFiles> {
-    let all: [(&[u8], &[u8]); 4] = [
-        (USUAL, RULE_FOLDER),
-        (b"/r/20-b.conf", second),
-        (b"/r/10-a.conf~", b"frob"),
-        (b"/r/10-a.conf", first),
-    ];
-    let files = list_of_files(alloc, &all)?;
-    let names: [&[u8]; 4] = [b"20-b.conf", b"10-a.conf~", b"10-a.conf", b"15-c.conf"];
-    let folders = folder_of(alloc, b"/r", &names)?;
-    Some(MemFiles::new(files, folders, Vec::new(alloc)))
-}
-
-const RULED: &[u8] = b"ok 3\n1: reject # folder\n2: allow # folder\n3: block\n";
-
-#[test]
-fn rules_of_the_folder_come_first(rt: HostRuntime) {
-    let alloc = rt.alloc();
-    let mut files = ruled(alloc, b"# one\nreject", b"allow\n").expect(&rt, "memory");
-    let listens = Script::new(VecDeque::new(alloc));
-    let (given, status) = serves_two(alloc, &mut files, listens).expect(&rt, "memory");
-    assert!(rt; status == 0);
-    assert!(rt; was_sent(alloc, &given.links, 0, RULED));
-}
-
-#[test]
-fn a_bad_file_of_the_folder_is_told(rt: HostRuntime) {
-    let alloc = rt.alloc();
-    let first = b"start-refused folder/10-a.conf 1 4 0\n";
-    let second = b"start-refused folder/20-b.conf 2 4 0\n";
-    let files = ruled(alloc, b"frob", b"allow\nfrob").expect(&rt, "memory");
-    assert!(rt; refuses(alloc, files, b"frob", first) == Some(true));
-    let files = ruled(alloc, b"allow", b"allow\nfrob").expect(&rt, "memory");
-    assert!(rt; refuses(alloc, files, b"frob", second) == Some(true));
 }
 
 // The second socket can't be had.

@@ -118,7 +118,8 @@ fn serve_with(
         rules: disk.path(),
         socket: links.last_path(),
     };
-    tell_end(&rt, status, found.get(), &paths);
+    let refusal = found.get();
+    tell_end(&rt, status, refusal.as_ref(), &paths);
     status
 }
 

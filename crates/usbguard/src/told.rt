@@ -1,7 +1,6 @@
 // What a daemon that has ended tells a person.
 use crate::shown::{Spot, show_line};
 use crate::words::{access_fault, rule_fault, settings_fault};
-use std::alloc::AllocError;
 use std::{fs, str};
 use ug_host::{RefusedPart, StartRefusal};
 use ug_types::Principal;
@@ -18,7 +17,7 @@ fn text_of(path: &[u8]) -> &str {
     str::from_utf8(path).unwrap_or("a path that isn't UTF-8")
 }
 
-fn fault_of(refusal: StartRefusal) -> &'static str {
+fn fault_of(refusal: &StartRefusal) -> &'static str {
     match refusal.part {
         RefusedPart::Settings => settings_fault(refusal.kind),
         RefusedPart::Access => access_fault(refusal.kind),
@@ -33,26 +32,6 @@ fn folder_of(path: &str) -> &str {
         Some((folder, _name)) => folder,
         None => ".",
     }
-}
-
-// The path of the part that isn't taken. The folder of rules is that of the file which was read last.
-fn path_of(
-    rt: &HostRuntime,
-    refusal: StartRefusal,
-    paths: &LastPaths<'_>,
-) -> Result<String, AllocError> {
-    let files = text_of(paths.files);
-    let path = match refusal.part {
-        RefusedPart::Settings | RefusedPart::Access => files,
-        RefusedPart::Folder | RefusedPart::FolderFile(_) => folder_of(files),
-        RefusedPart::Rules => text_of(paths.rules),
-    };
-    let mut path = String::from_str(rt.alloc(), path)?;
-    if let RefusedPart::FolderFile(name) = refusal.part {
-        path.push('/')?;
-        path.push_str(text_of(name.bytes()))?;
-    }
-    Ok(path)
 }
 
 // The first name in a folder, in byte order, that is none of a user or a group.
@@ -88,18 +67,20 @@ fn tell_name(rt: &HostRuntime, folder: &str, fault: &str) -> std::io::Result<()>
 }
 
 // A part that isn't taken.
-fn tell_refusal(rt: &HostRuntime, refusal: StartRefusal, path: &str) -> std::io::Result<()> {
+fn tell_refusal(rt: &HostRuntime, refusal: &StartRefusal, path: &str) -> std::io::Result<()> {
     let fault = fault_of(refusal);
     let (line, column) = (refusal.line, refusal.place.saturating_add(1));
+    if matches!(refusal.part, RefusedPart::FolderFile(_)) {
+        return eprintln!(rt;
+            "usbguard: a file in {path}, line {line}, column {column}: {fault}. The last line of the journal names it."
+        );
+    }
     if line > 0 {
         eprintln!(rt; "usbguard: {path}, line {line}, column {column}: {fault}.")?;
         let spot = Spot {
             line,
             place: refusal.place,
-            counts_blanks: matches!(
-                refusal.part,
-                RefusedPart::Rules | RefusedPart::FolderFile(_)
-            ),
+            counts_blanks: matches!(refusal.part, RefusedPart::Rules),
         };
         if let Some(shown) = show_line(rt, path, spot) {
             let shown = shown.as_str();
@@ -127,19 +108,31 @@ fn tell_status(rt: &HostRuntime, status: u8, paths: &LastPaths<'_>) -> std::io::
     }
 }
 
+// The folder of rules is that of the file which was read last.
+fn tell_refused(
+    rt: &HostRuntime,
+    refusal: &StartRefusal,
+    paths: &LastPaths<'_>,
+) -> std::io::Result<()> {
+    let files = text_of(paths.files);
+    let path = match refusal.part {
+        RefusedPart::Settings | RefusedPart::Access => files,
+        RefusedPart::Folder | RefusedPart::FolderFile(_) => folder_of(files),
+        RefusedPart::Rules => text_of(paths.rules),
+    };
+    tell_refusal(rt, refusal, path)
+}
+
 /// Tells on standard error why a daemon has ended with that status: the file or the socket, and of a refusal the line and the place too.
 /// A failed write there changes nothing.
 pub fn tell_end(
     rt: &HostRuntime,
     status: u8,
-    refusal: Option<StartRefusal>,
+    refusal: Option<&StartRefusal>,
     paths: &LastPaths<'_>,
 ) {
     let _told = match refusal {
-        Some(refusal) if status == 3 => match path_of(rt, refusal, paths) {
-            Ok(path) => tell_refusal(rt, refusal, path.as_str()),
-            Err(_) => Ok(()),
-        },
+        Some(refusal) if status == 3 => tell_refused(rt, refusal, paths),
         _ => tell_status(rt, status, paths),
     };
 }
