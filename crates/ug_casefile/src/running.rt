@@ -4,8 +4,8 @@ use crate::cases::Case;
 use crate::reading::read_cases;
 use crate::report::Report;
 use std::alloc::Global;
-use ug_command_io::{INPUT_LIMIT, InputFault, read_input};
-use ug_types::{NoMemory, Put, Sink, Source};
+use ug_command_io::{InputFault, read_input};
+use ug_types::{NoMemory, Put, Sink, Source, TEXT_LIMIT};
 
 /// What gives the answer to a case.
 pub trait Teller {
@@ -47,7 +47,7 @@ pub fn run_cases<S: Source, K: Sink, T: Teller>(
     out: &mut K,
     teller: &T,
 ) -> u8 {
-    match read_input(alloc, input, INPUT_LIMIT) {
+    match read_input(alloc, input, TEXT_LIMIT) {
         Ok(text) => match report(alloc, text.bytes(), teller) {
             Ok(lines) => put(out, &lines, 0),
             Err(_) => put(out, b"no memory\n", 6),

@@ -1,11 +1,12 @@
 -- What all bytes of a link hold.
 use Rattle.std.proofs.Common.{◌≡◌, ℕ, zero, suc, ◌-◌, ◌≤◌, ◌⊎◌, inl, inr, List, [], ◌∷◌, ◌++◌, length, take, Some, refl, sym, ap, subst, ◌∙◌, append_assoc, arith}
 use Rattle.std.proofs.lemmas.List.{append-nil, take_all}
+use Rattle.ug_types.specs.Limits.{text_limit}
 use Rattle.ug_proto.specs.declared.reply.Reply.{Reply}
 use Rattle.ug_proto.specs.Replies.{ended_lines, reply_text, IsReply}
 use Rattle.ug_proto.proofs.OneReply.{one_reply}
 use Rattle.ug_client.specs.Answers.{AreNotices, Replied, IsUnanswered}
-use Rattle.ug_client.specs.Awaiting.{GivesNoReply, Ended, Full, Never, answer_limit}
+use Rattle.ug_client.specs.Awaiting.{GivesNoReply, Ended, Full, Never}
 use Rattle.ug_client.specs.WholeBytes.{HoldsReply, GivesNone}
 use Rattle.ug_client.proofs.Skipping.{behind_notice, reply_or_notice}
 use Rattle.ug_client.proofs.WatchCalls.{replied_more}
@@ -16,20 +17,20 @@ front_taken n [] b l = ap (λ (k : ℕ). take k b) (let z : n ≡ n - 0 = omega 
 front_taken zero (c ∷ a) b l = absurd (omega (arith, l))
 front_taken (suc n) (c ∷ a) b l = ap (λ (t : List ℕ). c ∷ t) (front_taken n a b (omega (arith, l)) ∙ ap (λ (k : ℕ). a ++ take k b) (let z : n - length a ≡ suc n - suc (length a) = omega arith in z))
 
-pub gives : (taken more behind : List ℕ) (reply : Reply) → length taken ≤ answer_limit → Replied taken reply behind → HoldsReply (taken ++ more) reply
+pub gives : (taken more behind : List ℕ) (reply : Reply) → length taken ≤ text_limit → Replied taken reply behind → HoldsReply (taken ++ more) reply
 gives taken more behind reply l r =
-    let rest = take (answer_limit - length taken) more in
-    record { behind = behind ++ rest; replied = subst (λ (b : List ℕ). Replied b reply (behind ++ rest)) (sym (front_taken answer_limit taken more l)) (replied_more taken reply behind rest r) }
+    let rest = take (text_limit - length taken) more in
+    record { behind = behind ++ rest; replied = subst (λ (b : List ℕ). Replied b reply (behind ++ rest)) (sym (front_taken text_limit taken more l)) (replied_more taken reply behind rest r) }
 
-pub gives_none : (taken more : List ℕ) → length taken ≤ answer_limit → GivesNoReply taken (Some more) → GivesNone (taken ++ more)
+pub gives_none : (taken more : List ℕ) → length taken ≤ text_limit → GivesNoReply taken (Some more) → GivesNone (taken ++ more)
 gives_none taken more l (Ended e n) =
-    let same : take answer_limit (taken ++ more) ≡ taken = ap (λ (b : List ℕ). take answer_limit (taken ++ b)) e ∙ (ap (λ (b : List ℕ). take answer_limit b) (append-nil taken) ∙ take_all answer_limit taken l) in
+    let same : take text_limit (taken ++ more) ≡ taken = ap (λ (b : List ℕ). take text_limit (taken ++ b)) e ∙ (ap (λ (b : List ℕ). take text_limit b) (append-nil taken) ∙ take_all text_limit taken l) in
     subst IsUnanswered (sym same) n
 gives_none taken more l (Full e n) =
-    let rest : take (answer_limit - length taken) more ≡ [] = ap (λ (k : ℕ). take k more) (let z : answer_limit - length taken ≡ 0 = omega (arith, e) in z) in
-    let same : take answer_limit (taken ++ more) ≡ taken = front_taken answer_limit taken more l ∙ (ap (λ (b : List ℕ). taken ++ b) rest ∙ append-nil taken) in
+    let rest : take (text_limit - length taken) more ≡ [] = ap (λ (k : ℕ). take k more) (let z : text_limit - length taken ≡ 0 = omega (arith, e) in z) in
+    let same : take text_limit (taken ++ more) ≡ taken = front_taken text_limit taken more l ∙ (ap (λ (b : List ℕ). taken ++ b) rest ∙ append-nil taken) in
     subst IsUnanswered (sym same) n
-gives_none taken more l (Never n) = subst IsUnanswered (sym (front_taken answer_limit taken more l)) (n (take (answer_limit - length taken) more))
+gives_none taken more l (Never n) = subst IsUnanswered (sym (front_taken text_limit taken more l)) (n (take (text_limit - length taken) more))
 
 -- of two texts that go on to one, one begins with the other
 longer_front : (a b x y : List ℕ) → a ++ x ≡ b ++ y → ((more : List ℕ) × (a ++ more ≡ b)) ⊎ ((more : List ℕ) × (b ++ more ≡ a))
@@ -61,4 +62,4 @@ one_behind (l ∷ ls) bytes a b x y each can w r =
     one_behind ls (ended_lines ls ++ (reply_text a ++ x)) a b x y each.1 can refl (behind_notice l (ended_lines ls ++ (reply_text a ++ x)) b y each.0 (subst (λ (t : List ℕ). Replied t b y) whole r))
 
 pub one_answer : (all : List ℕ) (a b : Reply) → HoldsReply all a → HoldsReply all b → a ≡ b
-one_answer all a b g h = one_behind g.replied.notices (take answer_limit all) a b g.behind h.behind g.replied.each g.replied.can g.replied.whole h.replied
+one_answer all a b g h = one_behind g.replied.notices (take text_limit all) a b g.behind h.behind g.replied.each g.replied.can g.replied.whole h.replied

@@ -2,6 +2,7 @@
 use Rattle.std.proofs.Common.{◌≡◌, ℕ, ◌+◌, ◌≤◌, List, [], ◌++◌, length, drop, Option, Some, Ok, Err, refl, subst, ◌∙◌, length-append, arith}
 use Rattle.std.proofs.KnownBytes.{Consumes-trans}
 use Rattle.std.specs.Io.KnownBytes.{Consumes}
+use Rattle.ug_types.specs.Limits.{text_limit}
 use Rattle.ug_links.specs.LinkCalls.{TellsCall}
 use Rattle.ug_links.specs.declared.link_call.Receipt.TheVariants as receipt
 use Rattle.ug_links.specs.declared.link_call.LinkCall.{LinkCall}
@@ -10,13 +11,13 @@ use Rattle.ug_proto.specs.declared.reply.Reply.{Reply}
 use Rattle.ug_proto.specs.declared.reply.ReplyFault.{ReplyFault}
 use Rattle.ug_proto.specs.declared.reply.ReplyFault.TheVariants.{BadReply}
 use Rattle.ug_client.specs.Answers.{AnswersReply, IsAwaiting, IsNoAnswer, Replied}
-use Rattle.ug_client.specs.Awaiting.{Awaits, CameTo, Never, answer_limit}
+use Rattle.ug_client.specs.Awaiting.{Awaits, CameTo, Never}
 use Rattle.ug_client.specs.Calls.{GoesOnReceiving}
 use Rattle.ug_client.specs.declared.receive.Awaited.{Awaited}
 use Rattle.ug_client.specs.declared.receive.Awaited.TheVariants as awaited
 use Rattle.ug_client.proofs.Calls.{one_piece}
 
-module _ (calls0 calls1 calls : Option (List LinkCall)) (left0 left1 left : Option (List ℕ)) (kept : List ℕ) (receiving : GoesOnReceiving IsAwaiting 65536 [] calls0 calls1 kept) (source : Consumes left0 left1 kept) (awaiting : IsAwaiting kept) (piece : List ℕ) (short : length kept + length piece ≤ answer_limit) (within : length piece ≤ 65536) (tells : TellsCall calls1 (call.Receive (receipt.Bytes piece)) calls) (came : Consumes left1 left piece) where
+module _ (calls0 calls1 calls : Option (List LinkCall)) (left0 left1 left : Option (List ℕ)) (kept : List ℕ) (receiving : GoesOnReceiving IsAwaiting 65536 [] calls0 calls1 kept) (source : Consumes left0 left1 kept) (awaiting : IsAwaiting kept) (piece : List ℕ) (short : length kept + length piece ≤ text_limit) (within : length piece ≤ 65536) (tells : TellsCall calls1 (call.Receive (receipt.Bytes piece)) calls) (came : Consumes left1 left piece) where
   pub received_on : GoesOnReceiving IsAwaiting 65536 [] calls0 calls (kept ++ piece)
   received_on = one_piece IsAwaiting 65536 [] calls0 calls1 calls kept piece receiving awaiting within tells
 

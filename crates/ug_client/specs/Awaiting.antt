@@ -1,19 +1,16 @@
 -- What was taken from a link whose reply is awaited.
 use Rattle.std.specs.Prelude.{◌≡◌, ℕ, ◌≤◌, List, [], ◌++◌, length, drop, Option}
 use Rattle.std.specs.Io.KnownBytes.{Consumes, IsAtEnd}
+use Rattle.ug_types.specs.Limits.{text_limit}
 use Rattle.ug_client.specs.Answers.{Replied, IsUnanswered, IsAwaiting, IsNoAnswer}
 use Rattle.ug_links.specs.declared.link_call.LinkCall.{LinkCall}
 use Rattle.ug_client.specs.Calls.{Receives}
 use Rattle.ug_client.specs.declared.receive.Awaited.{Awaited}
 use Rattle.ug_client.specs.declared.receive.Awaited.TheVariants as awaited
 
--- the greatest number of bytes that are taken for a reply, notices included
-abbrev pub answer_limit : ℕ
-answer_limit = 67108864
-
 -- no more than the limit was taken, and at most one piece behind bytes to which a reply was to come
 pub record TakesNoMore (taken : List ℕ) : Type 0 where
-  pub short : length taken ≤ answer_limit
+  pub short : length taken ≤ text_limit
   pub earlier : List ℕ
   pub last : List ℕ
   pub whole : taken ≡ earlier ++ last
@@ -23,7 +20,7 @@ pub record TakesNoMore (taken : List ℕ) : Type 0 where
 -- why these bytes of a link are no whole reply
 pub data GivesNoReply (taken : List ℕ) (left : Option (List ℕ)) : Type 0 where
   Ended : IsAtEnd left → IsUnanswered taken → GivesNoReply taken left
-  Full : length taken ≡ answer_limit → IsUnanswered taken → GivesNoReply taken left
+  Full : length taken ≡ text_limit → IsUnanswered taken → GivesNoReply taken left
   Never : IsNoAnswer taken → GivesNoReply taken left
 
 -- what the bytes that were taken came to; they are kept where they hold a reply

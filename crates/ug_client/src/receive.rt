@@ -8,10 +8,7 @@ use crate::so_far::{SoFar, read_on};
 use std::alloc::Global;
 use ug_links::Link;
 use ug_proto::{Reply, ReplyFault};
-use ug_types::Taken;
-
-/// The greatest number of bytes that are taken for a reply, notices included.
-const ANSWER_LIMIT: usize = 67_108_864;
+use ug_types::{TEXT_LIMIT, Taken};
 
 /// What came of a link.
 #[derive(Drop)]
@@ -36,7 +33,7 @@ pub fn await_reply<L: Link>(alloc: Global, link: &mut L, kept: &mut Vec<u8>) -> 
     let mut so_far = SoFar { at: 0, missing: 0 };
     'pieces: loop {
         let from = kept.len();
-        let room = piece.len().min(ANSWER_LIMIT - from);
+        let room = piece.len().min(TEXT_LIMIT - from);
         if room == 0 {
             return Awaited::NoReply;
         }

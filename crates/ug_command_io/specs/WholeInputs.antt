@@ -8,10 +8,6 @@ use Rattle.ug_command_io.specs.declared.results.Ended.TheVariants.{Done, Bad, To
 use Rattle.ug_command_io.specs.declared.read.InputFault.{InputFault}
 use Rattle.ug_command_io.specs.declared.read.InputFault.TheVariants as input
 
--- the greatest number of bytes that a command reads whole
-abbrev pub input_limit : ℕ
-input_limit = 67108864
-
 -- the whole output for these bytes, where it ended so and an input may have so many bytes at most
 abbrev pub Output : ℕ → (List ℕ → List ℕ → Type 0) → (List ℕ → List ℕ → Type 0) → List ℕ → Ended
     → List ℕ → Type 0

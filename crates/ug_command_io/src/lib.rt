@@ -10,5 +10,5 @@ mod results;
 pub use call::{replay, run};
 pub use feed::is_within;
 pub use machine::{Machine, Ran};
-pub use read::{INPUT_LIMIT, InputFault, read_input};
+pub use read::{InputFault, read_input};
 pub use results::{Ended, refuse_input, status, write_result};

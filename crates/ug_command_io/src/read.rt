@@ -6,9 +6,6 @@ ghost use Rattle.ug_command_io.specs.Reading.{ReadsWhole};
 use std::alloc::Global;
 use ug_types::{Source, Taken, Text};
 
-/// The greatest number of bytes that a command reads whole.
-pub const INPUT_LIMIT: usize = 67_108_864;
-
 /// Why an input wasn't read whole.
 #[derive(Clone, Copy, Debug, PartialEq, Eq)]
 pub enum InputFault {

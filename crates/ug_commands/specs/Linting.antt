@@ -3,6 +3,7 @@
 use Rattle.std.specs.Prelude.{ℕ, ◌≡◌, ◌≤◌, ◌<◌, ◌⊎◌, Bool, true, false, List, length, Option, Ok, Err}
 use Rattle.rand_core.specs.Stream.{Stream}
 use Rattle.ug_types.specs.Elements.{Has}
+use Rattle.ug_types.specs.Limits.{text_limit}
 use Rattle.ug_types.specs.declared.record.DeviceRecord.{DeviceRecord}
 use Rattle.ug_types.specs.declared.rule.Rule.{Rule}
 use Rattle.ug_types.specs.declared.text_fault.TextFault.{TextFault}
@@ -16,7 +17,6 @@ use Rattle.ug_lint.specs.NeverDecides.{HasWords, NeverDecides, PrunedAlike}
 use Rattle.ug_policy.specs.Rules.{rules_in}
 use Rattle.ug_lint.specs.Remaining.{remaining, remaining_entries}
 use Rattle.ug_command_io.specs.WholeInputs as whole
-use Rattle.ug_command_io.specs.WholeInputs.{input_limit}
 use Rattle.ug_command_io.specs.Fold.{no_memory}
 use Rattle.ug_command_io.specs.declared.results.Ended.{Ended}
 use Rattle.ug_command_io.specs.declared.results.Ended.TheVariants as ended
@@ -77,19 +77,19 @@ IsOutput true bytes text = IsPruned bytes text
 abbrev pub TellsLint : Bool → List ℕ → Option (List ℕ) → Option (List ℕ) → Option (List ℕ) → Ended
     → Type 0
 TellsLint prune bytes left held0 held result =
-    whole.TellsWhole input_limit (IsOutput prune) TellsLintFault bytes left held0 held result
+    whole.TellsWhole text_limit (IsOutput prune) TellsLintFault bytes left held0 held result
 
 -- the whole call
 abbrev pub CompletesLint : Bool → Option (List ℕ) → Option (List ℕ) → Option (List ℕ)
     → Option (List ℕ)
     → Ended → Type 0
 CompletesLint prune left0 left held0 held result =
-    whole.CompletesWhole input_limit (IsOutput prune) TellsLintFault left0 left held0 held result
+    whole.CompletesWhole text_limit (IsOutput prune) TellsLintFault left0 left held0 held result
 
 -- what a status says: all are the bytes of the source and base those of the sink before the call
 abbrev pub AnswersLint : Bool → List ℕ → List ℕ → Option (List ℕ) → Option (List ℕ) → ℕ → Type 0
 AnswersLint prune all base left held status =
-    whole.AnswersWhole check_status input_limit
+    whole.AnswersWhole check_status text_limit
     (IsOutput prune) TellsLintFault all base left held status
 
 -- ---- why there is no output

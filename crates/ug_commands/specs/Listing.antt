@@ -1,11 +1,11 @@
 -- What is written for an input that should hold descriptors.
 use Rattle.std.specs.Prelude.{ℕ, ◌≡◌, List, Option}
+use Rattle.ug_types.specs.Limits.{text_limit}
 use Rattle.ug_command_io.specs.Statuses.{status_of}
 use Rattle.ug_command_io.specs.declared.results.Ended.{Ended}
 use Rattle.ug_descr.specs.declared.descriptors.Descr.{Descr}
 use Rattle.ug_descr.specs.Grammar as grammar
 use Rattle.ug_command_io.specs.WholeInputs as whole
-use Rattle.ug_command_io.specs.WholeInputs.{input_limit}
 use Rattle.ug_commands.specs.ListingLines.{listing_text, malformed_line}
 
 -- the bytes are well formed, and this is what they say
@@ -22,17 +22,17 @@ TellsMalformed bytes text =
 abbrev pub TellsListing : List ℕ → Option (List ℕ) → Option (List ℕ) → Option (List ℕ) → Ended
     → Type 0
 TellsListing bytes left held0 held result =
-    whole.TellsWhole input_limit TellsDescriptors TellsMalformed bytes left held0 held result
+    whole.TellsWhole text_limit TellsDescriptors TellsMalformed bytes left held0 held result
 
 -- the whole call
 abbrev pub CompletesListing : Option (List ℕ) → Option (List ℕ) → Option (List ℕ) → Option (List ℕ)
     → Ended
     → Type 0
 CompletesListing left0 left held0 held result =
-    whole.CompletesWhole input_limit TellsDescriptors TellsMalformed left0 left held0 held result
+    whole.CompletesWhole text_limit TellsDescriptors TellsMalformed left0 left held0 held result
 
 -- what a status says: all are the bytes of the source and base those of the sink before the call
 abbrev pub AnswersListing : List ℕ → List ℕ → Option (List ℕ) → Option (List ℕ) → ℕ → Type 0
 AnswersListing all base left held status =
-    whole.AnswersWhole status_of input_limit TellsDescriptors TellsMalformed all base left held
+    whole.AnswersWhole status_of text_limit TellsDescriptors TellsMalformed all base left held
     status

@@ -2,8 +2,8 @@
 ghost use Rattle.std.specs.Prelude.{◌≡◌, ◌≢◌, ◌≤◌, ℕ, IfErr, IfOk, List, Option, Some, length};
 ghost use Rattle.std.specs.Io.KnownBytes.{IsAtEnd};
 ghost use Rattle.ug_types.specs.Ends.{Rose};
+ghost use Rattle.ug_types.specs.Limits.{text_limit};
 ghost use Rattle.ug_command_io.specs.Runs.{SaysFault};
-ghost use Rattle.ug_command_io.specs.WholeInputs.{input_limit};
 ghost use Rattle.ug_command_io.specs.declared.results.Ended.{Ended};
 ghost use Rattle.ug_commands.specs.Checking.{check_status};
 ghost use Rattle.ug_commands.specs.Linting.{AnswersLint, CompletesLint, IsLintFault, IsLinted, IsOutput, IsPruned, TellsLint, lint_end, lint_fault_line};
@@ -14,9 +14,9 @@ use crate::few_rules::{LintFault, read_few};
 use crate::linting_lines::text_of_findings;
 use crate::rule_lines::text_of_rules;
 use std::alloc::Global;
-use ug_command_io::{Ended, INPUT_LIMIT, read_input, refuse_input, write_result};
+use ug_command_io::{Ended, read_input, refuse_input, write_result};
 use ug_lint::{lint, prune};
-use ug_types::{Sink, Source, Text};
+use ug_types::{Sink, Source, TEXT_LIMIT, Text};
 
 fn findings_of(alloc: Global, bytes: &[u8]) -> Result<Text, LintFault>
     ensures linted { IfOk result (λ text. IsLinted bytes.now text) }
@@ -63,7 +63,7 @@ fn refuse_rules<K: Sink>(out: &mut K, fault: LintFault) -> Ended
 
 /// Writes the output of the bytes of an input, whose end was reached.
 fn write_output<K: Sink>(alloc: Global, pruned: bool, bytes: &[u8], out: &mut K) -> Ended
-    requires { length bytes.now ≤ input_limit }
+    requires { length bytes.now ≤ text_limit }
     ensures told { (left : Option (List ℕ)) → IsAtEnd left
         → TellsLint pruned bytes.now left (K.held out.old) (K.held out.new) result }
     ensures not_read { result ≢ Ended.ReadFault }
@@ -81,7 +81,7 @@ fn lint_input<S: Source, K: Sink>(alloc: Global, pruned: bool, input: &mut S, ou
     ensures read { result ≡ Ended.ReadFault → Rose (S.faults input.old) (S.faults input.new) }
     ensures written { result ≡ Ended.WriteFault → Rose (K.faults out.old) (K.faults out.new) }
 {
-    match read_input(alloc, input, INPUT_LIMIT) {
+    match read_input(alloc, input, TEXT_LIMIT) {
         Ok(text) => write_output(alloc, pruned, text.bytes(), out),
         Err(fault) => refuse_input(out, fault),
     }

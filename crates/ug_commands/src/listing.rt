@@ -2,21 +2,21 @@
 ghost use Rattle.std.specs.Prelude.{◌≡◌, ◌≢◌, ◌≤◌, ◌+◌, ℕ, List, Option, Some, length};
 ghost use Rattle.std.specs.Io.KnownBytes.{IsAtEnd};
 ghost use Rattle.ug_types.specs.Ends.{Rose};
+ghost use Rattle.ug_types.specs.Limits.{text_limit};
 ghost use Rattle.ug_command_io.specs.Statuses.{status_of};
-ghost use Rattle.ug_command_io.specs.WholeInputs.{input_limit};
 ghost use Rattle.ug_command_io.specs.declared.results.Ended.{Ended};
 ghost use Rattle.ug_commands.specs.Listing.{AnswersListing, CompletesListing, TellsListing};
 
 use crate::listing_lines::line_of_malformed;
 use crate::writing::write_listing;
 use std::alloc::Global;
-use ug_command_io::{Ended, INPUT_LIMIT, read_input, refuse_input, status, write_result};
+use ug_command_io::{Ended, read_input, refuse_input, status, write_result};
 use ug_descr::{DescrFault, decode};
-use ug_types::{Put, Sink, Source};
+use ug_types::{Put, Sink, Source, TEXT_LIMIT};
 
 /// Writes what the bytes of an input say, whose end was reached.
 fn write_descriptors<K: Sink>(alloc: Global, bytes: &[u8], out: &mut K) -> Ended
-    requires { length bytes.now ≤ input_limit }
+    requires { length bytes.now ≤ text_limit }
     ensures told { (left : Option (List ℕ)) → IsAtEnd left
         → TellsListing bytes.now left (K.held out.old) (K.held out.new) result }
     ensures not_read { result ≢ Ended.ReadFault }
@@ -40,7 +40,7 @@ fn list_input<S: Source, K: Sink>(alloc: Global, input: &mut S, out: &mut K) -> 
     ensures read { result ≡ Ended.ReadFault → Rose (S.faults input.old) (S.faults input.new) }
     ensures written { result ≡ Ended.WriteFault → Rose (K.faults out.old) (K.faults out.new) }
 {
-    match read_input(alloc, input, INPUT_LIMIT) {
+    match read_input(alloc, input, TEXT_LIMIT) {
         Ok(text) => write_descriptors(alloc, text.bytes(), out),
         Err(fault) => refuse_input(out, fault),
     }

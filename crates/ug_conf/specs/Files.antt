@@ -4,6 +4,7 @@ use Rattle.std.specs.List.{find}
 use Rattle.std.specs.Option.{option_map}
 pub use Rattle.std.specs.Cmp.Lexicographic.{pointwise}
 use Rattle.ug_types.specs.Elements.{AllDistinct}
+use Rattle.ug_types.specs.Limits.{text_limit}
 use Rattle.ug_conf.specs.declared.files.FileRead.{FileRead}
 use Rattle.ug_conf.specs.declared.files.FileRead.TheVariants as file
 use Rattle.ug_conf.specs.declared.files.FolderRead.{FolderRead}
@@ -32,13 +33,9 @@ abbrev pub names_at : Tree → List ℕ → Option (List (List ℕ))
 names_at tree path =
     option_map (λ f. f.names) (find (λ f. pointwise nat_eq f.path path) tree.folders)
 
--- the most bytes that are read from a file
-abbrev pub conf_limit : ℕ
-conf_limit = 67108864
-
 -- no more bytes than are read
 abbrev pub FitsText : FileRead → Type 0
-FitsText (file.Bytes bytes) = length bytes ≤ conf_limit
+FitsText (file.Bytes bytes) = length bytes ≤ text_limit
 FitsText file.Absent = Unit {0}
 FitsText file.TooLong = Unit {0}
 FitsText file.Failed = Unit {0}
@@ -53,9 +50,9 @@ FitsFolder folder.Memory = Unit {0}
 
 -- the whole text, or that it is absent or too long
 abbrev pub SaysText : Option (List ℕ) → FileRead → Type 0
-SaysText text (file.Bytes bytes) = (text ≡ Some bytes) × (length bytes ≤ conf_limit)
+SaysText text (file.Bytes bytes) = (text ≡ Some bytes) × (length bytes ≤ text_limit)
 SaysText text file.Absent = text ≡ None
-SaysText text file.TooLong = (bytes : List ℕ) × (text ≡ Some bytes) × (conf_limit < length bytes)
+SaysText text file.TooLong = (bytes : List ℕ) × (text ≡ Some bytes) × (text_limit < length bytes)
 SaysText text file.Failed = Unit {0}
 SaysText text file.Memory = Unit {0}
 

@@ -3,8 +3,9 @@ use Rattle.std.proofs.Common.{◌≡◌, ℕ, nat_eq, nat_le, Bool, true, false,
 use Rattle.std.specs.List.{find, list_any}
 use Rattle.std.specs.Option.{option_map}
 use Rattle.std.proofs.lemmas.Bool.{leb-true}
+use Rattle.ug_types.specs.Limits.{text_limit}
 use Rattle.ug_types.specs.Told.{one_more}
-use Rattle.ug_conf.specs.Files.{FileStep, Read_at, Listed_at, Tree, tree, text_at, names_at, conf_limit, SaysFiles, SaysText, SaysNames, pointwise}
+use Rattle.ug_conf.specs.Files.{FileStep, Read_at, Listed_at, Tree, tree, text_at, names_at, SaysFiles, SaysText, SaysNames, pointwise}
 use Rattle.ug_conf.specs.declared.files.FileRead.{FileRead}
 use Rattle.ug_conf.specs.declared.files.FileRead.TheVariants as file
 use Rattle.ug_conf.specs.declared.files.FolderRead.{FolderRead}
@@ -15,7 +16,7 @@ use Rattle.ug_conf.specs.declared.mem_files.MemFiles.{MemFiles}
 
 abbrev pub file_answer : Option (List ℕ) → FileRead
 file_answer None = file.Absent
-file_answer (Some text) = cond (nat_le (length text) conf_limit) (file.Bytes text) file.TooLong
+file_answer (Some text) = cond (nat_le (length text) text_limit) (file.Bytes text) file.TooLong
 
 abbrev pub names_read : Option (List (List ℕ)) → FolderRead
 names_read None = folder.Absent
@@ -59,11 +60,11 @@ pub record GivesFiles (s : MemFiles) (step : FileStep) (t : MemFiles) : Type 0 w
 
 text_said : (text : Option (List ℕ)) → SaysText text (file_answer text)
 text_said None = refl
-text_said (Some text) = by (nat_le (length text) conf_limit) refl
+text_said (Some text) = by (nat_le (length text) text_limit) refl
   where
-    by : (b : Bool) → nat_le (length text) conf_limit ≡ b
+    by : (b : Bool) → nat_le (length text) text_limit ≡ b
         → SaysText (Some text) (cond b (file.Bytes text) file.TooLong)
-    by true e = (refl, leb-true (length text) conf_limit e)
+    by true e = (refl, leb-true (length text) text_limit e)
     by false e = (text, refl, grind (arith, e))
 
 names_said : (names : Option (List (List ℕ))) → SaysNames names (names_read names)

@@ -6,9 +6,6 @@ ghost use Rattle.ug_conf.specs.Files.{FileStep, Read_at, Listed_at, Tree, FitsFo
 use std::alloc::Global;
 use ug_types::{List, Text};
 
-/// The most bytes that are read from a file, and that the files of a folder of rules have in all.
-pub const TEXT_LIMIT: usize = 67_108_864;
-
 /// The answer to a reading of a file.
 #[derive(Drop)]
 pub enum FileRead {

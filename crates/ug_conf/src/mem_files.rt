@@ -5,10 +5,10 @@ ghost use Rattle.ug_types.specs.Ends.{IsCounted, Rose};
 ghost use Rattle.ug_conf.specs.Files.{FitsText, pointwise, tree};
 ghost use Rattle.ug_conf.specs.MemFiles.{GivesFiles, IsBegun, IsCopy, IsNamesCopy, files_tell};
 
-use crate::files::{ConfFiles, FileRead, FolderRead, TEXT_LIMIT};
+use crate::files::{ConfFiles, FileRead, FolderRead};
 use crate::tree::{MemFile, MemFolder};
 use std::alloc::Global;
-use ug_types::{List, NoMemory, Text};
+use ug_types::{List, NoMemory, TEXT_LIMIT, Text};
 
 /// Files and folders, and the numbers of the calls that fail. The first call is number 1. Of two files at one path the first counts,
 /// and so it is of folders.

@@ -1,6 +1,7 @@
 -- The shapes that the stages of an order have.
 use Rattle.std.proofs.Common.{◌≡◌, ℕ, Bool, true, false, List, [], length, arith, Option, Some, None, Err, Ok, ◌⊎◌, inl, inr, refl, sym, ◌∙◌, ap, subst}
 use Rattle.std.specs.Prelude.{IsSome, nat_le}
+use Rattle.ug_types.specs.Limits.{text_limit}
 use Rattle.ug_types.specs.Principals.{Named}
 use Rattle.ug_refusal.specs.declared.refusal.Refusal.{Refusal}
 use Rattle.ug_refusal.specs.declared.refusal.Refusal.TheVariants as refusal
@@ -15,7 +16,6 @@ use Rattle.ug_proto.specs.declared.request.Request.{Request}
 use Rattle.ug_proto.specs.declared.request.Request.TheVariants as request
 use Rattle.ug_proto.specs.Privileges.{needs}
 use Rattle.ug_proto.specs.Requests.{request_read}
-use Rattle.ug_print.specs.RuleTexts.{rules_limit}
 use Rattle.ug_ruleset.specs.RuleFile.{FitsFile, permanent_text}
 use Rattle.ug_store.specs.DiskCalls.{DiskCall, DiskTold}
 use Rattle.ug_store.specs.Store.{Ended, RunsDisk, saving}
@@ -64,7 +64,7 @@ stores_as {T} keeps o d (Some change) became p h = by_room h.0 h.1
     by_saved sure (saved.Failed count) is = subst (λ (b : Stored). StoresAs d.sweep.judge (Some change) b) (sym is) sure
     by_saved sure saved.Memory is = subst (λ (b : Stored). StoresAs d.sweep.judge (Some change) b) (sym is) tt
 
-    by_length : is_saved change d.sweep.judge.rules ≡ true → (b : Bool) → nat_le (length (permanent_text (changed_by change d.sweep.judge).rules)) rules_limit ≡ b → RunsDisk keeps o (if_fits (permanent_text (changed_by change d.sweep.judge).rules) b) became p → StoresAs d.sweep.judge (Some change) became
+    by_length : is_saved change d.sweep.judge.rules ≡ true → (b : Bool) → nat_le (length (permanent_text (changed_by change d.sweep.judge).rules)) text_limit ≡ b → RunsDisk keeps o (if_fits (permanent_text (changed_by change d.sweep.judge).rules) b) became p → StoresAs d.sweep.judge (Some change) became
     by_length sure true fits k =
         let x = runs_split_disk keeps o (saving (permanent_text (changed_by change d.sweep.judge).rules)) (λ (s : Saved). Ended (after_saving s)) became p k in
         by_saved sure x.0 x.3.0
@@ -73,7 +73,7 @@ stores_as {T} keeps o d (Some change) became p h = by_room h.0 h.1
         (sure, λ fits. let unsaved : ⊥ = grind (arith, long, fits) in unsaved)
 
     by_need : (b : Bool) → is_saved change d.sweep.judge.rules ≡ b → RunsDisk keeps o (if_saved d.sweep.judge change b) became p → StoresAs d.sweep.judge (Some change) became
-    by_need true sure k = by_length sure (nat_le (length (permanent_text (changed_by change d.sweep.judge).rules)) rules_limit) refl k
+    by_need true sure k = by_length sure (nat_le (length (permanent_text (changed_by change d.sweep.judge).rules)) text_limit) refl k
     by_need false unsaved k = subst (λ (b : Stored). StoresAs d.sweep.judge (Some change) b) (sym k.0) unsaved
 
     by_room : (b : Bool) → RunsDisk keeps o (if_kept d.sweep.judge change b) became p → StoresAs d.sweep.judge (Some change) became

@@ -36,13 +36,13 @@ use Rattle.ug_core.specs.Durable.{IsKept, KeepsFile, if_written, unsure_behind, 
 use Rattle.ug_core.specs.Chain.{Happened, StaysOnDisk, Chain, IsKeptThroughout, unsure_past}
 use Rattle.ug_core.proofs.Plain.{SameRules}
 use Rattle.std.specs.Prelude.{IsSome, nat_le, length, Result}
+use Rattle.ug_types.specs.Limits.{text_limit}
 use Rattle.ug_types.proofs.Elements.{has_left, has_right}
 use Rattle.ug_types.specs.Principals.{Named}
 use Rattle.ug_refusal.specs.declared.refusal.Refusal.{Refusal}
 use Rattle.ug_refusal.specs.declared.refusal.Refusal.TheVariants as refusal
 use Rattle.ug_types.specs.declared.verdict.Target.{Target}
 use Rattle.ug_kernel.proofs.Ways.{ways_run}
-use Rattle.ug_print.specs.RuleTexts.{rules_limit}
 use Rattle.ug_proto.specs.Privileges.{needs}
 use Rattle.ug_proto.specs.Requests.{request_read}
 use Rattle.ug_proto.specs.declared.request.Request.TheVariants as request
@@ -306,7 +306,7 @@ module _ (change : Change) (p : Judging) (m : Disk) where
       (subst (λ (u : Disk). StoreStage (Saved_text ∷ []) (Some change) p m stored.TooLong u) (sym h.1) (still_stage (Saved_text ∷ []) (Some change) p m stored.TooLong (λ e. let bad : ⊥ = cc in bad)))
 
   need_stage : (b : Bool) (became : Stored) (n : Disk) → RunsDisk disk_calls m (if_saved p change b) became n → StoreStage (as_list (text_if_saved b change p)) (Some change) p m became n
-  need_stage true became n h = fits_stage (nat_le (length Saved_text) rules_limit) became n h
+  need_stage true became n h = fits_stage (nat_le (length Saved_text) text_limit) became n h
   need_stage false became n h =
       subst (λ (b : Stored). StoreStage [] (Some change) p m b n) (sym h.0)
       (subst (λ (u : Disk). StoreStage [] (Some change) p m stored.NotNeeded u) (sym h.1) (still_stage [] (Some change) p m stored.NotNeeded (λ e. let bad : ⊥ = cc in bad)))

@@ -6,6 +6,7 @@ use Rattle.std.proofs.Math.Seq.{drop-cons}
 use Rattle.std.proofs.lemmas.Bool.Decides.{nat_tests}
 use Rattle.std.proofs.lemmas.List.{length-map, length-take-le, map-append, take-append-drop, take_more}
 use Rattle.std.proofs.lemmas.List.Elements.{All-from_recursion, recursion_from_All}
+use Rattle.ug_types.specs.Limits.{text_limit}
 use Rattle.ug_types.specs.declared.rule.Rule.{Rule}
 use Rattle.ug_types.specs.declared.verdict.Target.TheVariants as target
 use Rattle.ug_types.specs.declared.text_fault.FileFault.{FileFault}
@@ -26,10 +27,9 @@ use Rattle.ug_policy.specs.Kept.{StandsFor}
 use Rattle.ug_policy.specs.Marks.{is_permanent}
 use Rattle.ug_policy.specs.Rules.{Rules, marks, most_rules, rules_in}
 use Rattle.ug_print.specs.Bytes.{RuleOfBytes}
-use Rattle.ug_print.specs.RuleTexts.{rules_limit, rules_text_of}
+use Rattle.ug_print.specs.RuleTexts.{rules_text_of}
 use Rattle.ug_print.specs.declared.rule_texts.RulesTextFault.{RulesTextFault}
 use Rattle.ug_print.specs.declared.rule_texts.RulesTextFault.TheVariants as printed
-use Rattle.ug_store.specs.DiskCalls.{file_limit}
 use Rattle.ug_ruleset.specs.RuleFile.{IsSaveable, ReadsBack, permanent_rules, permanent_text}
 use Rattle.ug_core.proofs.Numbering.{holds_more, start_length}
 use Rattle.ug_core.proofs.Readable.{list_reads_back, list_saves, start_permanent}
@@ -231,14 +231,14 @@ files_bad files i f start last file.Memory within at h read = tt
 
 -- ---- what is told of the folder
 
-pub takes_folder : (files : List FolderFile) (listed : Option (List Marked)) (o : Option Rules) → nat_le (folder_length files) file_limit ≡ true → ListsFolder files listed → marked_of o ≡ listed → TakesFolder files (Ok o)
+pub takes_folder : (files : List FolderFile) (listed : Option (List Marked)) (o : Option Rules) → nat_le (folder_length files) text_limit ≡ true → ListsFolder files listed → marked_of o ≡ listed → TakesFolder files (Ok o)
 takes_folder files listed o short h is = (
   h.rules,
   ap (λ (b : Bool). if b then rules_of_folder (folder_read 0 files) else Err fault.FolderTooLong) short ∙ ap rules_of_folder h.reads,
   subst (λ (l : Option (List Marked)). AreAllListed l (marked_rules mark.Folder h.rules)) (sym is) h.all,
 )
 
-pub refuses_folder : (files : List FolderFile) (e : StartFault) → nat_le (folder_length files) file_limit ≡ true → IsFolderListed files (Err e) → TakesFolder files (Err e)
+pub refuses_folder : (files : List FolderFile) (e : StartFault) → nat_le (folder_length files) text_limit ≡ true → IsFolderListed files (Err e) → TakesFolder files (Err e)
 refuses_folder files (fault.BadFolder place bad) short h = inl (ap (λ (b : Bool). if b then rules_of_folder (folder_read 0 files) else Err fault.FolderTooLong) short ∙ ap rules_of_folder h)
 refuses_folder files fault.Memory short h = inr refl
 refuses_folder files fault.FolderTooLong short h = absurd h
@@ -247,7 +247,7 @@ refuses_folder files fault.TooMany short h = absurd h
 refuses_folder files (fault.BadRules bad) short h = absurd h
 refuses_folder files (fault.Disk count) short h = absurd h
 
-pub refuses_long : (files : List FolderFile) → nat_le (folder_length files) file_limit ≡ false → TakesFolder files (Err fault.FolderTooLong)
+pub refuses_long : (files : List FolderFile) → nat_le (folder_length files) text_limit ≡ false → TakesFolder files (Err fault.FolderTooLong)
 refuses_long files long = inl (ap (λ (b : Bool). if b then rules_of_folder (folder_read 0 files) else Err fault.FolderTooLong) long)
 
 -- ---- what is told of a text
@@ -271,12 +271,12 @@ bad_text folder text start file.Memory last at h = tt
 just_its_rules : (folder rules : List Rule) (list : Rules) → HoldsJust (start_rules folder rules) list → permanent_rules list.entries ≡ rules
 just_its_rules folder rules list h = ap (λ (es : List RuleEntry). permanent_rules es) h.entries ∙ start_permanent 1 folder rules
 
-module _ (folder : List Rule) (text : List ℕ) (list : Rules) (canonical : List ℕ) (h : ListsText folder text list) (is : canonical ≡ permanent_text list.entries) (fits : length canonical ≤ rules_limit) (bytes : All RuleOfBytes (permanent_rules list.entries)) where
+module _ (folder : List Rule) (text : List ℕ) (list : Rules) (canonical : List ℕ) (h : ListsText folder text list) (is : canonical ≡ permanent_text list.entries) (fits : length canonical ≤ text_limit) (bytes : All RuleOfBytes (permanent_rules list.entries)) where
   same : permanent_rules list.entries ≡ h.rules
   same = just_its_rules folder h.rules list h.holds
 
-  room : length (rules_text_of h.rules) ≤ rules_limit
-  room = subst (λ (rs : List Rule). length (rules_text_of rs) ≤ rules_limit) same (subst (λ (t : List ℕ). length t ≤ rules_limit) is fits)
+  room : length (rules_text_of h.rules) ≤ text_limit
+  room = subst (λ (rs : List Rule). length (rules_text_of rs) ≤ text_limit) same (subst (λ (t : List ℕ). length t ≤ text_limit) is fits)
 
   pub text_starts : HasRulesOf folder text list
   text_starts = record { rules = h.rules; reads = h.reads; few = h.few; fits = room; holds = h.holds }
@@ -287,9 +287,9 @@ module _ (folder : List Rule) (text : List ℕ) (list : Rules) (canonical : List
   pub text_saves : IsSaveable list.entries
   text_saves = list_saves text folder h.rules list h.reads (subst (All RuleOfBytes) same bytes) room (let few : length folder + length h.rules ≤ most_rules = h.few in omega (arith, few)) h.holds
 
-pub no_text : (folder : List Rule) (text : List ℕ) (list : Rules) (fault : RulesTextFault) → ListsText folder text list → (fault ≡ printed.TooLong → rules_limit < length (permanent_text list.entries)) → StartsWith folder text (Err (fault_of_printing fault))
+pub no_text : (folder : List Rule) (text : List ℕ) (list : Rules) (fault : RulesTextFault) → ListsText folder text list → (fault ≡ printed.TooLong → text_limit < length (permanent_text list.entries)) → StartsWith folder text (Err (fault_of_printing fault))
 no_text folder text list printed.TooLong h long =
-    record { rules = h.rules; reads = h.reads; few = h.few; long = subst (λ (rs : List Rule). rules_limit < length (rules_text_of rs)) (just_its_rules folder h.rules list h.holds) (long refl) }
+    record { rules = h.rules; reads = h.reads; few = h.few; long = subst (λ (rs : List Rule). text_limit < length (rules_text_of rs)) (just_its_rules folder h.rules list h.holds) (long refl) }
 no_text folder text list printed.Memory h long = tt
 
 -- a text whose list was refused

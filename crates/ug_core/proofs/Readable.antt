@@ -3,6 +3,7 @@ use Rattle.std.proofs.Common.{◌≡◌, ◌≤◌, ℕ, ◌+◌, List, [], ◌�
 use Rattle.std.specs.Prelude.{All}
 use Rattle.std.specs.List.{AllByRecursion}
 use Rattle.std.proofs.lemmas.List.Elements.{All-from_recursion, recursion_from_All}
+use Rattle.ug_types.specs.Limits.{text_limit}
 use Rattle.ug_types.specs.declared.rule.Rule.{Rule}
 use Rattle.ug_policy.specs.declared.entry.Mark.TheVariants as mark
 use Rattle.ug_policy.specs.declared.entry.RuleEntry.{RuleEntry}
@@ -16,7 +17,7 @@ use Rattle.ug_rule.proofs.RuleCuts.{says_line}
 use Rattle.ug_rule.proofs.TextLines.{line_rule}
 use Rattle.ug_rule.proofs.Texts.{rules-read}
 use Rattle.ug_print.specs.Bytes.{RuleOfBytes}
-use Rattle.ug_print.specs.RuleTexts.{rules_limit, rules_text_of}
+use Rattle.ug_print.specs.RuleTexts.{rules_text_of}
 use Rattle.ug_print.specs.Words.{rule_text}
 use Rattle.ug_print.proofs.Printed.{printed}
 use Rattle.ug_print.proofs.RuleTexts.{text_read}
@@ -68,7 +69,7 @@ pub start_permanent : (id : ℕ) (folder rules : List Rule) → permanent_rules 
 start_permanent id [] rules = all_permanent id rules
 start_permanent id (rule ∷ folder) rules = start_permanent (id + 1) folder rules
 
-pub list_saves : (text : List ℕ) (folder rules : List Rule) (list : Rules) → file_read text ≡ Ok rules → All RuleOfBytes rules → length (rules_text_of rules) ≤ rules_limit → length rules ≤ most_rules → HoldsJust (start_rules folder rules) list → IsSaveable list.entries
+pub list_saves : (text : List ℕ) (folder rules : List Rule) (list : Rules) → file_read text ≡ Ok rules → All RuleOfBytes rules → length (rules_text_of rules) ≤ text_limit → length rules ≤ most_rules → HoldsJust (start_rules folder rules) list → IsSaveable list.entries
 list_saves text folder rules list e b fits few h =
     let well = All-from_recursion WellFormed rules (are_well _ rules (rules-read _ rules e)) in
     let saves : CanSave rules = record { reads = text_read rules well b; fits = fits; few = few } in

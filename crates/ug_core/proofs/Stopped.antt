@@ -10,11 +10,10 @@ use Rattle.ug_policy.specs.Rules.{Rules, most_rules}
 use Rattle.ug_policy.specs.declared.entry.RuleEntry.{RuleEntry}
 use Rattle.ug_rule.specs.Files.{file_read}
 use Rattle.ug_rule.proofs.Cases.{one_outcome}
-use Rattle.ug_print.specs.RuleTexts.{rules_limit, rules_text_of}
+use Rattle.ug_print.specs.RuleTexts.{rules_text_of}
 use Rattle.ug_ruleset.specs.RuleFile.{CanSave, IsRuleFile, IsSaveable, permanent_rules, permanent_text}
 use Rattle.ug_ruleset.proofs.Readable.{saved_file}
 use Rattle.ug_store.specs.Disk.{Disk, Images, IsAsItWas, IsImage}
-use Rattle.ug_store.specs.DiskCalls.{file_limit}
 use Rattle.ug_store.specs.Store.{RecoversFrom}
 use Rattle.ug_store.specs.declared.store.RecoverFault.{RecoverFault}
 use Rattle.ug_store.specs.declared.store.RecoverFault.TheVariants as recover
@@ -35,6 +34,7 @@ use Rattle.ug_core.specs.declared.start_fault.StartFault.TheVariants as fault
 use Rattle.ug_core.specs.declared.storing.Stored.{Stored}
 use Rattle.ug_core.specs.declared.storing.Stored.TheVariants as stored
 use Rattle.std.proofs.lemmas.Option.{same_Some}
+use Rattle.ug_types.specs.Limits.{text_limit}
 use Rattle.ug_core.proofs.Kept.{kept_along}
 use Rattle.ug_core.proofs.Readable.{start_permanent}
 
@@ -281,12 +281,12 @@ same_read : (text : List ℕ) (a b : List Rule) → file_read text ≡ Ok a → 
 same_read text a b e f = one_outcome (file_read text) a b e f
 
 -- by what was read
-from_text : (folder : List Rule) (text : List ℕ) (rules : List Rule) (result : Result (Bool × Rules) StartFault) → file_read text ≡ Ok rules → length (rules_text_of rules) ≤ rules_limit → StartsAfter folder (Ok text) result → LoadsJust folder rules result
+from_text : (folder : List Rule) (text : List ℕ) (rules : List Rule) (result : Result (Bool × Rules) StartFault) → file_read text ≡ Ok rules → length (rules_text_of rules) ≤ text_limit → StartsAfter folder (Ok text) result → LoadsJust folder rules result
 from_text folder text rules (Ok started) reads fits h = (h.0, subst (λ (rs : List Rule). HoldsJust (start_rules folder rs) started.1) (same_read text h.1.rules rules h.1.reads reads) h.1.holds)
 from_text folder text rules (Err (fault.BadRules bad)) reads fits h = let other = sym h ∙ reads in let none : ⊥ = cc in absurd none
 from_text folder text rules (Err fault.TooMany) reads fits h = subst (λ (rs : List Rule). most_rules < length folder + length rs) (same_read text h.rules rules h.reads reads) h.many
 from_text folder text rules (Err fault.TooLong) reads fits h =
-    let long : file_limit < length (rules_text_of rules) = subst (λ (rs : List Rule). file_limit < length (rules_text_of rs)) (same_read text h.rules rules h.reads reads) h.long in
+    let long : text_limit < length (rules_text_of rules) = subst (λ (rs : List Rule). text_limit < length (rules_text_of rs)) (same_read text h.rules rules h.reads reads) h.long in
     let none : ⊥ = omega (arith, long, fits) in
     absurd none
 from_text folder text rules (Err fault.Memory) reads fits h = tt
@@ -294,7 +294,7 @@ from_text folder text rules (Err (fault.Disk count)) reads fits h = absurd h
 from_text folder text rules (Err (fault.BadFolder place bad)) reads fits h = absurd h
 from_text folder text rules (Err fault.FolderTooLong) reads fits h = absurd h
 
-from_fault : (folder : List Rule) (e : RecoverFault) (file : List ℕ) (rules : List Rule) (result : Result (Bool × Rules) StartFault) → length file ≤ rules_limit → RecoversFrom (Err e) file → result ≡ Err (fault_of_recovery e) → LoadsJust folder rules result
+from_fault : (folder : List Rule) (e : RecoverFault) (file : List ℕ) (rules : List Rule) (result : Result (Bool × Rules) StartFault) → length file ≤ text_limit → RecoversFrom (Err e) file → result ≡ Err (fault_of_recovery e) → LoadsJust folder rules result
 from_fault folder (recover.Failed count) file rules result within h is = subst (λ (r : Result (Bool × Rules) StartFault). LoadsJust folder rules r) (sym is) tt
 from_fault folder recover.TooLong file rules result within h is = let none : ⊥ = omega (arith, within, h) in absurd none
 from_fault folder recover.Memory file rules result within h is = subst (λ (r : Result (Bool × Rules) StartFault). LoadsJust folder rules r) (sym is) tt

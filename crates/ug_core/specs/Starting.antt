@@ -4,6 +4,7 @@ use Rattle.std.specs.Prelude.{◌≡◌, ◌⊎◌, ℕ, ◌+◌, ◌<◌, ◌�
 use Rattle.std.specs.Cmp.Lexicographic.{slice_cmp}
 use Rattle.std.specs.Ordering.{nat_cmp}
 use Rattle.std.specs.declared.cmp.Ordering.TheVariants.{Less}
+use Rattle.ug_types.specs.Limits.{text_limit}
 use Rattle.rand_core.specs.Stream.{Stream}
 use Rattle.ug_kernel.specs.declared.control.Write.{Write}
 use Rattle.ug_types.specs.declared.rule.Rule.{Rule}
@@ -25,7 +26,7 @@ use Rattle.ug_ruleset.specs.RuleFile.{ReadsBack}
 use Rattle.ug_acl.specs.Acls.{Addition}
 use Rattle.ug_conf.specs.FolderFiles.{folder_length}
 use Rattle.ug_conf.specs.declared.folder_file.FolderFile.{FolderFile}
-use Rattle.ug_store.specs.DiskCalls.{DiskCall, DiskTold, file_limit}
+use Rattle.ug_store.specs.DiskCalls.{DiskCall, DiskTold}
 use Rattle.ug_store.specs.Disk.{Disk}
 use Rattle.ug_store.specs.Store.{RunsDisk, recovering, Recovers, TellsRecoverFault}
 use Rattle.ug_store.specs.declared.store.RecoverFault.{RecoverFault}
@@ -151,7 +152,7 @@ rules_of_folder (Err bad) = Err (fault.BadFolder bad.file bad.fault)
 -- the length of the texts in all is tried before the texts
 abbrev pub folder_rules : List FolderFile → Result (List Rule) StartFault
 folder_rules files =
-    if nat_le (folder_length files) file_limit then rules_of_folder (folder_read 0 files)
+    if nat_le (folder_length files) text_limit then rules_of_folder (folder_read 0 files)
     else Err fault.FolderTooLong
 
 -- the rules of these files are listed
@@ -186,7 +187,7 @@ pub record HasRulesOf (folder : List Rule) (text : List ℕ) (list : Rules) : Ty
   pub rules : List Rule
   pub reads : file_read text ≡ Ok rules
   pub few : length folder + length rules ≤ most_rules
-  pub fits : length (rules_text_of rules) ≤ file_limit
+  pub fits : length (rules_text_of rules) ≤ text_limit
   pub holds : HoldsJust (start_rules folder rules) list
 
 -- the rules are no more than a list takes, and the list holds just them
@@ -216,7 +217,7 @@ pub record IsTooLong (folder : List Rule) (text : List ℕ) : Type 0 where
   pub rules : List Rule
   pub reads : file_read text ≡ Ok rules
   pub few : length folder + length rules ≤ most_rules
-  pub long : file_limit < length (rules_text_of rules)
+  pub long : text_limit < length (rules_text_of rules)
 
 -- the list of the folder's rules and of a text's, or what is wrong with the text's
 abbrev pub StartsWith : List Rule → List ℕ → Result Rules StartFault → Type 0

@@ -1,12 +1,12 @@
 -- How a change is saved before it is in force: the stage of an order that is on the disk.
 use Rattle.std.specs.Prelude.{◌≡◌, ℕ, nat_le, Bool, true, false, List, length, Option, Some, None}
 use Rattle.ug_types.specs.Ends.{Rose}
+use Rattle.ug_types.specs.Limits.{text_limit}
 use Rattle.ug_refusal.specs.declared.refusal.Refusal.{Refusal}
 use Rattle.ug_refusal.specs.declared.refusal.Refusal.TheVariants as refusal
 use Rattle.ug_types.specs.declared.saved.Saved.{Saved}
 use Rattle.ug_types.specs.declared.saved.Saved.TheVariants as saved
 use Rattle.ug_audit.specs.declared.entry.Entry.TheVariants as entry
-use Rattle.ug_print.specs.RuleTexts.{rules_limit}
 use Rattle.ug_ruleset.specs.RuleFile.{permanent_text}
 use Rattle.ug_store.specs.Store.{DiskProg, Ended, DiskRoom, then_disk, saving}
 use Rattle.ug_core.specs.Changes.{ChangeSaves, change_entry, changed_by, is_saved}
@@ -32,7 +32,7 @@ if_fits text false = Ended stored.TooLong
 abbrev pub if_saved : Judging → Change → Bool → DiskProg Stored
 if_saved p change true =
     if_fits (permanent_text (changed_by change p).rules)
-    (nat_le (length (permanent_text (changed_by change p).rules)) rules_limit)
+    (nat_le (length (permanent_text (changed_by change p).rules)) text_limit)
 if_saved p change false = Ended stored.NotNeeded
 
 -- memory is taken for all that is to be in force behind the save

@@ -1,21 +1,21 @@
 // The rules of the folder: usbguard-daemon.conf(5), RuleFolder.
 ghost use Rattle.std.specs.Prelude.{◌≡◌, ◌+◌, ◌≤◌, ◌⊎◌, ◌∷◌, [], None, Some, IfOk, IfSome, OnOk, nat_le};
+ghost use Rattle.ug_types.specs.Limits.{text_limit};
 ghost use Rattle.ug_conf.specs.FolderFiles.{folder_length};
 ghost use Rattle.ug_policy.specs.Rules.{most_rules};
 ghost use Rattle.ug_rule.specs.Grammar.{WellFormed};
-ghost use Rattle.ug_store.specs.DiskCalls.{file_limit};
 ghost use Rattle.ug_core.specs.Starting.{AreOfFolder, HoldsJust, IsFolderListed, TakesFolder, fault_in_folder, marked_in, marked_of, one_listed};
 
 use crate::rules::append;
 use crate::start_fault::StartFault;
 use std::alloc::Global;
 use std::marker::Model;
-use ug_conf::{FolderFile, TEXT_LIMIT};
+use ug_conf::FolderFile;
 use ug_lines::{LineReader, read_lines};
 use ug_policy::{MAX_RULES, Mark, RuleList};
 use ug_rule::parse_line;
 use ug_ruleset::stay_readable;
-use ug_types::{FileFault, NoMemory, Rule};
+use ug_types::{FileFault, NoMemory, Rule, TEXT_LIMIT};
 
 /// The folder's rules so far, with ids from 1 on. There is no list where they are more than one takes.
 #[derive(Drop)]
@@ -108,7 +108,7 @@ fn fault_in(file: u64, fault: FileFault) -> StartFault
 
 /// Whether the files have no more bytes in all than are taken.
 fn is_short(files: &[FolderFile]) -> bool
-    ensures { result ≡ nat_le (folder_length files.now) file_limit }
+    ensures { result ≡ nat_le (folder_length files.now) text_limit }
 {
     let mut left = TEXT_LIMIT;
     for file in 0..files.len() {

@@ -1,5 +1,6 @@
 -- How much of a file was read.
 use Rattle.std.specs.Prelude.{ℕ, ◌≤◌, length, Option, Some, None}
+use Rattle.ug_types.specs.Limits.{text_limit}
 use Rattle.ug_host.specs.declared.file.Content.{Content}
 use Rattle.ug_host.specs.declared.file.Content.TheVariants as content
 
@@ -10,4 +11,4 @@ FitsContent limit content.TooLong = Unit {0}
 
 abbrev pub FitsIfThere : Option Content → Type 0
 FitsIfThere None = Unit {0}
-FitsIfThere (Some content) = FitsContent 67108864 content
+FitsIfThere (Some content) = FitsContent text_limit content

@@ -8,11 +8,8 @@ ghost use Rattle.ug_kernel.specs.Few.{HasFew, AreDistinct};
 use crate::file::FileFault;
 use std::fs;
 use std::rt::Files;
-use ug_kernel::Listing;
+use ug_kernel::{Listing, MAX_DEVICES};
 use ug_types::{List, NodeName, sort_names};
-
-/// The most devices that a kernel can have.
-const MOST: usize = 65536;
 
 /// The entries of the folder that are names of devices. Others are passed over, as interfaces, which have a colon.
 fn read_names<R: Files + AllocGlobal + Clone + Drop>(
@@ -55,7 +52,7 @@ pub fn list_devices<R: Files + AllocGlobal + Clone + Drop>(rt: &R, folder: &str)
         Err(_) => return Listing::Failed,
     };
     sort_names(&mut names);
-    if names.len() > MOST || !are_apart(names.as_slice()) {
+    if names.len() > MAX_DEVICES || !are_apart(names.as_slice()) {
         return Listing::Failed;
     }
     Listing::Names(List::from_vec(names))

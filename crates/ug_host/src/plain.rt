@@ -7,9 +7,7 @@ use crate::trusted::open_trusted;
 use std::alloc::Global;
 use std::rt::Files;
 use std::str;
-
-/// The most bytes that are read of an ordinary file.
-pub const LIMIT: usize = 67_108_864;
+use ug_types::TEXT_LIMIT;
 
 /// Reads the file at a path, and gives None where there is none. It fails where others may have written it.
 pub fn read_at<R: Files>(rt: &R, alloc: Global, path: &str) -> Result<Option<Content>, FileFault>
@@ -18,7 +16,7 @@ pub fn read_at<R: Files>(rt: &R, alloc: Global, path: &str) -> Result<Option<Con
     let Some(mut file) = open_trusted(rt, alloc, path)? else {
         return Ok(None);
     };
-    Ok(Some(read_content(alloc, &mut file, LIMIT)?))
+    Ok(Some(read_content(alloc, &mut file, TEXT_LIMIT)?))
 }
 
 /// A path as text. One that isn't UTF-8 is a failure, since the library can't open it.

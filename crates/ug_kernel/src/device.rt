@@ -2,6 +2,9 @@
 use crate::control::{Control, Write};
 use ug_types::{NodeName, Text};
 
+/// How many devices are live at most.
+pub const MAX_DEVICES: usize = 65_536;
+
 /// A device that was born. Its place in the kernel's list is its identity, and is never used again.
 #[derive(Drop)]
 pub struct Device {

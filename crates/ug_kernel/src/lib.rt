@@ -9,6 +9,6 @@ mod sysfs;
 
 pub use calls::{FailedCall, Listing, Opened, Probe, ReadOut, Wrote};
 pub use control::{Attr, Control, Held, Write};
-pub use device::{Device, Effect, HeldFile};
+pub use device::{Device, Effect, HeldFile, MAX_DEVICES};
 pub use record::{Asked, CallRecord, Kind};
 pub use sysfs::Sysfs;

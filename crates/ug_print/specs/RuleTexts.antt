@@ -3,10 +3,6 @@ use Rattle.std.specs.Prelude.{ℕ, List, [], ◌∷◌, ◌++◌, flat_map}
 use Rattle.ug_types.specs.declared.rule.Rule.{Rule}
 use Rattle.ug_print.specs.Words.{rule_text}
 
--- the greatest number of bytes of a rule file
-abbrev pub rules_limit : ℕ
-rules_limit = 67108864
-
 -- a rule on a line of its own
 abbrev pub rule_line : Rule → List ℕ
 rule_line rule = rule_text rule ++ 10 ∷ []

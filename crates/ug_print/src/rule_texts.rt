@@ -3,15 +3,12 @@ ghost use Rattle.std.specs.Prelude.{◌≡◌, ◌<◌, ◌≤◌, ◌++◌, All
 ghost use Rattle.ug_rule.specs.Files.{file_read};
 ghost use Rattle.ug_rule.specs.Grammar.{WellFormed};
 ghost use Rattle.ug_print.specs.Bytes.{RuleOfBytes};
-ghost use Rattle.ug_print.specs.RuleTexts.{rule_line, rules_limit, rules_text_of};
+ghost use Rattle.ug_print.specs.RuleTexts.{rule_line, rules_text_of};
 
 use crate::printing::print_rule;
 use std::alloc::Global;
 use std::marker::Model;
-use ug_types::{NoMemory, Rule, Text};
-
-/// The greatest number of bytes of a rule file.
-const RULES_LIMIT: usize = 67_108_864;
+use ug_types::{NoMemory, Rule, TEXT_LIMIT, Text};
 
 /// Why no text is made of rules.
 #[derive(Clone, Copy, Debug, PartialEq, Eq)]
@@ -29,28 +26,28 @@ pub struct RulesText {
 
 impl Model for RulesText {
     ghost use Rattle.std.specs.Prelude.{ℕ, List, ◌≤◌, length};
-    ghost use Rattle.ug_print.specs.RuleTexts.{rules_limit};
+    ghost use Rattle.ug_types.specs.Limits.{text_limit};
 
     ghost Value = { List ℕ };
 
     ghost view = { λ t. t.bytes.items };
 
-    ghost invariant = { λ t. length t.bytes.items ≤ rules_limit };
+    ghost invariant = { λ t. length t.bytes.items ≤ text_limit };
 }
 
 fn put_line(alloc: Global, out: &mut Vec<u8>, rule: &Rule) -> Result<(), RulesTextFault>
-    requires { length out.old.items ≤ rules_limit }
+    requires { length out.old.items ≤ text_limit }
     ensures line { OnOk result (out.new.items ≡ out.old.items ++ rule_line rule.now) }
-    ensures fits { OnOk result (length out.new.items ≤ rules_limit) }
+    ensures fits { OnOk result (length out.new.items ≤ text_limit) }
     ensures too_long { result ≡ Err RulesTextFault.TooLong
-        → rules_limit < length (out.old.items ++ rule_line rule.now) }
+        → text_limit < length (out.old.items ++ rule_line rule.now) }
     ensures err { OnErr result (out.new.items ≡ out.old.items) }
     ensures bytes { OnOk result (RuleOfBytes rule.now) }
 {
     let Ok(line) = print_line(alloc, rule) else {
         return Err(RulesTextFault::Memory);
     };
-    if line.bytes().len() > RULES_LIMIT - out.len() {
+    if line.bytes().len() > TEXT_LIMIT - out.len() {
         return Err(RulesTextFault::TooLong);
     }
     match out.extend_from_slice(line.bytes()) {
@@ -81,9 +78,9 @@ impl RulesText {
     /// Adds the line of a rule. A refusal changes nothing.
     pub fn push(&mut self, alloc: Global, rule: &Rule) -> Result<(), RulesTextFault>
         ensures line { OnOk result (self.new ≡ self.old ++ rule_line rule.now) }
-        ensures fits { OnOk result (length self.new ≤ rules_limit) }
+        ensures fits { OnOk result (length self.new ≤ text_limit) }
         ensures too_long { result ≡ Err RulesTextFault.TooLong
-            → rules_limit < length (self.old ++ rule_line rule.now) }
+            → text_limit < length (self.old ++ rule_line rule.now) }
         ensures err { OnErr result (self.new ≡ self.old) }
         ensures bytes { OnOk result (RuleOfBytes rule.now) }
     {
@@ -92,7 +89,7 @@ impl RulesText {
 
     pub fn into_text(self) -> Text
         ensures text { result ≡ self }
-        ensures fits { length self ≤ rules_limit }
+        ensures fits { length self ≤ text_limit }
     {
         Text::from_vec(self.bytes)
     }
@@ -102,9 +99,9 @@ impl RulesText {
 /// it is made. A text that is made of rules, each of which some line reads as, reads as these rules.
 pub fn rules_text(alloc: Global, rules: &[Rule]) -> Result<Text, RulesTextFault>
     ensures text { IfOk result (λ text. text ≡ rules_text_of rules.now) }
-    ensures fits { OnOk result (length (rules_text_of rules.now) ≤ rules_limit) }
+    ensures fits { OnOk result (length (rules_text_of rules.now) ≤ text_limit) }
     ensures too_long { result ≡ Err RulesTextFault.TooLong
-        → rules_limit < length (rules_text_of rules.now) }
+        → text_limit < length (rules_text_of rules.now) }
     ensures bytes { OnOk result (All RuleOfBytes rules.now) }
     ensures reads { All WellFormed rules.now → IfOk result (λ text. file_read text ≡ Ok rules.now) }
 {

@@ -5,10 +5,11 @@ use Rattle.std.specs.List.{AllByRecursion}
 use Rattle.std.proofs.lemmas.List.{flat_map_more, take-append-drop, take_more}
 use Rattle.std.proofs.lemmas.List.Elements.{All-from_recursion, recursion_from_All}
 use Rattle.std.proofs.lemmas.Option.{get_or_from_slice_get, slice_get_within}
+use Rattle.ug_types.specs.Limits.{text_limit}
 use Rattle.ug_types.specs.declared.rule.Rule.{Rule}
 use Rattle.ug_policy.specs.declared.entry.RuleEntry.{RuleEntry}
 use Rattle.ug_print.specs.Bytes.{RuleOfBytes}
-use Rattle.ug_print.specs.RuleTexts.{rule_line, rules_limit, rules_text_of}
+use Rattle.ug_print.specs.RuleTexts.{rule_line, rules_text_of}
 use Rattle.ug_ruleset.specs.RuleEdits.{at_end, in_front, in_place, rules_after}
 use Rattle.ug_ruleset.specs.declared.edit.Edit.{Edit}
 
@@ -65,12 +66,12 @@ rest_of edit es i =
     ∙ ap (λ (v : List Rule). in_front edit ++ v) (append_assoc (flat_map (in_place edit) (take i es)) (flat_map (in_place edit) (drop i es)) (at_end edit))
     ∙ sym (append_assoc (in_front edit) (flat_map (in_place edit) (take i es)) (flat_map (in_place edit) (drop i es) ++ at_end edit))
 
-longer : (rs ts all : List Rule) → all ≡ rs ++ ts → rules_limit < length (rules_text_of rs) → rules_limit < length (rules_text_of all)
+longer : (rs ts all : List Rule) → all ≡ rs ++ ts → text_limit < length (rules_text_of rs) → text_limit < length (rules_text_of all)
 longer rs ts all is h =
     let whole : length (rules_text_of all) ≡ length (rules_text_of rs) + length (rules_text_of ts) = ap (λ (v : List Rule). length (rules_text_of v)) is ∙ ap (λ (t : List ℕ). length t) (text_append rs ts) ∙ length-append (rules_text_of rs) (rules_text_of ts) in
     omega (arith, whole, h)
 
-pub long_at : (edit : Option Edit) (es : List RuleEntry) (i : ℕ) → rules_limit < length (rules_text_of (rules_up_to edit es i)) → rules_limit < length (rules_text_of (rules_after edit es))
+pub long_at : (edit : Option Edit) (es : List RuleEntry) (i : ℕ) → text_limit < length (rules_text_of (rules_up_to edit es i)) → text_limit < length (rules_text_of (rules_after edit es))
 long_at edit es i h = longer (rules_up_to edit es i) (flat_map (in_place edit) (drop i es) ++ at_end edit) (rules_after edit es) (rest_of edit es i) h
 
 -- the whole text

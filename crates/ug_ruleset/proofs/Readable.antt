@@ -7,6 +7,7 @@ use Rattle.std.proofs.lemmas.List.{length-map}
 use Rattle.ug_types.specs.Elements.{AllDistinct, Has}
 use Rattle.ug_policy.specs.Rules.{ids, marks, rules_in}
 use Rattle.std.proofs.lemmas.List.Elements.{All-from_recursion, recursion_from_All}
+use Rattle.ug_types.specs.Limits.{text_limit}
 use Rattle.ug_types.specs.declared.rule.Rule.{Rule}
 use Rattle.ug_types.specs.declared.rule.After.{After}
 use Rattle.ug_types.specs.declared.rule.After.TheVariants as after
@@ -17,7 +18,7 @@ use Rattle.ug_rule.specs.Files.{file_read}
 use Rattle.ug_rule.specs.Grammar.{WellFormed}
 use Rattle.ug_rule.proofs.RuleCuts.{read_well, says_line}
 use Rattle.ug_print.specs.Bytes.{CondsOfBytes, QueryOfBytes, RuleOfBytes}
-use Rattle.ug_print.specs.RuleTexts.{rules_limit, rules_text_of}
+use Rattle.ug_print.specs.RuleTexts.{rules_text_of}
 use Rattle.ug_print.specs.Words.{rule_text}
 use Rattle.ug_print.proofs.Printed.{printed}
 use Rattle.ug_print.proofs.RuleTexts.{text_read}
@@ -115,24 +116,24 @@ pub record TextOf {E : Type 0} (too_long : E) (es : List RuleEntry) (r : Result 
   pub saves : length (permanent_rules es) ≤ 65536 → OnOk r (IsSaveable es)
   pub long : r ≡ Err too_long → FitsFile es → ⊥
 
-pub text_of_list : {E : Type 0} (too_long : E) (es : List RuleEntry) (rules : List Rule) (r : Result (List ℕ) E) → rules ≡ permanent_rules es → All ReadsBack (rules_in es) → IfOk r (λ text. text ≡ rules_text_of rules) → OnOk r (All RuleOfBytes rules) → IfOk r (λ text. length text ≤ rules_limit) → (r ≡ Err too_long → rules_limit < length (rules_text_of rules)) → TextOf too_long es r
+pub text_of_list : {E : Type 0} (too_long : E) (es : List RuleEntry) (rules : List Rule) (r : Result (List ℕ) E) → rules ≡ permanent_rules es → All ReadsBack (rules_in es) → IfOk r (λ text. text ≡ rules_text_of rules) → OnOk r (All RuleOfBytes rules) → IfOk r (λ text. length text ≤ text_limit) → (r ≡ Err too_long → text_limit < length (rules_text_of rules)) → TextOf too_long es r
 text_of_list {E} too_long es rules r same back is bytes fits long = record {
   text = by_text r is;
   reads = text_reads es rules r same back is bytes;
   fits = by_fits r is fits;
   saves = λ few. by_saves few r is bytes fits;
-  long = λ e k. let over = long e in let under : length (rules_text_of rules) ≤ rules_limit = subst (λ (rs : List Rule). length (rules_text_of rs) ≤ rules_limit) (sym same) k in omega (arith, over, under);
+  long = λ e k. let over = long e in let under : length (rules_text_of rules) ≤ text_limit = subst (λ (rs : List Rule). length (rules_text_of rs) ≤ text_limit) (sym same) k in omega (arith, over, under);
 }
   where
     by_text : (r : Result (List ℕ) E) → IfOk r (λ text. text ≡ rules_text_of rules) → IfOk r (λ text. text ≡ permanent_text es)
     by_text (Ok text) is = is ∙ ap (λ (rs : List Rule). rules_text_of rs) same
     by_text (Err e) is = tt
 
-    by_fits : (r : Result (List ℕ) E) → IfOk r (λ text. text ≡ rules_text_of rules) → IfOk r (λ text. length text ≤ rules_limit) → OnOk r (FitsFile es)
-    by_fits (Ok text) is h = subst (λ (t : List ℕ). length t ≤ rules_limit) (is ∙ ap (λ (rs : List Rule). rules_text_of rs) same) h
+    by_fits : (r : Result (List ℕ) E) → IfOk r (λ text. text ≡ rules_text_of rules) → IfOk r (λ text. length text ≤ text_limit) → OnOk r (FitsFile es)
+    by_fits (Ok text) is h = subst (λ (t : List ℕ). length t ≤ text_limit) (is ∙ ap (λ (rs : List Rule). rules_text_of rs) same) h
     by_fits (Err e) is h = tt
 
-    by_saves : length (permanent_rules es) ≤ 65536 → (r : Result (List ℕ) E) → IfOk r (λ text. text ≡ rules_text_of rules) → OnOk r (All RuleOfBytes rules) → IfOk r (λ text. length text ≤ rules_limit) → OnOk r (IsSaveable es)
+    by_saves : length (permanent_rules es) ≤ 65536 → (r : Result (List ℕ) E) → IfOk r (λ text. text ≡ rules_text_of rules) → OnOk r (All RuleOfBytes rules) → IfOk r (λ text. length text ≤ text_limit) → OnOk r (IsSaveable es)
     by_saves few (Ok text) is b h = record {
       reads = permanent_reads es back (subst (All RuleOfBytes) same b);
       fits = by_fits (Ok text) is h;

@@ -1,9 +1,10 @@
 -- The rules that are saved, and the text of the rule file with them.
 use Rattle.std.specs.Prelude.{◌≡◌, ◌≤◌, ℕ, if◌then◌else◌, List, [], ◌∷◌, length, map, flat_map, Ok}
+use Rattle.ug_types.specs.Limits.{text_limit}
 use Rattle.ug_types.specs.declared.rule.Rule.{Rule}
 use Rattle.ug_rule.specs.Files.{file_read}
 use Rattle.ug_rule.specs.Rules.{rule_read}
-use Rattle.ug_print.specs.RuleTexts.{rules_limit, rules_text_of}
+use Rattle.ug_print.specs.RuleTexts.{rules_text_of}
 use Rattle.ug_print.specs.Words.{rule_text}
 use Rattle.ug_policy.specs.Edits.{new_entry}
 use Rattle.ug_policy.specs.Marks.{is_permanent}
@@ -32,13 +33,13 @@ permanent_text entries = rules_text_of (permanent_rules entries)
 
 -- which a rule file has room for
 abbrev pub FitsFile : List RuleEntry → Type 0
-FitsFile entries = length (permanent_text entries) ≤ rules_limit
+FitsFile entries = length (permanent_text entries) ≤ text_limit
 
 -- the rules read again from their canonical text, for which a rule file has
 -- room; and a list has room for them
 pub record CanSave (rules : List Rule) : Type 0 where
   pub reads : file_read (rules_text_of rules) ≡ Ok rules
-  pub fits : length (rules_text_of rules) ≤ rules_limit
+  pub fits : length (rules_text_of rules) ≤ text_limit
   pub few : length rules ≤ most_rules
 
 -- so do the permanent ones
@@ -49,8 +50,8 @@ IsSaveable entries = CanSave (permanent_rules entries)
 -- and a daemon starts with them
 pub record IsRuleFile (rules : List Rule) (text : List ℕ) : Type 0 where
   pub reads : file_read text ≡ Ok rules
-  pub within : length text ≤ rules_limit
-  pub fits : length (rules_text_of rules) ≤ rules_limit
+  pub within : length text ≤ text_limit
+  pub fits : length (rules_text_of rules) ≤ text_limit
   pub few : length rules ≤ most_rules
 
 -- the rule reads again from its canonical text

@@ -1,7 +1,8 @@
 // The text of a rule file with the permanent rules of a list.
 ghost use Rattle.std.specs.Prelude.{◌≡◌, ◌<◌, ◌≤◌, ◌++◌, All, Err, IfOk, OnOk, Some, length, option_copied};
+ghost use Rattle.ug_types.specs.Limits.{text_limit};
 ghost use Rattle.ug_print.specs.Bytes.{RuleOfBytes};
-ghost use Rattle.ug_print.specs.RuleTexts.{rules_limit, rules_text_of};
+ghost use Rattle.ug_print.specs.RuleTexts.{rules_text_of};
 ghost use Rattle.ug_ruleset.specs.RuleEdits.{at_end, in_front, in_place, rules_after};
 ghost use Rattle.ug_ruleset.specs.RuleFile.{permanent_rules, permanent_text, saved_rule};
 
@@ -21,7 +22,7 @@ fn put_rule(
     ensures text { OnOk result (text.new ≡ text.old ++ rules_text_of (saved_rule mark rule.now)) }
     ensures bytes { OnOk result (All RuleOfBytes (saved_rule mark rule.now)) }
     ensures too_long { result ≡ Err RulesTextFault.TooLong
-        → rules_limit < length (text.old ++ rules_text_of (saved_rule mark rule.now)) }
+        → text_limit < length (text.old ++ rules_text_of (saved_rule mark rule.now)) }
 {
     if !mark.is_permanent() {
         return Ok(());
@@ -38,7 +39,7 @@ fn put_in_front(
         ++ rules_text_of (in_front (option_copied edit.entry))) }
     ensures bytes { OnOk result (All RuleOfBytes (in_front (option_copied edit.entry))) }
     ensures too_long { result ≡ Err RulesTextFault.TooLong
-        → rules_limit < length (text.old ++ rules_text_of (in_front (option_copied edit.entry))) }
+        → text_limit < length (text.old ++ rules_text_of (in_front (option_copied edit.entry))) }
 {
     match edit {
         Some(
@@ -61,7 +62,7 @@ fn put_at_end(
         ++ rules_text_of (at_end (option_copied edit.entry))) }
     ensures bytes { OnOk result (All RuleOfBytes (at_end (option_copied edit.entry))) }
     ensures too_long { result ≡ Err RulesTextFault.TooLong
-        → rules_limit < length (text.old ++ rules_text_of (at_end (option_copied edit.entry))) }
+        → text_limit < length (text.old ++ rules_text_of (at_end (option_copied edit.entry))) }
 {
     match edit {
         Some(
@@ -86,7 +87,7 @@ fn put_edited(
         ++ rules_text_of (in_place (Some edit.now) entry.now)) }
     ensures bytes { OnOk result (All RuleOfBytes (in_place (Some edit.now) entry.now)) }
     ensures too_long { result ≡ Err RulesTextFault.TooLong
-        → rules_limit < length (text.old ++ rules_text_of (in_place (Some edit.now) entry.now)) }
+        → text_limit < length (text.old ++ rules_text_of (in_place (Some edit.now) entry.now)) }
 {
     match edit {
         Edit::Insert {
@@ -115,7 +116,7 @@ fn put_entry(
         ++ rules_text_of (in_place (option_copied edit.entry) entry.now)) }
     ensures bytes { OnOk result (All RuleOfBytes (in_place (option_copied edit.entry) entry.now)) }
     ensures too_long { result ≡ Err RulesTextFault.TooLong
-        → rules_limit
+        → text_limit
         < length (text.old ++ rules_text_of (in_place (option_copied edit.entry) entry.now)) }
 {
     match edit {
@@ -134,9 +135,9 @@ pub fn file_text(
         ≡ rules_text_of (rules_after (option_copied edit.entry) list.now.entries)) }
     ensures bytes { OnOk result
         (All RuleOfBytes (rules_after (option_copied edit.entry) list.now.entries)) }
-    ensures fits { IfOk result (λ text. length text ≤ rules_limit) }
+    ensures fits { IfOk result (λ text. length text ≤ text_limit) }
     ensures too_long { result ≡ Err RulesTextFault.TooLong
-        → rules_limit
+        → text_limit
         < length (rules_text_of (rules_after (option_copied edit.entry) list.now.entries)) }
 {
     let mut text = RulesText::new(alloc);
@@ -159,9 +160,9 @@ pub fn file_text(
 pub fn list_text(alloc: Global, list: &RuleList) -> Result<Text, RulesTextFault>
     ensures text { IfOk result (λ text. text ≡ permanent_text list.now.entries) }
     ensures bytes { OnOk result (All RuleOfBytes (permanent_rules list.now.entries)) }
-    ensures fits { IfOk result (λ text. length text ≤ rules_limit) }
+    ensures fits { IfOk result (λ text. length text ≤ text_limit) }
     ensures too_long { result ≡ Err RulesTextFault.TooLong
-        → rules_limit < length (permanent_text list.now.entries) }
+        → text_limit < length (permanent_text list.now.entries) }
 {
     file_text(alloc, list, None)
 }

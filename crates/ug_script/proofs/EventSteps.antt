@@ -1,6 +1,7 @@
 -- An event as the world and the disk fix it.
 use Rattle.std.proofs.Common.{◌≡◌, ℕ, nat_le, length, Bool, true, false, ◌||◌, List, [], ◌++◌, Option, Some, None, Result, ◌⊎◌, ◌∙◌, ap, sym, subst, refl, inl, inr, append_assoc, append-nil, cond}
 use Rattle.std.proofs.lemmas.Bool.{both_ways}
+use Rattle.ug_types.specs.Limits.{text_limit}
 use Rattle.ug_types.specs.Principals.{Named}
 use Rattle.ug_types.specs.declared.rule.Rule as types
 use Rattle.ug_types.specs.declared.saved.Saved.{Saved}
@@ -14,7 +15,6 @@ use Rattle.ug_simulation.specs.Play.{play, tells_memory, IsPlayed}
 use Rattle.ug_simulation.proofs.Plays.{TellsWant, played, refused, runs_out}
 use Rattle.ug_simulation.proofs.Wants.{memory_more}
 use Rattle.ug_kernel.proofs.Ways.{Went, ways_more, ways_run}
-use Rattle.ug_print.specs.RuleTexts.{rules_limit}
 use Rattle.ug_ruleset.specs.RuleFile.{CanSave, permanent_text}
 use Rattle.ug_store.specs.PlayDisk.{play_disk}
 use Rattle.ug_store.specs.Scripted.{DiskWorld, MemKeeps, coming_up}
@@ -89,7 +89,7 @@ storing_ends d (Some change) = ((stored.Memory, refl, refl), by_saved (is_saved 
     by_fits false = tt
 
     by_saved : (b : Bool) → EndsByMemory (λ (x : Stored). x ≡ stored.Memory) (if_saved d.sweep.judge change b)
-    by_saved true = by_fits (nat_le (length text) rules_limit)
+    by_saved true = by_fits (nat_le (length text) text_limit)
     by_saved false = tt
 
 -- nothing is saved for no change

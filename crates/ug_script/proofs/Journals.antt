@@ -38,14 +38,13 @@ use Rattle.std.proofs.lemmas.Option.{same_Some}
 use Rattle.ug_kernel.specs.declared.control.Write.{Write}
 use Rattle.ug_types.specs.declared.text_fault.TextFault.{TextFault}
 use Rattle.ug_store.specs.Disk.{Disk, IsAsItWas, IsImage}
-use Rattle.ug_store.specs.DiskCalls.{file_limit}
 use Rattle.ug_store.specs.PlayDisk.{play_disk}
 use Rattle.ug_store.specs.declared.mishap.Planned.{Planned}
 use Rattle.ug_store.proofs.PlayedDisk.{play_runs_disk, play_stays_possible, play_stays_told}
 use Rattle.ug_rule.specs.Files.{file_read}
 use Rattle.ug_ruleset.specs.RuleFile.{IsRuleFile, permanent_rules}
 use Rattle.ug_store.specs.Scripted.{DiskWorld, MemKeeps, coming_up, disk_told, forgetting}
-use Rattle.ug_print.specs.RuleTexts.{rules_limit, rules_text_of}
+use Rattle.ug_print.specs.RuleTexts.{rules_text_of}
 use Rattle.ug_types.specs.declared.rule.Rule.{Rule}
 use Rattle.ug_sysfs.specs.World.{Gives}
 use Rattle.ug_simulation.proofs.Plays.{play_runs}

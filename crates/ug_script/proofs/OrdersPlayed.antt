@@ -1,5 +1,6 @@
 -- What a script fixes of a pending save, of an order, and of its save.
 use Rattle.std.proofs.Common.{◌≡◌, ℕ, ◌+◌, ◌≤◌, nat_le, arith, length, Bool, true, false, ◌||◌, List, [], ◌++◌, Option, Some, None, refl, sym, ◌∙◌, ap, subst, append_assoc, append-nil}
+use Rattle.ug_types.specs.Limits.{text_limit}
 use Rattle.ug_types.specs.Principals.{Named}
 use Rattle.ug_types.specs.declared.saved.Saved.{Saved}
 use Rattle.ug_types.specs.declared.saved.Saved.TheVariants as saved
@@ -9,7 +10,6 @@ use Rattle.ug_simulation.specs.Play.{NameNobody, play, tells_memory}
 use Rattle.ug_simulation.proofs.Plays.{Fixed, play_way, refused}
 use Rattle.ug_simulation.proofs.Sweeps.{nobody_more}
 use Rattle.ug_simulation.proofs.Wants.{memory_more}
-use Rattle.ug_print.specs.RuleTexts.{rules_limit}
 use Rattle.ug_ruleset.specs.RuleFile.{permanent_text}
 use Rattle.ug_store.specs.PlayDisk.{play_disk}
 use Rattle.ug_store.specs.Scripted.{IsUnplanned, DiskWorld}
@@ -96,7 +96,7 @@ storing_so d (Some change) o told = by_saved (is_saved change d.sweep.judge.rule
     by_fits false = without_save o stored.TooLong (λ e. (let none : ⊥ = cc in none)) (λ count e. (let none : ⊥ = cc in none))
 
     by_saved : (b : Bool) → StoringSo o (play_disk (if_saved d.sweep.judge change b) o)
-    by_saved true = by_fits (nat_le (length text) rules_limit)
+    by_saved true = by_fits (nat_le (length text) text_limit)
     by_saved false = without_save o stored.NotNeeded (λ e. (let none : ⊥ = cc in none)) (λ count e. (let none : ⊥ = cc in none))
 
 -- ---- the order

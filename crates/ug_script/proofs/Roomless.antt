@@ -8,9 +8,10 @@ use Rattle.std.proofs.lemmas.Bool.{leb-false, lt-leb}
 use Rattle.std.proofs.lemmas.List.{append_cancel_left}
 use Rattle.std.proofs.lemmas.List.Sums.{fold-append}
 use Rattle.std.proofs.lemmas.Option.{same_Some}
+use Rattle.ug_types.specs.Limits.{text_limit}
 use Rattle.ug_types.specs.declared.rule.Rule as types
 use Rattle.ug_lines.specs.Lines.{lines_of}
-use Rattle.ug_print.specs.RuleTexts.{rules_limit, rules_text_of}
+use Rattle.ug_print.specs.RuleTexts.{rules_text_of}
 use Rattle.ug_sysfs.specs.World.{World}
 use Rattle.ug_command_io.specs.Fold.{LineRefusal, BadLine, Going, Halted, InputTooLong, LineOutcome, Refused, Stage, Writes, advance, bad_line, closed_text, input_too_long, is_within, of_first, plays, stage_after, whole_text}
 use Rattle.ug_command_io.specs.Refusals.{AtEnd, AtLine, RefusesLine, RefusesLines}
@@ -231,31 +232,31 @@ abbrev script_closing : Option Script × World → Option (List ℕ)
 script_closing = of_first script_end
 
 abbrev IsRoomless : SetupState → Type 0
-IsRoomless setup = (rules_limit < length (rules_text_of setup.rules)) ⊎ (rules_limit < folder_length setup.folder.files)
+IsRoomless setup = (text_limit < length (rules_text_of setup.rules)) ⊎ (text_limit < folder_length setup.folder.files)
 
 neither_way : (a : Bool) → (a && false) ≡ false
 neither_way true = refl
 neither_way false = refl
 
 no_room : (setup : SetupState) → IsRoomless setup → fits_file setup ≡ false
-no_room setup (inl long) = ap (λ (b : Bool). b && fits_folder setup) (lt-leb (length (rules_text_of setup.rules)) rules_limit long)
-no_room setup (inr long) = ap (λ (b : Bool). fits_rules setup && b) (lt-leb (folder_length setup.folder.files) rules_limit long) ∙ neither_way (fits_rules setup)
+no_room setup (inl long) = ap (λ (b : Bool). b && fits_folder setup) (lt-leb (length (rules_text_of setup.rules)) text_limit long)
+no_room setup (inr long) = ap (λ (b : Bool). fits_rules setup && b) (lt-leb (folder_length setup.folder.files) text_limit long) ∙ neither_way (fits_rules setup)
 
 is_roomless : (setup : SetupState) → fits_file setup ≡ false → IsRoomless setup
 is_roomless setup h = by (fits_rules setup) refl h
   where
     by : (b : Bool) → fits_rules setup ≡ b → (b && fits_folder setup) ≡ false → IsRoomless setup
-    by true e k = inr (leb-false (folder_length setup.folder.files) rules_limit k)
-    by false e k = inl (leb-false (length (rules_text_of setup.rules)) rules_limit e)
+    by true e k = inr (leb-false (folder_length setup.folder.files) text_limit k)
+    by false e k = inl (leb-false (length (rules_text_of setup.rules)) text_limit e)
 
 -- the lines of the folder are the texts of its files
 
-files_long : (earlier : List (List ℕ)) (s : Script) → Sets fresh (steps_of earlier) s → rules_limit < lines_length (flat_map folder_asked (steps_of earlier)) → rules_limit < folder_length s.setup.folder.files
+files_long : (earlier : List (List ℕ)) (s : Script) → Sets fresh (steps_of earlier) s → text_limit < lines_length (flat_map folder_asked (steps_of earlier)) → text_limit < folder_length s.setup.folder.files
 files_long earlier s sets long =
     let same : folder_length s.setup.folder.files ≡ 0 + lines_length (flat_map folder_asked (steps_of earlier)) = sets.files in
     omega (arith, long, same)
 
-lines_long : (earlier : List (List ℕ)) (s : Script) → Sets fresh (steps_of earlier) s → rules_limit < folder_length s.setup.folder.files → rules_limit < lines_length (flat_map folder_asked (steps_of earlier))
+lines_long : (earlier : List (List ℕ)) (s : Script) → Sets fresh (steps_of earlier) s → text_limit < folder_length s.setup.folder.files → text_limit < lines_length (flat_map folder_asked (steps_of earlier))
 lines_long earlier s sets long =
     let same : folder_length s.setup.folder.files ≡ 0 + lines_length (flat_map folder_asked (steps_of earlier)) = sets.files in
     omega (arith, long, same)
@@ -267,7 +268,7 @@ room_told first lines moves fails h =
     let silent : h.text ≡ [] = (stays_scheduled first moves fails h.earlier h.count h.text h.script h.world h.taken).silent unstarted in
     let asks = starts_some (step_of_line h.line) h.starts in
     let none : fits_file h.script.setup ≡ false = no_room h.script.setup (elim h.long [
-      | inl rules ↦ inl (subst (λ (rules : List types.Rule). rules_limit < length (rules_text_of rules)) (sym sets.rules) rules)
+      | inl rules ↦ inl (subst (λ (rules : List types.Rule). text_limit < length (rules_text_of rules)) (sym sets.rules) rules)
       | inr lines ↦ inr (files_long h.earlier h.script sets lines)
     ]) in
     let refused = are_refused (Some h.script, h.world) h.line InputTooLong (NoRoom h.script h.world h.line asks.0 asks.1 asks.2 unstarted none) in
@@ -325,7 +326,7 @@ by_reason first lines earlier later line count text _ _ among taken within (NoRo
       unstarted = sym sets.started ∙ unstarted;
       starts = ap (λ (o : Option Step). starts_one o) is ∙ starts;
       long = elim (is_roomless s.setup full) [
-        | inl rules ↦ inl (subst (λ (rules : List types.Rule). rules_limit < length (rules_text_of rules)) sets.rules rules)
+        | inl rules ↦ inl (subst (λ (rules : List types.Rule). text_limit < length (rules_text_of rules)) sets.rules rules)
         | inr files ↦ inr (lines_long earlier s sets files)
       ];
     }

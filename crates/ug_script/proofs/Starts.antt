@@ -3,6 +3,7 @@ use Rattle.std.proofs.Common.{◌≡◌, ◌⊎◌, ℕ, ◌+◌, ◌<◌, ◌�
 use Rattle.std.specs.Prelude.{All}
 use Rattle.std.proofs.lemmas.List.Elements.{All-head, All-tail}
 use Rattle.std.proofs.lemmas.Bool.{leb-false, leb-true, le-leb, lt-leb}
+use Rattle.ug_types.specs.Limits.{text_limit}
 use Rattle.rand_core.specs.Stream.{Stream}
 use Rattle.ug_kernel.specs.declared.control.Write.{Write}
 use Rattle.ug_types.specs.declared.rule.Rule.{Rule}
@@ -18,8 +19,8 @@ use Rattle.ug_proto.specs.declared.reply.Reply.{Reply}
 use Rattle.ug_command_io.specs.Fold.{LineRefusal, BadLine, InputTooLong}
 use Rattle.ug_rule.specs.Files.{file_read}
 use Rattle.ug_ruleset.specs.RuleFile.{IsRuleFile}
-use Rattle.ug_print.specs.RuleTexts.{rules_limit, rules_text_of}
-use Rattle.ug_store.specs.DiskCalls.{Load, DiskTold, file_limit}
+use Rattle.ug_print.specs.RuleTexts.{rules_text_of}
+use Rattle.ug_store.specs.DiskCalls.{Load, DiskTold}
 use Rattle.ug_store.specs.Scripted.{DiskWorld, disk_answer, disk_told, loaded_of, text_or_absent, world_at_first, MemKeeps}
 use Rattle.ug_store.specs.Store.{RunsDisk, after_load, recovering}
 use Rattle.ug_store.specs.declared.disk.Loaded.{Loaded}
@@ -69,53 +70,53 @@ from_if before fits read = if fits then rules_if_read before read else Err Input
 -- behind so many rules of the folder
 module _ (before : ℕ) where
   -- a text for which a file has room gives what its rules give
-  pub from_text : (text : List ℕ) (read : Result (List Rule) TextFault) → length text ≤ file_limit → file_read text ≡ read → rules_from before text ≡ rules_if_read before read
-  from_text text read fits is = ap (λ (b : Bool). from_if before b (file_read text)) (le-leb (length text) file_limit fits) ∙ ap (λ (r : Result (List Rule) TextFault). rules_if_read before r) is
+  pub from_text : (text : List ℕ) (read : Result (List Rule) TextFault) → length text ≤ text_limit → file_read text ≡ read → rules_from before text ≡ rules_if_read before read
+  from_text text read fits is = ap (λ (b : Bool). from_if before b (file_read text)) (le-leb (length text) text_limit fits) ∙ ap (λ (r : Result (List Rule) TextFault). rules_if_read before r) is
 
-  from_long : (text : List ℕ) → file_limit < length text → rules_from before text ≡ Err InputTooLong
-  from_long text long = ap (λ (b : Bool). from_if before b (file_read text)) (lt-leb (length text) file_limit long)
+  from_long : (text : List ℕ) → text_limit < length text → rules_from before text ≡ Err InputTooLong
+  from_long text long = ap (λ (b : Bool). from_if before b (file_read text)) (lt-leb (length text) text_limit long)
 
-  pub are_taken : (rules : List Rule) → before + length rules ≤ 65536 → length (rules_text_of rules) ≤ rules_limit → rules_taken before rules ≡ Ok rules
+  pub are_taken : (rules : List Rule) → before + length rules ≤ 65536 → length (rules_text_of rules) ≤ text_limit → rules_taken before rules ≡ Ok rules
   are_taken rules few fits =
-      ap (λ (b : Bool). taken_if rules b (nat_le (length (rules_text_of rules)) rules_limit)) (le-leb (before + length rules) 65536 few)
-      ∙ ap (λ (b : Bool). taken_if rules true b) (le-leb (length (rules_text_of rules)) rules_limit fits)
+      ap (λ (b : Bool). taken_if rules b (nat_le (length (rules_text_of rules)) text_limit)) (le-leb (before + length rules) 65536 few)
+      ∙ ap (λ (b : Bool). taken_if rules true b) (le-leb (length (rules_text_of rules)) text_limit fits)
 
   are_many : (rules : List Rule) → 65536 < before + length rules → rules_taken before rules ≡ Err InputTooLong
-  are_many rules many = ap (λ (b : Bool). taken_if rules b (nat_le (length (rules_text_of rules)) rules_limit)) (lt-leb (before + length rules) 65536 many)
+  are_many rules many = ap (λ (b : Bool). taken_if rules b (nat_le (length (rules_text_of rules)) text_limit)) (lt-leb (before + length rules) 65536 many)
 
-  are_long : (rules : List Rule) → before + length rules ≤ 65536 → rules_limit < length (rules_text_of rules) → rules_taken before rules ≡ Err InputTooLong
+  are_long : (rules : List Rule) → before + length rules ≤ 65536 → text_limit < length (rules_text_of rules) → rules_taken before rules ≡ Err InputTooLong
   are_long rules few long =
-      ap (λ (b : Bool). taken_if rules b (nat_le (length (rules_text_of rules)) rules_limit)) (le-leb (before + length rules) 65536 few)
-      ∙ ap (λ (b : Bool). taken_if rules true b) (lt-leb (length (rules_text_of rules)) rules_limit long)
+      ap (λ (b : Bool). taken_if rules b (nat_le (length (rules_text_of rules)) text_limit)) (le-leb (before + length rules) 65536 few)
+      ∙ ap (λ (b : Bool). taken_if rules true b) (lt-leb (length (rules_text_of rules)) text_limit long)
 
 -- the rules are no more than a daemon takes behind so many, and a rule file has room for them
 abbrev AreTaken : ℕ → List Rule → Type 0
-AreTaken before rules = (before + length rules ≤ 65536) × (length (rules_text_of rules) ≤ rules_limit)
+AreTaken before rules = (before + length rules ≤ 65536) × (length (rules_text_of rules) ≤ text_limit)
 
 -- a text that a daemon starts with is a rule file
 pub from_file : (before : ℕ) (text : List ℕ) (rules : List Rule) → rules_from before text ≡ Ok rules → IsRuleFile rules text × (before + length rules ≤ 65536)
-from_file before text rules h = by_length (nat_le (length text) file_limit) refl h
+from_file before text rules h = by_length (nat_le (length text) text_limit) refl h
   where
-    taken_from : (others : List Rule) (few fits : Bool) → nat_le (before + length others) 65536 ≡ few → nat_le (length (rules_text_of others)) rules_limit ≡ fits → cond (few && fits) (Ok others) (Err InputTooLong) ≡ Ok rules → (others ≡ rules) × AreTaken before rules
+    taken_from : (others : List Rule) (few fits : Bool) → nat_le (before + length others) 65536 ≡ few → nat_le (length (rules_text_of others)) text_limit ≡ fits → cond (few && fits) (Ok others) (Err InputTooLong) ≡ Ok rules → (others ≡ rules) × AreTaken before rules
     taken_from others true true e f k =
         let same : others ≡ rules = cc in
         let few : before + length others ≤ 65536 = leb-true (before + length others) 65536 e in
-        let short : length (rules_text_of others) ≤ rules_limit = leb-true (length (rules_text_of others)) rules_limit f in
-        (same, (subst (λ (rs : List Rule). before + length rs ≤ 65536) same few, subst (λ (rs : List Rule). length (rules_text_of rs) ≤ rules_limit) same short))
+        let short : length (rules_text_of others) ≤ text_limit = leb-true (length (rules_text_of others)) text_limit f in
+        (same, (subst (λ (rs : List Rule). before + length rs ≤ 65536) same few, subst (λ (rs : List Rule). length (rules_text_of rs) ≤ text_limit) same short))
     taken_from others true false e f k = let none : ⊥ = cc in absurd none
     taken_from others false fits e f k = let none : ⊥ = cc in absurd none
 
     by_read : (r : Result (List Rule) TextFault) → file_read text ≡ r → rules_if_read before r ≡ Ok rules → (file_read text ≡ Ok rules) × AreTaken before rules
     by_read (Ok others) is k =
-        let x = taken_from others (nat_le (before + length others) 65536) (nat_le (length (rules_text_of others)) rules_limit) refl refl k in
+        let x = taken_from others (nat_le (before + length others) 65536) (nat_le (length (rules_text_of others)) text_limit) refl refl k in
         (is ∙ ap (λ (rs : List Rule). Ok rs) x.0, x.1)
     by_read (Err bad) is k = let none : ⊥ = cc in absurd none
 
-    by_length : (b : Bool) → nat_le (length text) file_limit ≡ b → cond b (rules_if_read before (file_read text)) (Err InputTooLong) ≡ Ok rules → IsRuleFile rules text × (before + length rules ≤ 65536)
+    by_length : (b : Bool) → nat_le (length text) text_limit ≡ b → cond b (rules_if_read before (file_read text)) (Err InputTooLong) ≡ Ok rules → IsRuleFile rules text × (before + length rules ≤ 65536)
     by_length true e k =
         let x = by_read (file_read text) refl k in
         let few : before + length rules ≤ 65536 = x.1.0 in
-        (record { reads = x.0; within = leb-true (length text) file_limit e; fits = x.1.1; few = omega (arith, few) }, few)
+        (record { reads = x.0; within = leb-true (length text) text_limit e; fits = x.1.1; few = omega (arith, few) }, few)
     by_length false e k = let none : ⊥ = cc in absurd none
 
 pub from_few : (before : ℕ) (text : List ℕ) (rules : List Rule) → rules_from before text ≡ Ok rules → before + length rules ≤ 65536
@@ -125,18 +126,18 @@ from_few before text rules h = (from_file before text rules h).1
 
 -- the disk is as the reading left it, and the text was read, or is longer than a file; or there was want of memory, or a failure
 abbrev GivesText : List ℕ → DiskWorld → Result (List ℕ) RecoverFault → DiskWorld → Type 0
-GivesText text u (Ok got) t = (got ≡ text) × (length text ≤ file_limit) × (t ≡ u)
-GivesText text u (Err recover.TooLong) t = (file_limit < length text) × (t ≡ u)
+GivesText text u (Ok got) t = (got ≡ text) × (length text ≤ text_limit) × (t ≡ u)
+GivesText text u (Err recover.TooLong) t = (text_limit < length text) × (t ≡ u)
 GivesText text u (Err (recover.Failed count)) t = Unit {0}
 GivesText text u (Err recover.Memory) t = Unit {0}
 
-read_text : (text : List ℕ) (r : Result (List ℕ) RecoverFault) (count : ℕ) (u t : DiskWorld) → length text ≤ file_limit → RunsDisk MemKeeps u (after_load (text_or_absent text) count) r t → GivesText text u r t
+read_text : (text : List ℕ) (r : Result (List ℕ) RecoverFault) (count : ℕ) (u t : DiskWorld) → length text ≤ text_limit → RunsDisk MemKeeps u (after_load (text_or_absent text) count) r t → GivesText text u r t
 read_text [] r count u t fits h = subst (λ (x : Result (List ℕ) RecoverFault). GivesText [] u x t) (sym h.0) (refl, fits, h.1)
 read_text (b ∷ bs) r count u t fits h = subst (λ (x : Result (List ℕ) RecoverFault). GivesText (b ∷ bs) u x t) (sym h.0) (refl, fits, h.1)
 
-read_within : (text : List ℕ) (r : Result (List ℕ) RecoverFault) (fits : Bool) (count : ℕ) (u t : DiskWorld) → nat_le (length text) file_limit ≡ fits → RunsDisk MemKeeps u (after_load (if fits then text_or_absent text else loaded.TooLong) count) r t → GivesText text u r t
-read_within text r true count u t is h = read_text text r count u t (leb-true (length text) file_limit is) h
-read_within text r false count u t is h = subst (λ (x : Result (List ℕ) RecoverFault). GivesText text u x t) (sym h.0) (leb-false (length text) file_limit is, h.1)
+read_within : (text : List ℕ) (r : Result (List ℕ) RecoverFault) (fits : Bool) (count : ℕ) (u t : DiskWorld) → nat_le (length text) text_limit ≡ fits → RunsDisk MemKeeps u (after_load (if fits then text_or_absent text else loaded.TooLong) count) r t → GivesText text u r t
+read_within text r true count u t is h = read_text text r count u t (leb-true (length text) text_limit is) h
+read_within text r false count u t is h = subst (λ (x : Result (List ℕ) RecoverFault). GivesText text u x t) (sym h.0) (leb-false (length text) text_limit is, h.1)
 
 read_short : (text : List ℕ) (r : Result (List ℕ) RecoverFault) (answer : Loaded) (count : ℕ) (u v t : DiskWorld) → answer ≡ loaded.Memory → RunsDisk MemKeeps u (after_load answer count) r t → GivesText text v r t
 read_short text r answer count u v t e h =
@@ -170,7 +171,7 @@ read_told o r a u t keeps h = elim keeps [
         let is = answer_of o e in
         let k : RunsDisk MemKeeps u (after_load (loaded_of o.disk.text) a.count) r t = subst (λ (y : Loaded). RunsDisk MemKeeps u (after_load y a.count) r t) (ap (λ (b : DiskTold Load). b.answer) x.0 ∙ is.0) h in
         let l : RunsDisk MemKeeps (after_reading o) (after_load (loaded_of o.disk.text) a.count) r t = subst (λ (y : DiskWorld). RunsDisk MemKeeps y (after_load (loaded_of o.disk.text) a.count) r t) (x.1 ∙ is.1) k in
-        read_within o.disk.text r (nat_le (length o.disk.text) file_limit) a.count (after_reading o) t refl l
+        read_within o.disk.text r (nat_le (length o.disk.text) text_limit) a.count (after_reading o) t refl l
 
 read_whole : (o : DiskWorld) (r : Result (List ℕ) RecoverFault) (t : DiskWorld) → RunsDisk MemKeeps o recovering r t → GivesText o.disk.text (after_reading o) r t
 unfolding recovering
@@ -187,17 +188,17 @@ rules_read file (f ∷ files) h =
 abbrev folder_if : List FolderFile → Bool → Result (List Rule) StartFault
 folder_if files fits = if fits then rules_of_folder (folder_read 0 files) else Err fault.FolderTooLong
 
-folder_fits : (files : List FolderFile) → All HoldsRules files → nat_le (folder_length files) file_limit ≡ true → folder_rules files ≡ Ok (rules_in_folder files)
+folder_fits : (files : List FolderFile) → All HoldsRules files → nat_le (folder_length files) text_limit ≡ true → folder_rules files ≡ Ok (rules_in_folder files)
 folder_fits files h fits = ap (folder_if files) fits ∙ ap rules_of_folder (rules_read 0 files h)
 
-folder_long : (files : List FolderFile) → nat_le (folder_length files) file_limit ≡ false → folder_rules files ≡ Err fault.FolderTooLong
+folder_long : (files : List FolderFile) → nat_le (folder_length files) text_limit ≡ false → folder_rules files ≡ Err fault.FolderTooLong
 folder_long files long = ap (folder_if files) long
 
 -- where they were taken, they fit
-taken_fits : (files : List FolderFile) (rules : List Rule) → All HoldsRules files → folder_rules files ≡ Ok rules → (nat_le (folder_length files) file_limit ≡ true) × (rules ≡ rules_in_folder files)
-taken_fits files rules h is = by (nat_le (folder_length files) file_limit) refl
+taken_fits : (files : List FolderFile) (rules : List Rule) → All HoldsRules files → folder_rules files ≡ Ok rules → (nat_le (folder_length files) text_limit ≡ true) × (rules ≡ rules_in_folder files)
+taken_fits files rules h is = by (nat_le (folder_length files) text_limit) refl
   where
-    by : (b : Bool) → nat_le (folder_length files) file_limit ≡ b → (nat_le (folder_length files) file_limit ≡ true) × (rules ≡ rules_in_folder files)
+    by : (b : Bool) → nat_le (folder_length files) text_limit ≡ b → (nat_le (folder_length files) text_limit ≡ true) × (rules ≡ rules_in_folder files)
     by true e =
         let same : Ok rules ≡ Ok (rules_in_folder files) = sym is ∙ folder_fits files h e in
         let only : rules ≡ rules_in_folder files = cc in
@@ -291,7 +292,7 @@ module _ (setup : SetupState) (held : HasLines setup.folder.files setup.folder.c
   many_so : (rules : List Rule) → 65536 < length (rules_in_folder setup.folder.files) + length rules → 65536 < setup.folder.count + length rules
   many_so rules many = omega (arith, many, counted setup held (length rules))
 
-  refused_text : (o : DiskWorld) (e : StartFault) → length o.disk.text ≤ file_limit → StartsWith (rules_in_folder setup.folder.files) o.disk.text (Err e) → Refuses setup o (no_start_of e)
+  refused_text : (o : DiskWorld) (e : StartFault) → length o.disk.text ≤ text_limit → StartsWith (rules_in_folder setup.folder.files) o.disk.text (Err e) → Refuses setup o (no_start_of e)
   refused_text o (fault.BadFolder file bad) fits h = absurd h
   refused_text o fault.FolderTooLong fits h = absurd h
   refused_text o (fault.Disk count) fits h = absurd h
@@ -319,9 +320,9 @@ module _ (setup : SetupState) (held : HasLines setup.folder.files setup.folder.c
 
   -- the folder's rules are read, or its texts are too long
   refused_folder : (o : DiskWorld) (e : StartFault) → folder_rules setup.folder.files ≡ Err e → Refuses setup o (no_start_of e)
-  refused_folder o e is = by (nat_le (folder_length setup.folder.files) file_limit) refl
+  refused_folder o e is = by (nat_le (folder_length setup.folder.files) text_limit) refl
     where
-      by : (b : Bool) → nat_le (folder_length setup.folder.files) file_limit ≡ b → Refuses setup o (no_start_of e)
+      by : (b : Bool) → nat_le (folder_length setup.folder.files) text_limit ≡ b → Refuses setup o (no_start_of e)
       by true fits =
           let other : Ok (rules_in_folder setup.folder.files) ≡ Err e = sym (folder_fits setup.folder.files held.each fits) ∙ is in
           let none : ⊥ = cc in
@@ -360,7 +361,7 @@ same_rules rules others read h g =
 -- the disk of a setup has its rules
 pub first_rules : (setup : SetupState) (o : DiskWorld) → o ≡ world_at_first (rules_text_of setup.rules) → file_read (rules_text_of setup.rules) ≡ Ok setup.rules → fits_rules setup ≡ true → setup.folder.count + length setup.rules ≤ 65536 → rules_from setup.folder.count o.disk.text ≡ Ok setup.rules
 first_rules setup o is reads fits few =
-    let room : length (rules_text_of setup.rules) ≤ rules_limit = leb-true (length (rules_text_of setup.rules)) rules_limit fits in
+    let room : length (rules_text_of setup.rules) ≤ text_limit = leb-true (length (rules_text_of setup.rules)) text_limit fits in
     ap (λ (x : DiskWorld). rules_from setup.folder.count x.disk.text) is ∙ from_text setup.folder.count (rules_text_of setup.rules) (Ok setup.rules) room reads ∙ are_taken setup.folder.count setup.rules few room
 
 pub first_daemon : (setup : SetupState) (o : DiskWorld) (d : DaemonState) → rules_from setup.folder.count o.disk.text ≡ Ok setup.rules → StartsOn setup 1 o d → d ≡ first_started setup

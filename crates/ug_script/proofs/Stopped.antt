@@ -1,12 +1,12 @@
 -- An event in which the machine stops writes to no device; and each event of a script is lawful.
 use Rattle.std.proofs.Common.{◌≡◌, ℕ, nat_le, length, Bool, true, false, cond, ◌||◌, List, Option, Some, None, inl, inr, refl, sym, ◌∙◌, ap, subst}
 use Rattle.std.proofs.lemmas.Bool.{both_ways, cond_both}
+use Rattle.ug_types.specs.Limits.{text_limit}
 use Rattle.ug_kernel.specs.Calls.{Call, Names, Open, Read, Ask_alive, Put, Close}
 use Rattle.ug_kernel.specs.Kernel.{Kernel}
 use Rattle.ug_kernel.specs.Tree.{Prog, Return, Ask, Room}
 use Rattle.ug_sysfs.specs.World.{World, answer_from, scripted_answer, event_begun, effect, entered, fate, halting, refusing_memory}
 use Rattle.ug_simulation.specs.Play.{play}
-use Rattle.ug_print.specs.RuleTexts.{rules_limit}
 use Rattle.ug_types.specs.declared.saved.Saved.{Saved}
 use Rattle.ug_types.specs.declared.saved.Saved.TheVariants as saved
 use Rattle.ug_ruleset.specs.RuleFile.{permanent_text}
@@ -149,7 +149,7 @@ store_fails d (Some change) o e = by_saved (is_saved change d.sweep.judge.rules)
     by_fits false = λ f. unstopped o e f
 
     by_saved : (b : Bool) → StoreFails (play_disk (if_saved d.sweep.judge change b) o)
-    by_saved true = by_fits (nat_le (length text) rules_limit)
+    by_saved true = by_fits (nat_le (length text) text_limit)
     by_saved false = λ f. unstopped o e f
 
 -- ---- an event

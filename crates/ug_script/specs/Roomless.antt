@@ -1,6 +1,7 @@
 -- Which scripts end with `input too long`.
 use Rattle.std.specs.Prelude.{◌≡◌, ◌⊎◌, ℕ, ◌<◌, ◌↔◌, Bool, true, false, List, [], ◌∷◌, ◌++◌, flat_map, length, Option, Some, None}
 use Rattle.std.specs.List.{list_any}
+use Rattle.ug_types.specs.Limits.{text_limit}
 use Rattle.ug_print.specs.RuleTexts.{rules_text_of}
 use Rattle.ug_sysfs.specs.World.{World}
 use Rattle.ug_command_io.specs.Fold.{Going, input_too_long, is_within, plays}
@@ -33,8 +34,8 @@ pub record FindsNoRoom (first : World) (lines : List (List ℕ)) : Type 0 where
   pub within : is_within count line ≡ true
   pub unstarted : list_any starts_one (steps_of earlier) ≡ false
   pub starts : starts_one (step_of_line line) ≡ true
-  pub long : (67108864 < length (rules_text_of (flat_map setup_rule (steps_of earlier))))
-      ⊎ (67108864 < lines_length (flat_map folder_asked (steps_of earlier)))
+  pub long : (text_limit < length (rules_text_of (flat_map setup_rule (steps_of earlier))))
+      ⊎ (text_limit < lines_length (flat_map folder_asked (steps_of earlier)))
 
 -- where the status is 2, `input too long` is all that is written exactly where that is so
 abbrev pub TellsRoom : World → List (List ℕ) → List ℕ → Option (List ℕ) → ℕ → Type 0

@@ -1,8 +1,8 @@
 -- How far a script has come, and the daemon that it has.
 use Rattle.std.specs.Prelude.{◌≡◌, Bool, true, false, ◌&&◌, nat_le, List, [], length}
+use Rattle.ug_types.specs.Limits.{text_limit}
 use Rattle.ug_conf.specs.FolderFiles.{folder_length}
-use Rattle.ug_print.specs.RuleTexts.{rules_limit, rules_text_of}
-use Rattle.ug_store.specs.DiskCalls.{file_limit}
+use Rattle.ug_print.specs.RuleTexts.{rules_text_of}
 use Rattle.ug_store.specs.Scripted.{DiskWorld}
 use Rattle.ug_core.specs.Event.{DaemonState, daemon_of}
 use Rattle.ug_store.specs.declared.mishap.Planned.{Planned}
@@ -76,11 +76,11 @@ disk_in s = disk_by s.setup s.phase
 
 -- the texts of the folder's files aren't too long together
 abbrev pub fits_folder : SetupState → Bool
-fits_folder setup = nat_le (folder_length setup.folder.files) file_limit
+fits_folder setup = nat_le (folder_length setup.folder.files) text_limit
 
 -- a rule file has room for the other rules
 abbrev pub fits_rules : SetupState → Bool
-fits_rules setup = nat_le (length (rules_text_of setup.rules)) rules_limit
+fits_rules setup = nat_le (length (rules_text_of setup.rules)) text_limit
 
 abbrev pub fits_file : SetupState → Bool
 fits_file setup = fits_rules setup && fits_folder setup

@@ -2,6 +2,7 @@
 use Rattle.std.specs.Prelude.{◌≡◌, ℕ, ◌+◌, nat_le, ℤ, pos, neg_ℤ, ◌+ℤ◌, int_le, unsigned_abs, replicate, Bool, false, is_none, ◌&&◌, nat_lt, if◌then◌else◌, List, [], ◌∷◌, ◌++◌, length, drop, map, flat_map, Option, Some, None, Result, Ok, Err}
 use Rattle.std.specs.Int.{int_rem_euclid}
 use Rattle.std.specs.List.{filter}
+use Rattle.ug_types.specs.Limits.{text_limit}
 use Rattle.rand_chacha.specs.ChaCha.{next_word, of_seed}
 use Rattle.rand_core.specs.Steps.{stream_of, steps_u32}
 use Rattle.rand_core.specs.Stream.{Stream}
@@ -22,11 +23,11 @@ use Rattle.ug_core.specs.Starting.{Marked, entries_from, start_rules}
 use Rattle.ug_core.specs.Settings.{classes_of, hub_default}
 use Rattle.ug_core.specs.Policy.{Judging}
 use Rattle.ug_core.specs.Event.{DaemonState}
-use Rattle.ug_print.specs.RuleTexts.{rules_limit, rules_text_of}
+use Rattle.ug_print.specs.RuleTexts.{rules_text_of}
 use Rattle.ug_rule.specs.Files.{file_read}
 use Rattle.ug_types.specs.declared.text_fault.TextFault.{TextFault}
 use Rattle.ug_command_io.specs.Fold.{LineRefusal, BadLine, InputTooLong}
-use Rattle.ug_store.specs.DiskCalls.{Load, file_limit}
+use Rattle.ug_store.specs.DiskCalls.{Load}
 use Rattle.ug_store.specs.Scripted.{DiskWorld, past_within, world_at_first}
 use Rattle.ug_script.specs.declared.step.SetupLine.{SetupLine}
 use Rattle.ug_script.specs.declared.step.AccessLine.{AccessLine}
@@ -210,7 +211,7 @@ first_started s = started_at 1 (beside_of s) (policy_of s)
 -- no more than 65,536 with so many before them, and a canonical text for which a rule file has room
 abbrev pub rules_taken : ℕ → List types.Rule → Result (List types.Rule) LineRefusal
 rules_taken before rules =
-    if nat_le (before + length rules) 65536 && nat_le (length (rules_text_of rules)) rules_limit
+    if nat_le (before + length rules) 65536 && nat_le (length (rules_text_of rules)) text_limit
     then Ok rules else Err InputTooLong
 
 abbrev pub rules_if_read : ℕ → Result (List types.Rule) TextFault
@@ -221,7 +222,7 @@ rules_if_read before (Err bad) = Err BadLine
 -- those of the text of a rule file behind so many of the folder, or why no daemon starts with it
 abbrev pub rules_from : ℕ → List ℕ → Result (List types.Rule) LineRefusal
 rules_from before text =
-    if nat_le (length text) file_limit then rules_if_read before (file_read text)
+    if nat_le (length text) text_limit then rules_if_read before (file_read text)
     else Err InputTooLong
 
 -- a daemon that starts over that disk, whose first event has that number

@@ -19,12 +19,12 @@ use jiff::tz::{Offset, TimeZone};
 use rand_chacha::ChaCha20Rng;
 use rand_core::{Rng, SeedableRng};
 use std::alloc::Global;
-use ug_conf::{Settings, TEXT_LIMIT, default_settings};
+use ug_conf::{Settings, default_settings};
 use ug_core::{Daemon, StartFault};
 use ug_policy::MAX_RULES;
 use ug_print::RulesTextFault;
 use ug_store::MemDisk;
-use ug_types::NoMemory;
+use ug_types::{NoMemory, TEXT_LIMIT};
 
 /// Why no daemon starts over a disk.
 #[derive(Clone, Copy, Debug, PartialEq, Eq)]

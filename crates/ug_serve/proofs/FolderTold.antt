@@ -4,7 +4,8 @@ use Rattle.std.specs.List.{filter}
 use Rattle.std.specs.List.Sorted.{IsPermutation}
 use Rattle.std.proofs.lemmas.List.Sorted.{IsPermutation-refl, IsPermutation-map, sum_by-IsPermutation}
 use Rattle.std.proofs.lemmas.List.Sums.{sum_by-append, sum_by_push}
-use Rattle.ug_conf.specs.Files.{FileStep, Read_at, Listed_at, Tree, text_at, names_at, conf_limit, SaysFiles, SaysText, SaysNames}
+use Rattle.ug_types.specs.Limits.{text_limit}
+use Rattle.ug_conf.specs.Files.{FileStep, Read_at, Listed_at, Tree, text_at, names_at, SaysFiles, SaysText, SaysNames}
 use Rattle.ug_conf.specs.FolderFiles.{folder_length, is_rule_file_name}
 use Rattle.ug_conf.specs.declared.files.FileRead.{FileRead}
 use Rattle.ug_conf.specs.declared.files.FileRead.TheVariants as file
@@ -20,23 +21,23 @@ use Rattle.ug_serve.specs.declared.not_started.NotStarted.TheVariants as why
 -- the text that is told, or that it is too long
 abbrev TextTold : List ℕ → Result (List ℕ) NotStarted → Type 0
 TextTold text (Ok given) = given ≡ text
-TextTold text (Err (why.Refused what bad)) = conf_limit < length text
+TextTold text (Err (why.Refused what bad)) = text_limit < length text
 TextTold text (Err why.FilesFailed) = Unit {0}
 TextTold text (Err why.DiskFailed) = Unit {0}
 TextTold text (Err why.Memory) = Unit {0}
 
 -- just these files, or they are too long together
 abbrev pub FilesTold : List FolderFile → Result (List FolderFile) NotStarted → Type 0
-FilesTold whole (Ok files) = (files ≡ whole) × (folder_length whole ≤ conf_limit)
-FilesTold whole (Err (why.Refused what bad)) = conf_limit < folder_length whole
+FilesTold whole (Ok files) = (files ≡ whole) × (folder_length whole ≤ text_limit)
+FilesTold whole (Err (why.Refused what bad)) = text_limit < folder_length whole
 FilesTold whole (Err why.FilesFailed) = Unit {0}
 FilesTold whole (Err why.DiskFailed) = Unit {0}
 FilesTold whole (Err why.Memory) = Unit {0}
 
 -- the same in some order
 abbrev pub RulesTold : List FolderFile → Result (List FolderFile) NotStarted → Type 0
-RulesTold whole (Ok files) = IsPermutation whole files × (folder_length whole ≤ conf_limit)
-RulesTold whole (Err (why.Refused what bad)) = conf_limit < folder_length whole
+RulesTold whole (Ok files) = IsPermutation whole files × (folder_length whole ≤ text_limit)
+RulesTold whole (Err (why.Refused what bad)) = text_limit < folder_length whole
 RulesTold whole (Err why.FilesFailed) = Unit {0}
 RulesTold whole (Err why.DiskFailed) = Unit {0}
 RulesTold whole (Err why.Memory) = Unit {0}
@@ -44,7 +45,7 @@ RulesTold whole (Err why.Memory) = Unit {0}
 given_told : (text : Option (List ℕ)) (answer : FileRead) → SaysText text answer → TextTold (or_empty text) (text_given answer)
 given_told text (file.Bytes bytes) says = sym (ap or_empty says.0)
 given_told text file.Absent says = sym (ap or_empty says)
-given_told text file.TooLong says = subst (λ (t : List ℕ). conf_limit < length t) (sym (ap or_empty says.1)) says.2
+given_told text file.TooLong says = subst (λ (t : List ℕ). text_limit < length t) (sym (ap or_empty says.1)) says.2
 given_told text file.Failed says = tt
 given_told text file.Memory says = tt
 
@@ -66,10 +67,10 @@ added_told files name told (Err cause) r t h = subst (λ (x : Result (List Folde
     by why.DiskFailed k = tt
     by why.Memory k = tt
 
-short_by : (files : List FolderFile) (name : List ℕ) (text : Result (List ℕ) NotStarted) (more : List FolderFile) → AddsText files name text (Ok more) → folder_length more ≤ conf_limit
+short_by : (files : List FolderFile) (name : List ℕ) (text : Result (List ℕ) NotStarted) (more : List FolderFile) → AddsText files name text (Ok more) → folder_length more ≤ text_limit
 short_by files name (Ok text) more h =
     let e : folder_length (files ++ folder_file name text ∷ []) ≡ folder_length files + length text = sum_by_push (λ f. length f.text) files (folder_file name text) in
-    subst (λ (fs : List FolderFile). folder_length fs ≤ conf_limit) (sym h.1) (omega (arith, e, h.0))
+    subst (λ (fs : List FolderFile). folder_length fs ≤ text_limit) (sym h.1) (omega (arith, e, h.0))
 short_by files name (Err cause) more h = let none : ⊥ = cc in absurd none
 
 -- what is too long stays so
@@ -82,10 +83,10 @@ longer files more why.Memory h = tt
 in_some_order : (whole sorted : List FolderFile) (r : Result (List FolderFile) NotStarted) → IsPermutation whole sorted → FilesTold sorted r → RulesTold whole r
 in_some_order whole sorted (Ok files) p h =
     let e : folder_length sorted ≡ folder_length whole = sum_by-IsPermutation (λ f. length f.text) whole sorted p in
-    (subst (λ (fs : List FolderFile). IsPermutation whole fs) (sym h.0) p, subst (λ (n : ℕ). n ≤ conf_limit) e h.1)
+    (subst (λ (fs : List FolderFile). IsPermutation whole fs) (sym h.0) p, subst (λ (n : ℕ). n ≤ text_limit) e h.1)
 in_some_order whole sorted (Err (why.Refused what bad)) p h =
     let e : folder_length sorted ≡ folder_length whole = sum_by-IsPermutation (λ f. length f.text) whole sorted p in
-    subst (λ (n : ℕ). conf_limit < n) e h
+    subst (λ (n : ℕ). text_limit < n) e h
 in_some_order whole sorted (Err why.FilesFailed) p h = tt
 in_some_order whole sorted (Err why.DiskFailed) p h = tt
 in_some_order whole sorted (Err why.Memory) p h = tt
@@ -102,10 +103,10 @@ module _ {F : Type 0} (reads : F → FileStep → F → Type 0) (files_told : F 
       let back = files_tell s (Read_at (path_in folder name) answer) t tree given is in
       (back.0, given_told (text_at tree (path_in folder name)) answer back.1)
 
-  all_told : (folder : List ℕ) (names : List (List ℕ)) (files : List FolderFile) (s : F) (r : Result (List FolderFile) NotStarted) (t : F) (tree : Tree) → folder_length files ≤ conf_limit → ReadsFiles reads folder names files s r t → files_told t ≡ Some tree
+  all_told : (folder : List ℕ) (names : List (List ℕ)) (files : List FolderFile) (s : F) (r : Result (List FolderFile) NotStarted) (t : F) (tree : Tree) → folder_length files ≤ text_limit → ReadsFiles reads folder names files s r t → files_told t ≡ Some tree
       → (files_told s ≡ Some tree) × FilesTold (files ++ map (file_in tree folder) names) r
   all_told folder [] files s r t tree fits h is =
-      (ap files_told (sym h.1) ∙ is, subst (λ (x : Result (List FolderFile) NotStarted). FilesTold (files ++ []) x) (sym h.0) (sym (append-nil files), subst (λ (fs : List FolderFile). folder_length fs ≤ conf_limit) (sym (append-nil files)) fits))
+      (ap files_told (sym h.1) ∙ is, subst (λ (x : Result (List FolderFile) NotStarted). FilesTold (files ++ []) x) (sym h.0) (sym (append-nil files), subst (λ (fs : List FolderFile). folder_length fs ≤ text_limit) (sym (append-nil files)) fits))
   all_told folder (name ∷ names) files s r t tree fits h is = behind h.0 h.1 (λ more u short later. all_told folder names more u r t tree short later is) h.2 h.3
     where
       one : FolderFile
@@ -122,9 +123,9 @@ module _ {F : Type 0} (reads : F → FileStep → F → Type 0) (files_told : F 
           let text = text_told folder name s k.text u tree k.read at in
           (text.0, added_told files name (or_empty (text_at tree (path_in folder name))) k.text x text.1 k.added)
 
-      behind : (x : Result (List FolderFile) NotStarted) (u : F) → ((more : List FolderFile) (v : F) → folder_length more ≤ conf_limit → ReadsFiles reads folder names more v r t → (files_told v ≡ Some tree) × FilesTold (more ++ rest) r) → ReadsRuleFile reads folder name files s x u → ReadsBehind (λ more v. ReadsFiles reads folder names more v r t) x r u t → (files_told s ≡ Some tree) × FilesTold (files ++ one ∷ rest) r
+      behind : (x : Result (List FolderFile) NotStarted) (u : F) → ((more : List FolderFile) (v : F) → folder_length more ≤ text_limit → ReadsFiles reads folder names more v r t → (files_told v ≡ Some tree) × FilesTold (more ++ rest) r) → ReadsRuleFile reads folder name files s x u → ReadsBehind (λ more v. ReadsFiles reads folder names more v r t) x r u t → (files_told s ≡ Some tree) × FilesTold (files ++ one ∷ rest) r
       behind (Ok more) u next k later =
-          let short : folder_length more ≤ conf_limit = short_by files name k.text more k.added in
+          let short : folder_length more ≤ text_limit = short_by files name k.text more k.added in
           let after = next more u short later in
           let now = first u (Ok more) k after.0 in
           (now.0, subst (λ (fs : List FolderFile). FilesTold fs r) (ap (λ (fs : List FolderFile). fs ++ rest) now.1.0 ∙ joined) after.1)

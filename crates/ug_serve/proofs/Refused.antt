@@ -6,6 +6,7 @@ use Rattle.std.specs.List.Sorted.{IsPermutation}
 use Rattle.std.proofs.lemmas.List.Elements.{All-from_recursion, recursion_from_All}
 use Rattle.std.proofs.lemmas.List.Sorted.{All-permutation, IsPermutation-sym, sum_by-IsPermutation}
 use Rattle.std.proofs.lemmas.List.Sums.{sum_by-cons}
+use Rattle.ug_types.specs.Limits.{text_limit}
 use Rattle.ug_types.specs.Principals.{Named, principal_of}
 use Rattle.ug_acl.specs.Acls.{Addition}
 use Rattle.ug_acl.specs.Pairs.{Pair}
@@ -16,7 +17,7 @@ use Rattle.ug_links.specs.declared.waiter.Waiter
 use Rattle.ug_links.specs.declared.clock.Clock
 use Rattle.ug_rule.specs.Files.{file_read}
 use Rattle.ug_print.specs.RuleTexts.{rules_text_of}
-use Rattle.ug_conf.specs.Files.{FileStep, Read_at, Listed_at, Tree, text_at, names_at, conf_limit, SaysFiles, SaysText, SaysNames}
+use Rattle.ug_conf.specs.Files.{FileStep, Read_at, Listed_at, Tree, text_at, names_at, SaysFiles, SaysText, SaysNames}
 use Rattle.ug_conf.specs.FolderFiles.{folder_length}
 use Rattle.ug_conf.specs.Texts.{conf_read}
 use Rattle.ug_conf.specs.declared.folder_file.FolderFile.{FolderFile}
@@ -25,7 +26,6 @@ use Rattle.ug_conf.specs.declared.files.FileRead.TheVariants as file
 use Rattle.ug_conf.specs.declared.files.FolderRead.{FolderRead}
 use Rattle.ug_conf.specs.declared.files.FolderRead.TheVariants as found
 use Rattle.ug_conf.specs.declared.settings.Settings.{Settings}
-use Rattle.ug_store.specs.DiskCalls.{file_limit}
 use Rattle.ug_store.specs.Disk.{Disk}
 use Rattle.ug_store.specs.Store.{RecoversFrom}
 use Rattle.ug_store.specs.declared.store.RecoverFault.{RecoverFault}
@@ -99,11 +99,11 @@ within n limit le = grind (arith, le)
 beyond : (n limit : ℕ) → limit < n → nat_le n limit ≡ false
 beyond n limit lt = grind (arith, lt)
 
-fits_text : (text : List ℕ) → length text ≤ conf_limit → settings_of_text (Some text) ≡ settings_read (conf_read text)
-fits_text text le = ap (λ (b : Bool). if b then settings_read (conf_read text) else Err (refused_whole part.Settings)) (within (length text) conf_limit le)
+fits_text : (text : List ℕ) → length text ≤ text_limit → settings_of_text (Some text) ≡ settings_read (conf_read text)
+fits_text text le = ap (λ (b : Bool). if b then settings_read (conf_read text) else Err (refused_whole part.Settings)) (within (length text) text_limit le)
 
-too_long_text : (text : List ℕ) → conf_limit < length text → settings_of_text (Some text) ≡ Err (refused_whole part.Settings)
-too_long_text text lt = ap (λ (b : Bool). if b then settings_read (conf_read text) else Err (refused_whole part.Settings)) (beyond (length text) conf_limit lt)
+too_long_text : (text : List ℕ) → text_limit < length text → settings_of_text (Some text) ≡ Err (refused_whole part.Settings)
+too_long_text text lt = ap (λ (b : Bool). if b then settings_read (conf_read text) else Err (refused_whole part.Settings)) (beyond (length text) text_limit lt)
 
 read_told : (text : Option (List ℕ)) (answer : FileRead) (r : Result Settings NotStarted) → SaysText text answer → SettingsIn answer r → Read (settings_of_text text) r
 read_told text (file.Bytes bytes) r says h =
@@ -130,11 +130,11 @@ grants_of_text text (Err why.FilesFailed) h = tt
 grants_of_text text (Err why.DiskFailed) h = tt
 grants_of_text text (Err why.Memory) h = tt
 
-fits_file : (text : List ℕ) → length text ≤ conf_limit → refusal_of_file (Some text) ≡ refusal_of_grants (access_read text)
-fits_file text le = ap (λ (b : Bool). if b then refusal_of_grants (access_read text) else Some (refused_whole part.Access)) (within (length text) conf_limit le)
+fits_file : (text : List ℕ) → length text ≤ text_limit → refusal_of_file (Some text) ≡ refusal_of_grants (access_read text)
+fits_file text le = ap (λ (b : Bool). if b then refusal_of_grants (access_read text) else Some (refused_whole part.Access)) (within (length text) text_limit le)
 
-too_long_file : (text : List ℕ) → conf_limit < length text → refusal_of_file (Some text) ≡ Some (refused_whole part.Access)
-too_long_file text lt = ap (λ (b : Bool). if b then refusal_of_grants (access_read text) else Some (refused_whole part.Access)) (beyond (length text) conf_limit lt)
+too_long_file : (text : List ℕ) → text_limit < length text → refusal_of_file (Some text) ≡ Some (refused_whole part.Access)
+too_long_file text lt = ap (λ (b : Bool). if b then refusal_of_grants (access_read text) else Some (refused_whole part.Access)) (beyond (length text) text_limit lt)
 
 file_told : (text : Option (List ℕ)) (answer : FileRead) (r : Result (List Pair) NotStarted) → SaysText text answer → GrantsIn answer r → Told (refusal_of_file text) r
 file_told text (file.Bytes bytes) r says h =
@@ -262,34 +262,34 @@ some_unless_none : (texts : Option NotStarted) → (texts ≡ None → ⊥) → 
 some_unless_none None h = h refl
 some_unless_none (Some cause) h = tt
 
-short_folder : (files : List FolderFile) → folder_length files ≤ conf_limit → refusal_of_rule_files files ≡ refusal_of_each files
-short_folder files le = ap (λ (b : Bool). if b then refusal_of_each files else Some (refused_whole part.Folder)) (within (folder_length files) conf_limit le)
+short_folder : (files : List FolderFile) → folder_length files ≤ text_limit → refusal_of_rule_files files ≡ refusal_of_each files
+short_folder files le = ap (λ (b : Bool). if b then refusal_of_each files else Some (refused_whole part.Folder)) (within (folder_length files) text_limit le)
 
-long_folder : (files : List FolderFile) → conf_limit < folder_length files → refusal_of_rule_files files ≡ Some (refused_whole part.Folder)
-long_folder files lt = ap (λ (b : Bool). if b then refusal_of_each files else Some (refused_whole part.Folder)) (beyond (folder_length files) conf_limit lt)
+long_folder : (files : List FolderFile) → text_limit < folder_length files → refusal_of_rule_files files ≡ Some (refused_whole part.Folder)
+long_folder files lt = ap (λ (b : Bool). if b then refusal_of_each files else Some (refused_whole part.Folder)) (beyond (folder_length files) text_limit lt)
 
-folder_fits : (files : List FolderFile) (r : Result (List Rule) StartFault) → folder_length files ≤ file_limit → folder_rules files ≡ r → rules_of_folder (folder_read 0 files) ≡ r
-folder_fits files r le e = sym (ap (λ (b : Bool). if b then rules_of_folder (folder_read 0 files) else Err fault.FolderTooLong) (within (folder_length files) file_limit le)) ∙ e
+folder_fits : (files : List FolderFile) (r : Result (List Rule) StartFault) → folder_length files ≤ text_limit → folder_rules files ≡ r → rules_of_folder (folder_read 0 files) ≡ r
+folder_fits files r le e = sym (ap (λ (b : Bool). if b then rules_of_folder (folder_read 0 files) else Err fault.FolderTooLong) (within (folder_length files) text_limit le)) ∙ e
 
 -- ---- the rules behind so many
 
-read_rules : (before : ℕ) (text : List ℕ) → length text ≤ file_limit → refusal_of_rules_text before text ≡ refusal_of_read before (file_read text)
-read_rules before text le = ap (λ (b : Bool). if b then refusal_of_read before (file_read text) else Some (refused_whole part.Rules)) (within (length text) file_limit le)
+read_rules : (before : ℕ) (text : List ℕ) → length text ≤ text_limit → refusal_of_rules_text before text ≡ refusal_of_read before (file_read text)
+read_rules before text le = ap (λ (b : Bool). if b then refusal_of_read before (file_read text) else Some (refused_whole part.Rules)) (within (length text) text_limit le)
 
 few_rules : (before : ℕ) (rules : List Rule) → before + length rules ≤ most_rules
-    → refusal_of_read before (Ok rules) ≡ (if nat_le (length (rules_text_of rules)) file_limit then None else Some (refused_whole part.Rules))
+    → refusal_of_read before (Ok rules) ≡ (if nat_le (length (rules_text_of rules)) text_limit then None else Some (refused_whole part.Rules))
 few_rules before rules few =
-    ap (λ (b : Bool). if b then (if nat_le (length (rules_text_of rules)) file_limit then None else Some (refused_whole part.Rules)) else Some (refused_whole part.Rules)) (within (before + length rules) most_rules few)
+    ap (λ (b : Bool). if b then (if nat_le (length (rules_text_of rules)) text_limit then None else Some (refused_whole part.Rules)) else Some (refused_whole part.Rules)) (within (before + length rules) most_rules few)
 
-few_fit : (before : ℕ) (rules : List Rule) → before + length rules ≤ most_rules → length (rules_text_of rules) ≤ file_limit → refusal_of_read before (Ok rules) ≡ None
-few_fit before rules few fits = few_rules before rules few ∙ ap (λ (b : Bool). if b then None else Some (refused_whole part.Rules)) (within (length (rules_text_of rules)) file_limit fits)
+few_fit : (before : ℕ) (rules : List Rule) → before + length rules ≤ most_rules → length (rules_text_of rules) ≤ text_limit → refusal_of_read before (Ok rules) ≡ None
+few_fit before rules few fits = few_rules before rules few ∙ ap (λ (b : Bool). if b then None else Some (refused_whole part.Rules)) (within (length (rules_text_of rules)) text_limit fits)
 
-few_long : (before : ℕ) (rules : List Rule) → before + length rules ≤ most_rules → file_limit < length (rules_text_of rules) → refusal_of_read before (Ok rules) ≡ Some (refused_whole part.Rules)
-few_long before rules few long = few_rules before rules few ∙ ap (λ (b : Bool). if b then None else Some (refused_whole part.Rules)) (beyond (length (rules_text_of rules)) file_limit long)
+few_long : (before : ℕ) (rules : List Rule) → before + length rules ≤ most_rules → text_limit < length (rules_text_of rules) → refusal_of_read before (Ok rules) ≡ Some (refused_whole part.Rules)
+few_long before rules few long = few_rules before rules few ∙ ap (λ (b : Bool). if b then None else Some (refused_whole part.Rules)) (beyond (length (rules_text_of rules)) text_limit long)
 
 many : (before : ℕ) (rules : List Rule) → most_rules < before + length rules → refusal_of_read before (Ok rules) ≡ Some (refused_whole part.Rules)
 many before rules more =
-    ap (λ (b : Bool). if b then (if nat_le (length (rules_text_of rules)) file_limit then None else Some (refused_whole part.Rules)) else Some (refused_whole part.Rules)) (beyond (before + length rules) most_rules more)
+    ap (λ (b : Bool). if b then (if nat_le (length (rules_text_of rules)) text_limit then None else Some (refused_whole part.Rules)) else Some (refused_whole part.Rules)) (beyond (before + length rules) most_rules more)
 
 -- names are no matter to whether there is a refusal
 abbrev Loaded : {A : Type 0} → Option NotStarted → Result A StartFault → Type 0
@@ -301,7 +301,7 @@ module _ (folder : List Rule) where
   before = length folder
 
   -- the rules of a text that was read
-  rules_told : (text : List ℕ) (r : Result Rules StartFault) → length text ≤ file_limit → StartsWith folder text r → Loaded (refusal_of_rules_text before text) r
+  rules_told : (text : List ℕ) (r : Result Rules StartFault) → length text ≤ text_limit → StartsWith folder text r → Loaded (refusal_of_rules_text before text) r
   rules_told text (Ok list) le h = read_rules before text le ∙ (ap (refusal_of_read before) h.reads ∙ few_fit before h.rules h.few h.fits)
   rules_told text (Err (fault.BadRules bad)) le h = λ names. some (refusal_of_rules_text before text) (why.Refused part.Rules bad) (read_rules before text le ∙ ap (refusal_of_read before) h)
   rules_told text (Err fault.TooMany) le h = λ names. some (refusal_of_rules_text before text) (refused_whole part.Rules) (read_rules before text le ∙ (ap (refusal_of_read before) h.reads ∙ many before h.rules h.many))
@@ -311,11 +311,11 @@ module _ (folder : List Rule) where
   rules_told text (Err (fault.BadFolder file bad)) le h = absurd h
   rules_told text (Err fault.FolderTooLong) le h = absurd h
 
-  text_fits : (text whole : List ℕ) → text ≡ whole → length whole ≤ file_limit → length text ≤ file_limit
-  text_fits text whole e le = subst (λ (x : List ℕ). length x ≤ file_limit) (sym e) le
+  text_fits : (text whole : List ℕ) → text ≡ whole → length whole ≤ text_limit → length text ≤ text_limit
+  text_fits text whole e le = subst (λ (x : List ℕ). length x ≤ text_limit) (sym e) le
 
-  long_file : (text : List ℕ) → file_limit < length text → refusal_of_rules_text before text ≡ Some (refused_whole part.Rules)
-  long_file text lt = ap (λ (b : Bool). if b then refusal_of_read before (file_read text) else Some (refused_whole part.Rules)) (beyond (length text) file_limit lt)
+  long_file : (text : List ℕ) → text_limit < length text → refusal_of_rules_text before text ≡ Some (refused_whole part.Rules)
+  long_file text lt = ap (λ (b : Bool). if b then refusal_of_read before (file_read text) else Some (refused_whole part.Rules)) (beyond (length text) text_limit lt)
 
   after_told : (whole : List ℕ) (read : Result (List ℕ) RecoverFault) (loaded : Result (Bool × Rules) StartFault) → RecoversFrom read whole → StartsAfter folder read loaded → Loaded (refusal_of_rules_text before whole) loaded
   after_told whole (Ok text) (Ok started) r h =
@@ -345,7 +345,7 @@ principals_told texts ps (Ok d) h = h
 principals_told texts ps (Err cause) h = h
 
 -- the folder that isn't taken
-folder_told : (whole files : List FolderFile) (e : StartFault) → IsPermutation whole files → folder_length whole ≤ conf_limit → (Err e ≡ folder_rules files) ⊎ (◌≡◌ {A = Result (List Rule) StartFault} (Err e) (Err fault.Memory)) → Loaded {A = DaemonState} (refusal_of_rule_files whole) (Err e)
+folder_told : (whole files : List FolderFile) (e : StartFault) → IsPermutation whole files → folder_length whole ≤ text_limit → (Err e ≡ folder_rules files) ⊎ (◌≡◌ {A = Result (List Rule) StartFault} (Err e) (Err fault.Memory)) → Loaded {A = DaemonState} (refusal_of_rule_files whole) (Err e)
 folder_told whole files e same fits (inr is) =
     let memory : e ≡ fault.Memory = cc in
     subst (λ (x : StartFault). Loaded {A = DaemonState} (refusal_of_rule_files whole) (Err x)) (sym memory) (λ names. tt)
@@ -354,8 +354,8 @@ folder_told whole files e same fits (inl is) = by (folder_read 0 files) refl (fo
     long : folder_length files ≡ folder_length whole
     long = sum_by-IsPermutation (λ f. length f.text) whole files same
 
-    short : folder_length files ≤ file_limit
-    short = subst (λ (n : ℕ). n ≤ file_limit) (sym long) fits
+    short : folder_length files ≤ text_limit
+    short = subst (λ (n : ℕ). n ≤ text_limit) (sym long) fits
 
     by : (read : Result (List Rule) BadFile) → folder_read 0 files ≡ read → rules_of_folder read ≡ Err e → Loaded {A = DaemonState} (refusal_of_rule_files whole) (Err e)
     by (Ok rules) given k = let no : ⊥ = cc in absurd no
@@ -365,14 +365,14 @@ folder_told whole files e same fits (inl is) = by (folder_read 0 files) refl (fo
         subst (λ (x : StartFault). Loaded {A = DaemonState} (refusal_of_rule_files whole) (Err x)) is_bad (λ names. found)
 
 -- the rules of one that is
-folder_taken : (whole files : List FolderFile) (rules : List Rule) → IsPermutation whole files → folder_length whole ≤ conf_limit → Ok rules ≡ folder_rules files → (refusal_of_rule_files whole ≡ None) × (rules_of_files whole ≡ length rules)
+folder_taken : (whole files : List FolderFile) (rules : List Rule) → IsPermutation whole files → folder_length whole ≤ text_limit → Ok rules ≡ folder_rules files → (refusal_of_rule_files whole ≡ None) × (rules_of_files whole ≡ length rules)
 folder_taken whole files rules same fits is = by (folder_read 0 files) refl (folder_fits files (Ok rules) short (sym is))
   where
     long : folder_length files ≡ folder_length whole
     long = sum_by-IsPermutation (λ f. length f.text) whole files same
 
-    short : folder_length files ≤ file_limit
-    short = subst (λ (n : ℕ). n ≤ file_limit) (sym long) fits
+    short : folder_length files ≤ text_limit
+    short = subst (λ (n : ℕ). n ≤ text_limit) (sym long) fits
 
     count : rules_of_files files ≡ rules_of_files whole
     count = sum_by-IsPermutation (λ f. length (rules_of_read (file_read f.text))) whole files same
@@ -474,7 +474,7 @@ module _ {F Y D N W C : Type 0} (reads : F → FileStep → F → Type 0) (sysfs
   folder_refuses whole why.Memory h = tt
 
   -- a daemon that starts from these files and the disk
-  on_folder : (outset : Outset) (whole files : List FolderFile) (a : D) (folder : Result (List Rule) StartFault) (result : Result DaemonState StartFault) (b : D) (n : Disk) → IsPermutation whole files → folder_length whole ≤ conf_limit
+  on_folder : (outset : Outset) (whole files : List FolderFile) (a : D) (folder : Result (List Rule) StartFault) (result : Result DaemonState StartFault) (b : D) (n : Disk) → IsPermutation whole files → folder_length whole ≤ text_limit
       → (folder ≡ folder_rules files) ⊎ (folder ≡ Err fault.Memory) → StartsOnFolder disk.keeps disk.told disk.faults outset folder a result b → disk_told b ≡ Some n
       → (m : Disk) × (disk_told a ≡ Some m) × Told (refusal_of_rules whole m.text) (with_cause files result)
   on_folder outset whole files a (Err e) result b n same fits taken h on =
@@ -494,7 +494,7 @@ module _ {F Y D N W C : Type 0} (reads : F → FileStep → F → Type 0) (sysfs
         subst (λ (x : Option NotStarted). Told (first_refusal x (refusal_of_rules_text (rules_of_files whole) back.0.text)) (with_cause files result)) (sym taken.0) (cause_told (refusal_of_rules_text (rules_of_files whole) back.0.text) files result counted),
       )
 
-  started_told : (outset : Outset) (whole files : List FolderFile) (a : D) (result : Result DaemonState NotStarted) (b : D) (n : Disk) → IsPermutation whole files → folder_length whole ≤ conf_limit → StartsDaemon disk outset files a result b → disk_told b ≡ Some n
+  started_told : (outset : Outset) (whole files : List FolderFile) (a : D) (result : Result DaemonState NotStarted) (b : D) (n : Disk) → IsPermutation whole files → folder_length whole ≤ text_limit → StartsDaemon disk outset files a result b → disk_told b ≡ Some n
       → (m : Disk) × (disk_told a ≡ Some m) × Told (refusal_of_rules whole m.text) result
   started_told outset whole files a _ _ n same fits Without_names on = (n, on, tt)
   started_told outset whole files a _ _ n same fits (Started_from result b starts) on = on_folder outset whole files a starts.folder result b n same fits starts.taken starts.starts on

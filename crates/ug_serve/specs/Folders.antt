@@ -1,7 +1,8 @@
 -- The rules that stand before those of the rule file: the files of a folder.
 use Rattle.std.specs.Prelude.{◌≡◌, ℕ, ◌+◌, ◌<◌, ◌≤◌, List, [], ◌∷◌, ◌++◌, length, Result, Ok, Err}
 use Rattle.std.specs.List.{filter}
-use Rattle.ug_conf.specs.Files.{FileStep, Read_at, Listed_at, conf_limit}
+use Rattle.ug_types.specs.Limits.{text_limit}
+use Rattle.ug_conf.specs.Files.{FileStep, Read_at, Listed_at}
 use Rattle.ug_conf.specs.FolderFiles.{folder_length, is_rule_file_name}
 use Rattle.ug_conf.specs.declared.files.FileRead.{FileRead}
 use Rattle.ug_conf.specs.declared.files.FileRead.TheVariants as file
@@ -30,9 +31,9 @@ folder_file name text = record { name = name; text = text }
 abbrev pub AddsFile : List FolderFile → List ℕ → List ℕ → Result (List FolderFile) NotStarted
     → Type 0
 AddsFile files name text (Ok more) =
-    (folder_length files + length text ≤ conf_limit) × (more ≡ files ++ folder_file name text ∷ [])
+    (folder_length files + length text ≤ text_limit) × (more ≡ files ++ folder_file name text ∷ [])
 AddsFile files name text (Err (why.Refused what bad)) =
-    (conf_limit < folder_length files + length text)
+    (text_limit < folder_length files + length text)
     × (why.Refused what bad ≡ refused_whole part.Folder)
 AddsFile files name text (Err why.FilesFailed) = ⊥
 AddsFile files name text (Err why.DiskFailed) = ⊥

@@ -2,6 +2,7 @@
 use Rattle.std.specs.Prelude.{◌≡◌, ℕ, ◌+◌, nat_le, List, [], ◌∷◌, length, map, Option, Some, None, Result, Ok, Err, if◌then◌else◌}
 use Rattle.std.specs.List.{filter, sum_by}
 use Rattle.ug_types.specs.Elements.{Has}
+use Rattle.ug_types.specs.Limits.{text_limit}
 use Rattle.ug_types.specs.Principals.{Named, principal_of}
 use Rattle.ug_types.specs.declared.rule.Rule.{Rule}
 use Rattle.ug_types.specs.declared.text_fault.TextFault.{TextFault}
@@ -10,13 +11,12 @@ use Rattle.ug_acl.specs.Texts.{access_read}
 use Rattle.ug_rule.specs.Files.{file_read}
 use Rattle.ug_print.specs.RuleTexts.{rules_text_of}
 use Rattle.ug_policy.specs.Rules.{most_rules}
-use Rattle.ug_conf.specs.Files.{Tree, text_at, names_at, conf_limit}
+use Rattle.ug_conf.specs.Files.{Tree, text_at, names_at}
 use Rattle.ug_conf.specs.FolderFiles.{folder_length, is_rule_file_name}
 use Rattle.ug_conf.specs.Texts.{conf_read}
 use Rattle.ug_conf.specs.declared.folder_file.FolderFile.{FolderFile}
 use Rattle.ug_conf.specs.declared.settings.Settings.{Settings}
 use Rattle.ug_store.specs.Disk.{Disk}
-use Rattle.ug_store.specs.DiskCalls.{file_limit}
 use Rattle.ug_audit.specs.declared.start_entry.ConfigPart.TheVariants as part
 use Rattle.ug_serve.specs.Access.{path_in, refused_name}
 use Rattle.ug_serve.specs.Causes.{part_of_file, refused_whole}
@@ -32,7 +32,7 @@ settings_read (Err bad) = Err (why.Refused part.Settings bad)
 abbrev pub settings_of_text : Option (List ℕ) → Result Settings NotStarted
 settings_of_text None = Err (refused_whole part.Settings)
 settings_of_text (Some text) =
-    if nat_le (length text) conf_limit then settings_read (conf_read text)
+    if nat_le (length text) text_limit then settings_read (conf_read text)
     else Err (refused_whole part.Settings)
 
 -- the first of two refusals
@@ -49,7 +49,7 @@ refusal_of_grants (Err bad) = Some (why.Refused part.Access bad)
 abbrev pub refusal_of_file : Option (List ℕ) → Option NotStarted
 refusal_of_file None = refusal_of_grants (access_read [])
 refusal_of_file (Some text) =
-    if nat_le (length text) conf_limit then refusal_of_grants (access_read text)
+    if nat_le (length text) text_limit then refusal_of_grants (access_read text)
     else Some (refused_whole part.Access)
 
 -- an access file whose name is no user's or group's isn't taken
@@ -105,7 +105,7 @@ refusal_of_each (file ∷ files) =
 -- files that are too long together aren't taken
 abbrev pub refusal_of_rule_files : List FolderFile → Option NotStarted
 refusal_of_rule_files files =
-    if nat_le (folder_length files) conf_limit then refusal_of_each files
+    if nat_le (folder_length files) text_limit then refusal_of_each files
     else Some (refused_whole part.Folder)
 
 -- ---- the rules
@@ -124,13 +124,13 @@ refusal_of_read before (Err bad) = Some (why.Refused part.Rules bad)
 refusal_of_read before (Ok rules) =
     if nat_le (before + length rules) most_rules
     then
-    (if nat_le (length (rules_text_of rules)) file_limit then None
+    (if nat_le (length (rules_text_of rules)) text_limit then None
     else Some (refused_whole part.Rules))
     else Some (refused_whole part.Rules)
 
 abbrev pub refusal_of_rules_text : ℕ → List ℕ → Option NotStarted
 refusal_of_rules_text before text =
-    if nat_le (length text) file_limit then refusal_of_read before (file_read text)
+    if nat_le (length text) text_limit then refusal_of_read before (file_read text)
     else Some (refused_whole part.Rules)
 
 abbrev pub refusal_of_rules : List FolderFile → List ℕ → Option NotStarted

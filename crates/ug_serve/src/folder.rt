@@ -2,7 +2,7 @@
 ghost use Rattle.std.specs.Prelude.{◌≡◌, ◌≤◌, ◌+◌, [], length, IfOk, OnOk, Err};
 ghost use Rattle.std.specs.List.{filter};
 ghost use Rattle.ug_types.specs.Ends.{IsCounted, Rose};
-ghost use Rattle.ug_conf.specs.Files.{conf_limit};
+ghost use Rattle.ug_types.specs.Limits.{text_limit};
 ghost use Rattle.ug_conf.specs.FolderFiles.{folder_length, is_rule_file_name};
 ghost use Rattle.ug_core.specs.Starting.{AreAscending};
 ghost use Rattle.ug_store.specs.Store.{seen_by};
@@ -14,8 +14,8 @@ use crate::access::{in_byte_order, path_in};
 use crate::not_started::NotStarted;
 use std::alloc::Global;
 use ug_audit::ConfigPart;
-use ug_conf::{ConfFiles, FileRead, FolderFile, FolderRead, TEXT_LIMIT, is_rule_file_name};
-use ug_types::{List, Text};
+use ug_conf::{ConfFiles, FileRead, FolderFile, FolderRead, is_rule_file_name};
+use ug_types::{List, TEXT_LIMIT, Text};
 
 /// The files that were read, and how many bytes more they may have.
 #[derive(Drop)]
@@ -61,11 +61,11 @@ fn add_text(
     text: Text,
     gathered: &mut Gathered,
 ) -> Result<(), NotStarted>
-    requires { folder_length gathered.old.files + gathered.old.left ≡ conf_limit }
+    requires { folder_length gathered.old.files + gathered.old.left ≡ text_limit }
     ensures adds { AddsFile gathered.old.files name.now text
         (seen_by (λ _. gathered.new.files) result) }
     ensures left { OnOk result
-        (folder_length gathered.new.files + gathered.new.left ≡ conf_limit) }
+        (folder_length gathered.new.files + gathered.new.left ≡ text_limit) }
 {
     let length = text.bytes().len();
     if length > gathered.left {
@@ -85,11 +85,11 @@ fn add_file<F: ConfFiles>(
     files: &mut F,
     gathered: &mut Gathered,
 ) -> Result<(), NotStarted>
-    requires { folder_length gathered.old.files + gathered.old.left ≡ conf_limit }
+    requires { folder_length gathered.old.files + gathered.old.left ≡ text_limit }
     ensures reads { ReadsRuleFile F.gives folder.now name.now gathered.old.files
         files.old (seen_by (λ _. gathered.new.files) result) files.new }
     ensures left { OnOk result
-        (folder_length gathered.new.files + gathered.new.left ≡ conf_limit) }
+        (folder_length gathered.new.files + gathered.new.left ≡ text_limit) }
     ensures counted { F.faults files.old ≤ F.faults files.new }
     ensures cause { result ≡ Err FilesFailed → Rose (F.faults files.old) (F.faults files.new) }
     ensures not_disk { ¬ (result ≡ Err DiskFailed) }

@@ -1,8 +1,9 @@
 -- What a crash may leave at any moment of a save or of a reading.
 use Rattle.std.proofs.Common.{◌≡◌, ℕ, ◌≤◌, true, List, [], ◌∷◌, ◌++◌, length, Option, Some, Result, Ok, Err, inl, inr, ◌⊎◌, refl, sym, ◌∙◌, ap, subst, append_assoc, arith}
 use Rattle.ug_types.specs.Elements.{Has}
+use Rattle.ug_types.specs.Limits.{text_limit}
 use Rattle.ug_types.proofs.Elements.{has_cases}
-use Rattle.ug_store.specs.DiskCalls.{DiskCall, Load, Write_new, Sync_new, Swap, DiskTold, file_limit}
+use Rattle.ug_store.specs.DiskCalls.{DiskCall, Load, Write_new, Sync_new, Swap, DiskTold}
 use Rattle.ug_store.specs.Disk.{Disk, Images, Texts, Anything, or_text, while_swapping, IsAsItWas, WroteNew, SyncedNew, Swapped, DiskCalled, FollowsOnDisk}
 use Rattle.ug_store.specs.Store.{DiskProg, Ended, AskDisk, DiskRoom, RunsDisk, after_swap, after_sync_new, after_write_new, saving, after_load, recovering, IsOldOr, SavedAs, HasSaved, RecoversFrom, HasRecovered}
 use Rattle.ug_store.specs.declared.disk.DiskAnswer.{DiskAnswer}
@@ -162,7 +163,7 @@ has_read m n r q x run file still past =
 first_read : (m n : Disk) (r : Result (List ℕ) RecoverFault) (a : Loaded) (count : ℕ) → DiskCalled Load (record { answer = a; count = count }) m n → (x : Disk) → RunsDisk disk_calls n (after_load a count) r x → HasRecovered m r x
 first_read m n r (loaded.Bytes text) count called x run = has_read m n r (Ok text) x run called.effect.0 called.effect.1 called.past
 first_read m n r loaded.Absent count called x run =
-    let short : length m.text ≤ file_limit = subst (λ (t : List ℕ). length t ≤ file_limit) (sym called.effect.0) (omega arith) in
+    let short : length m.text ≤ text_limit = subst (λ (t : List ℕ). length t ≤ text_limit) (sym called.effect.0) (omega arith) in
     has_read m n r (Ok []) x run (sym called.effect.0, short) called.effect.1 called.past
 first_read m n r loaded.TooLong count called x run = has_read m n r (Err fault.TooLong) x run called.effect.0 called.effect.1 called.past
 first_read m n r loaded.Failed count called x run = has_read m n r (Err (fault.Failed count)) x run tt called.effect.1 called.past

@@ -1,7 +1,8 @@
 -- The rule file's disk as plain data, with what a crash may leave of the rule file at each moment.
 use Rattle.std.specs.Prelude.{◌≡◌, ℕ, ◌<◌, ◌≤◌, Bool, true, false, List, [], ◌∷◌, ◌++◌, length, Option, Some, ◌⊎◌}
 use Rattle.ug_types.specs.Elements.{Has}
-use Rattle.ug_store.specs.DiskCalls.{DiskCall, Load, Write_new, Sync_new, Swap, DiskTold, file_limit}
+use Rattle.ug_types.specs.Limits.{text_limit}
+use Rattle.ug_store.specs.DiskCalls.{DiskCall, Load, Write_new, Sync_new, Swap, DiskTold}
 use Rattle.ug_store.specs.declared.disk.DiskAnswer.{DiskAnswer}
 use Rattle.ug_store.specs.declared.disk.DiskAnswer.TheVariants as answer
 use Rattle.ug_store.specs.declared.disk.Loaded.{Loaded}
@@ -54,9 +55,9 @@ pub record IsAsItWas (m n : Disk) : Type 0 where
 
 -- what was read is the whole rule file, and an absent file is the empty text
 abbrev pub ReadsFile : Loaded → List ℕ → Type 0
-ReadsFile (loaded.Bytes text) file = (text ≡ file) × (length file ≤ file_limit)
+ReadsFile (loaded.Bytes text) file = (text ≡ file) × (length file ≤ text_limit)
 ReadsFile loaded.Absent file = file ≡ []
-ReadsFile loaded.TooLong file = file_limit < length file
+ReadsFile loaded.TooLong file = text_limit < length file
 ReadsFile loaded.Failed file = Unit {0}
 ReadsFile loaded.Memory file = Unit {0}
 

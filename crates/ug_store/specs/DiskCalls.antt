@@ -1,6 +1,7 @@
 -- The calls of the rule file's disk, and what each may be answered.
 use Rattle.std.specs.Prelude.{◌≡◌, ℕ, ◌≤◌, Bool, true, false, List, length}
 use Rattle.ug_types.specs.Ends.{IsCounted, Rose}
+use Rattle.ug_types.specs.Limits.{text_limit}
 use Rattle.ug_store.specs.declared.disk.DiskAnswer.{DiskAnswer}
 use Rattle.ug_store.specs.declared.disk.DiskAnswer.TheVariants as answer
 use Rattle.ug_store.specs.declared.disk.Loaded.{Loaded}
@@ -27,12 +28,8 @@ pub record DiskTold (call : DiskCall) : Type 0 where
   pub answer : DiskReply call
   pub count : ℕ
 
--- the most bytes that are read from a rule file
-abbrev pub file_limit : ℕ
-file_limit = 67108864
-
 abbrev pub FitsLoaded : Loaded → Type 0
-FitsLoaded (loaded.Bytes text) = length text ≤ file_limit
+FitsLoaded (loaded.Bytes text) = length text ≤ text_limit
 FitsLoaded loaded.Absent = Unit {0}
 FitsLoaded loaded.TooLong = Unit {0}
 FitsLoaded loaded.Failed = Unit {0}

@@ -2,7 +2,8 @@
 use Rattle.std.proofs.Common.{◌≡◌, ℕ, ◌+◌, ◌-◌, ◌^◌, ◌≤◌, Bool, true, false, cond, if◌then◌else◌, nat_lt, nat_le, List, [], ◌∷◌, length, Option, Some, None, inl, inr, refl, sym, ◌∙◌, ap, subst, arith}
 use Rattle.std.proofs.lemmas.Bool.{both_ways, lt-ltb, leb-true}
 use Rattle.ug_types.specs.Ends.{IsCounted, Rose}
-use Rattle.ug_store.specs.DiskCalls.{DiskCall, Load, Write_new, Sync_new, Swap, DiskReply, DiskTold, file_limit, failed_on, failed_load, CountsOnDisk}
+use Rattle.ug_types.specs.Limits.{text_limit}
+use Rattle.ug_store.specs.DiskCalls.{DiskCall, Load, Write_new, Sync_new, Swap, DiskReply, DiskTold, failed_on, failed_load, CountsOnDisk}
 use Rattle.ug_store.specs.Disk.{Disk, ReadsFile, DiskCalled, FollowsOnDisk}
 use Rattle.ug_store.specs.Scripted.{DiskWorld, one_up, text_or_absent, loaded_of, failed_reply, past_within, disk_after, with_number, fate_at, reply_by, faults_by, told_with, world_after, refused_on, answering_on, WantsMemory, MemKeeps, disk_told}
 use Rattle.ug_store.specs.declared.disk.DiskAnswer.{DiskAnswer}
@@ -11,17 +12,17 @@ use Rattle.ug_store.specs.declared.disk.Loaded.TheVariants as loaded
 use Rattle.ug_store.specs.declared.mishap.Mishap.{Mishap}
 use Rattle.ug_store.specs.declared.mishap.Mishap.TheVariants as mishap
 
-text_read : (text : List ℕ) → length text ≤ file_limit → ReadsFile (text_or_absent text) text
+text_read : (text : List ℕ) → length text ≤ text_limit → ReadsFile (text_or_absent text) text
 text_read [] le = refl
 text_read (b ∷ bs) le = (refl, le)
 
-reads_within : (text : List ℕ) (b : Bool) → nat_le (length text) file_limit ≡ b
+reads_within : (text : List ℕ) (b : Bool) → nat_le (length text) text_limit ≡ b
     → ReadsFile (if b then text_or_absent text else loaded.TooLong) text
-reads_within text true e = text_read text (leb-true (length text) file_limit e)
+reads_within text true e = text_read text (leb-true (length text) text_limit e)
 reads_within text false e = grind (arith, e)
 
 reads_whole : (text : List ℕ) → ReadsFile (loaded_of text) text
-reads_whole text = reads_within text (nat_le (length text) file_limit) refl
+reads_whole text = reads_within text (nat_le (length text) text_limit) refl
 
 -- what the script has a call do is what it may do
 does : (call : DiskCall) (fate : Option Mishap) (m : Disk) (count : ℕ)
@@ -198,7 +199,7 @@ text_true (b ∷ bs) = refl
 
 load_true : (text : List ℕ) → failed_load (loaded_of text) ≡ false
 load_true text =
-    elim (nat_le (length text) file_limit) as
+    elim (nat_le (length text) text_limit) as
     (λ b. failed_load (if b then text_or_absent text else loaded.TooLong) ≡ false)
     [ true ↦ text_true text | false ↦ refl ]
 

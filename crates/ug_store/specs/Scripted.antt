@@ -1,6 +1,7 @@
 -- A disk in memory with its script, and what the script fixes.
 use Rattle.std.specs.Prelude.{◌≡◌, ℕ, ◌+◌, ◌-◌, ◌^◌, nat_lt, Bool, true, false, cond, not, ◌&&◌, ◌||◌, ◌⊎◌, nat_eq, nat_le, if◌then◌else◌, List, [], ◌∷◌, ◌++◌, length, Option, Some, None}
-use Rattle.ug_store.specs.DiskCalls.{DiskCall, Load, Write_new, Sync_new, Swap, DiskReply, DiskTold, file_limit}
+use Rattle.ug_types.specs.Limits.{text_limit}
+use Rattle.ug_store.specs.DiskCalls.{DiskCall, Load, Write_new, Sync_new, Swap, DiskReply, DiskTold}
 use Rattle.ug_store.specs.Disk.{Disk, Texts, while_swapping, inside}
 use Rattle.ug_store.specs.Passed.{left_within, left_after}
 use Rattle.ug_store.specs.declared.disk.DiskAnswer.{DiskAnswer}
@@ -81,7 +82,7 @@ text_or_absent (b ∷ bs) = loaded.Bytes (b ∷ bs)
 
 -- what a reading of that text gives
 abbrev pub loaded_of : List ℕ → Loaded
-loaded_of text = if nat_le (length text) file_limit then text_or_absent text else loaded.TooLong
+loaded_of text = if nat_le (length text) text_limit then text_or_absent text else loaded.TooLong
 
 abbrev pub failed_reply : (call : DiskCall) → DiskReply call
 failed_reply Load = loaded.Failed

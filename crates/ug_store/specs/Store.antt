@@ -3,7 +3,8 @@
 use Rattle.std.specs.Prelude.{◌≡◌, ℕ, ◌<◌, ◌≤◌, Bool, true, false, List, [], ◌∷◌, ◌++◌, length, Option, Some, Result, Ok, Err, ◌⊎◌}
 use Rattle.ug_types.specs.Elements.{Has}
 use Rattle.ug_types.specs.Ends.{Rose}
-use Rattle.ug_store.specs.DiskCalls.{DiskCall, Load, Write_new, Sync_new, Swap, DiskTold, file_limit}
+use Rattle.ug_types.specs.Limits.{text_limit}
+use Rattle.ug_store.specs.DiskCalls.{DiskCall, Load, Write_new, Sync_new, Swap, DiskTold}
 use Rattle.ug_store.specs.Disk.{Disk, Images, Texts, IsImage, IsAsItWas}
 use Rattle.ug_store.specs.declared.disk.DiskAnswer.{DiskAnswer}
 use Rattle.ug_store.specs.declared.disk.DiskAnswer.TheVariants as answer
@@ -105,8 +106,8 @@ pending_after saved.Memory was = was
 
 -- the text is the rule file's, which is too long exactly above the limit
 abbrev pub RecoversFrom : Result (List ℕ) RecoverFault → List ℕ → Type 0
-RecoversFrom (Ok text) file = (text ≡ file) × (length file ≤ file_limit)
-RecoversFrom (Err fault.TooLong) file = file_limit < length file
+RecoversFrom (Ok text) file = (text ≡ file) × (length file ≤ text_limit)
+RecoversFrom (Err fault.TooLong) file = text_limit < length file
 RecoversFrom (Err (fault.Failed count)) file = Unit {0}
 RecoversFrom (Err fault.Memory) file = Unit {0}
 

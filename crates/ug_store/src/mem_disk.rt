@@ -9,10 +9,7 @@ use crate::mishap::{Mishap, Planned};
 use std::alloc::Global;
 use std::marker::Model;
 use std::mem;
-use ug_types::{NoMemory, Text};
-
-/// The most bytes that are read.
-const LIMIT: usize = 67_108_864;
+use ug_types::{NoMemory, TEXT_LIMIT, Text};
 
 /// What a call that is past says of what a crash leaves.
 #[derive(Drop)]
@@ -353,7 +350,7 @@ fn one_up(n: u64) -> u64
 fn read(alloc: Global, text: &[u8]) -> Loaded
     ensures { (result ≡ loaded_of text.now) ⊎ (result ≡ Loaded.Memory) }
 {
-    if text.len() > LIMIT {
+    if text.len() > TEXT_LIMIT {
         return Loaded::TooLong;
     }
     if text.is_empty() {

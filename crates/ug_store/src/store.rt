@@ -1,7 +1,7 @@
 // The saving of the rule file, and its reading at a start.
 ghost use Rattle.std.specs.Prelude.{◌≡◌, ◌≤◌, false, IfOk, length};
 ghost use Rattle.ug_types.specs.Ends.{IsCounted};
-ghost use Rattle.ug_store.specs.DiskCalls.{file_limit};
+ghost use Rattle.ug_types.specs.Limits.{text_limit};
 ghost use Rattle.ug_store.specs.Store.{RunsDisk, saving, Saves, TellsSaveFault, pending_after, recovering, Recovers, TellsRecoverFault, seen_by};
 
 use crate::disk::{DiskAnswer, Loaded, RuleDisk};
@@ -42,7 +42,7 @@ impl Store {
         ensures runs { RunsDisk D.keeps disk.old recovering
             (seen_by (λ r. r.1.items) result) disk.new }
         ensures law { Recovers D.told disk.old (seen_by (λ r. r.1.items) result) disk.new }
-        ensures fits { IfOk result (λ r. length r.1.items ≤ file_limit) }
+        ensures fits { IfOk result (λ r. length r.1.items ≤ text_limit) }
         ensures pending { IfOk result (λ r. r.0 ≡ false) }
         ensures fault { TellsRecoverFault (seen_by (λ r. r.1.items) result) (D.faults disk.old)
             (D.faults disk.new) }
@@ -88,7 +88,7 @@ fn pending_after(saved: Saved, was: bool) -> bool
 #[tactic(auto, unfolding(crate::specs::Store::recovering))]
 fn read<D: RuleDisk>(alloc: Global, disk: &mut D) -> Result<Text, RecoverFault>
     ensures runs { RunsDisk D.keeps disk.old recovering result disk.new }
-    ensures fits { IfOk result (λ text. length text ≤ file_limit) }
+    ensures fits { IfOk result (λ text. length text ≤ text_limit) }
 {
     match disk.load(alloc) {
         Loaded::Bytes(text) => Ok(text),
@@ -103,7 +103,7 @@ fn read<D: RuleDisk>(alloc: Global, disk: &mut D) -> Result<Text, RecoverFault>
 fn read_soundly<D: RuleDisk>(alloc: Global, disk: &mut D) -> Result<Text, RecoverFault>
     ensures runs { RunsDisk D.keeps disk.old recovering result disk.new }
     ensures law { Recovers D.told disk.old result disk.new }
-    ensures fits { IfOk result (λ text. length text ≤ file_limit) }
+    ensures fits { IfOk result (λ text. length text ≤ text_limit) }
     ensures counted { IsCounted (D.faults disk.old) (D.faults disk.new) }
     ensures fault { TellsRecoverFault result (D.faults disk.old) (D.faults disk.new) }
 {

@@ -8,11 +8,8 @@ ghost use Rattle.ug_sysfs.specs.Devices.{plugged, sought, hub_under, controller_
 
 use crate::census::Census;
 use crate::script::NewDevice;
-use ug_kernel::Device;
+use ug_kernel::{Device, MAX_DEVICES};
 use ug_types::NodeName;
-
-/// At most so many devices are live.
-const MOST: usize = 65_536;
 
 #[derive(Clone, Copy)]
 pub enum Parent {
@@ -98,7 +95,7 @@ pub fn plug(census: &mut Census, device: NewDevice)
     ensures room { census.old.room ≤ census.new.room + 1 }
     ensures few { live_count census.new.devices ≤ 65536 }
 {
-    if census.live_count() >= MOST {
+    if census.live_count() >= MAX_DEVICES {
         return;
     }
     if census.find(&device.name).is_some() {

@@ -1,5 +1,5 @@
 -- A query whose answer is at hand.
-use Rattle.std.specs.Prelude.{◌≡◌, Bool, false, List, Option, Some, None, if◌then◌else◌}
+use Rattle.std.specs.Prelude.{◌≡◌, false, List, Option, Some, None, if◌then◌else◌}
 use Rattle.ug_types.specs.Elements.{Has}
 use Rattle.ug_table.specs.Allowed.{matches_allowed}
 use Rattle.ug_table.specs.declared.standing.Standing.{Standing}

@@ -2,6 +2,7 @@ pub mod Access
 pub mod Elements
 pub mod Ends
 pub mod Failing
+pub mod Limits
 pub mod Names
 pub mod NodeNames
 pub mod Padded

@@ -4,6 +4,7 @@
 mod access;
 mod host;
 mod laws;
+mod limits;
 mod line;
 mod list;
 mod marks;
@@ -25,6 +26,7 @@ mod verdict;
 pub use access::{Privilege, Section};
 pub use host::{ReaderSource, WriterSink};
 pub use laws::{parents_law, targets_law};
+pub use limits::TEXT_LIMIT;
 pub use line::Line;
 pub use list::List;
 pub use memory::{MemSink, MemSource};

@@ -1,12 +1,12 @@
 -- What is written for an access text, to which privileges are added.
 use Rattle.std.specs.Prelude.{◌≡◌, ℕ, List, [], ◌∷◌, ◌++◌, codes, decimal, Option, Ok, Err}
+use Rattle.ug_types.specs.Limits.{text_limit}
 use Rattle.ug_types.specs.declared.text_fault.TextFault.{TextFault}
 use Rattle.ug_acl.specs.Pairs.{Pair}
 use Rattle.ug_acl.specs.Printed.{grants_text}
 use Rattle.ug_acl.specs.Texts.{access_read}
 use Rattle.ug_command_io.specs.Statuses.{status_of}
 use Rattle.ug_command_io.specs.WholeInputs as whole
-use Rattle.ug_command_io.specs.WholeInputs.{input_limit}
 use Rattle.ug_command_io.specs.declared.results.Ended.{Ended}
 use Rattle.ug_users.specs.Asking.{pairs_asked, united}
 use Rattle.ug_users.specs.declared.asked.Asked.{Asked}
@@ -32,17 +32,17 @@ abbrev pub TellsAdding : Asked → List ℕ → Option (List ℕ) → Option (Li
     → Ended
     → Type 0
 TellsAdding asked bytes left held0 held result =
-    whole.TellsWhole input_limit (IsUnited asked) TellsBadAccess bytes left held0 held result
+    whole.TellsWhole text_limit (IsUnited asked) TellsBadAccess bytes left held0 held result
 
 -- the whole call
 abbrev pub CompletesAdding : Asked → Option (List ℕ) → Option (List ℕ) → Option (List ℕ)
     → Option (List ℕ)
     → Ended → Type 0
 CompletesAdding asked left0 left held0 held result =
-    whole.CompletesWhole input_limit (IsUnited asked) TellsBadAccess left0 left held0 held result
+    whole.CompletesWhole text_limit (IsUnited asked) TellsBadAccess left0 left held0 held result
 
 -- what a status says: all are the bytes of the source and base those of the sink before the call
 abbrev pub AnswersAdding : Asked → List ℕ → List ℕ → Option (List ℕ) → Option (List ℕ) → ℕ → Type 0
 AnswersAdding asked all base left held status =
-    whole.AnswersWhole status_of input_limit
+    whole.AnswersWhole status_of text_limit
     (IsUnited asked) TellsBadAccess all base left held status

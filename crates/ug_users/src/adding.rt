@@ -2,8 +2,8 @@
 ghost use Rattle.std.specs.Prelude.{◌≡◌, ◌≢◌, ◌≤◌, ℕ, List, Option, Some, length};
 ghost use Rattle.std.specs.Io.KnownBytes.{IsAtEnd};
 ghost use Rattle.ug_types.specs.Ends.{Rose};
+ghost use Rattle.ug_types.specs.Limits.{text_limit};
 ghost use Rattle.ug_command_io.specs.Statuses.{status_of};
-ghost use Rattle.ug_command_io.specs.WholeInputs.{input_limit};
 ghost use Rattle.ug_command_io.specs.declared.results.Ended.{Ended};
 ghost use Rattle.ug_users.specs.Adding.{AnswersAdding, CompletesAdding, TellsAdding};
 
@@ -11,12 +11,12 @@ use crate::asked::Asked;
 use crate::fault_line::line_of_bad_access;
 use crate::uniting::unite;
 use std::alloc::Global;
-use ug_command_io::{Ended, INPUT_LIMIT, read_input, refuse_input, status, write_result};
-use ug_types::{FileFault, Sink, Source};
+use ug_command_io::{Ended, read_input, refuse_input, status, write_result};
+use ug_types::{FileFault, Sink, Source, TEXT_LIMIT};
 
 /// Writes the bytes of an input, whose end was reached, with what is asked for.
 fn write_united<K: Sink>(alloc: Global, asked: &Asked, bytes: &[u8], out: &mut K) -> Ended
-    requires { length bytes.now ≤ input_limit }
+    requires { length bytes.now ≤ text_limit }
     ensures told { (left : Option (List ℕ)) → IsAtEnd left
         → TellsAdding asked.now bytes.now left (K.held out.old) (K.held out.new) result }
     ensures not_read { result ≢ Ended.ReadFault }
@@ -44,7 +44,7 @@ fn add_to_input<S: Source, K: Sink>(
     ensures read { result ≡ Ended.ReadFault → Rose (S.faults input.old) (S.faults input.new) }
     ensures written { result ≡ Ended.WriteFault → Rose (K.faults out.old) (K.faults out.new) }
 {
-    match read_input(alloc, input, INPUT_LIMIT) {
+    match read_input(alloc, input, TEXT_LIMIT) {
         Ok(text) => write_united(alloc, asked, text.bytes(), out),
         Err(fault) => refuse_input(out, fault),
     }

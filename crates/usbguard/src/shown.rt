@@ -2,9 +2,7 @@
 use std::io::Read;
 use std::rt::Files;
 use std::{fs, str};
-
-/// The most bytes that are looked at for a line.
-const MOST: u64 = 67_108_864;
+use ug_types::TEXT_LIMIT;
 
 /// How much of a line is shown before the fault and behind it.
 const BEFORE: usize = 60;
@@ -62,7 +60,7 @@ fn around(text: &str, place: usize) -> Option<(&str, usize)> {
 pub fn read_text(rt: &HostRuntime, path: &str) -> Option<Vec<u8>> {
     let mut text = Vec::new(rt.alloc());
     let file = fs::open(rt, path).ok()?;
-    file.take(MOST).read_to_end(&mut text).ok()?;
+    file.take(TEXT_LIMIT as u64).read_to_end(&mut text).ok()?;
     Some(text)
 }
 

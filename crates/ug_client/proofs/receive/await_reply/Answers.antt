@@ -3,10 +3,11 @@ use Rattle.std.proofs.lemmas.List.{append-nil, take-append-le}
 use Rattle.std.proofs.Math.Seq.{take-append_seam}
 use Rattle.std.proofs.KnownBytes.{Consumes-nil, Consumes-trans, Consumes-kept, Keeps-refl, Keeps-trans}
 use Rattle.std.specs.Io.KnownBytes.{Consumes}
+use Rattle.ug_types.specs.Limits.{text_limit}
 use Rattle.ug_proto.specs.declared.reply.Reply.{Reply}
 use Rattle.ug_client.specs.Answers.{AnswersReply, IsAwaiting}
 use Rattle.ug_links.specs.declared.link_call.Receipt.TheVariants as receipt
-use Rattle.ug_client.specs.Awaiting.{Ended, answer_limit}
+use Rattle.ug_client.specs.Awaiting.{Ended}
 use Rattle.ug_client.specs.Calls.{GoesOnReceiving}
 use Rattle.ug_client.specs.ReadSoFar.{IsReadSoFar}
 use Rattle.ug_client.proofs.Calls.{no_piece, none_yet, one_piece}
@@ -85,7 +86,7 @@ pub returns-in-Ok-Some-clause-awaits : goal.returns-in-Ok-Some-clause-awaits
 returns-in-Ok-Some-clause-awaits g c =
     let i = c.pieces.invariant in
     let piece = take c.in-Bytes.n c.receive.new.into in
-    let short : length c.pieces.kept.items + length piece ≤ answer_limit = omega (arith, i.short, length-take c.in-Bytes.n c.receive.new.into, c.in-Bytes.ensures.size, c.min-room.ensures, length-take {A = ℕ}) in
+    let short : length c.pieces.kept.items + length piece ≤ text_limit = omega (arith, i.short, length-take c.in-Bytes.n c.receive.new.into, c.in-Bytes.ensures.size, c.min-room.ensures, length-take {A = ℕ}) in
     let within : length piece ≤ 65536 = omega (arith, length-take c.in-Bytes.n c.receive.new.into, c.in-Bytes.ensures.size, c.min-room.ensures, length-take {A = ℕ}) in
     let e : c.extend_from_slice.new.self.items ≡ c.pieces.kept.items ++ piece =
     grown c.extend_from_slice.result c.extend_from_slice.new.self.items c.pieces.kept.items _ c.extend_from_slice.ensures.items c.if-is_err.ensures.value
@@ -117,7 +118,7 @@ pub pieces-preserved : goal.pieces-preserved
 pieces-preserved g c =
     let i = c.pieces.invariant in
     let piece = take c.in-Bytes.n c.receive.new.into in
-    let short : length c.pieces.kept.items + length piece ≤ answer_limit = omega (arith, i.short, length-take c.in-Bytes.n c.receive.new.into, c.in-Bytes.ensures.size, c.min-room.ensures, length-take {A = ℕ}) in
+    let short : length c.pieces.kept.items + length piece ≤ text_limit = omega (arith, i.short, length-take c.in-Bytes.n c.receive.new.into, c.in-Bytes.ensures.size, c.min-room.ensures, length-take {A = ℕ}) in
     let within : length piece ≤ 65536 = omega (arith, length-take c.in-Bytes.n c.receive.new.into, c.in-Bytes.ensures.size, c.min-room.ensures, length-take {A = ℕ}) in
     let e : c.extend_from_slice.new.self.items ≡ c.pieces.kept.items ++ piece =
     grown c.extend_from_slice.result c.extend_from_slice.new.self.items c.pieces.kept.items _ c.extend_from_slice.ensures.items c.if-is_err.ensures.value
@@ -139,7 +140,7 @@ pub returns-in-Err-BadReply-clause-awaits : goal.returns-in-Err-BadReply-clause-
 returns-in-Err-BadReply-clause-awaits g c =
     let i = c.pieces.invariant in
     let piece = take c.in-Bytes.n c.receive.new.into in
-    let short : length c.pieces.kept.items + length piece ≤ answer_limit = omega (arith, i.short, length-take c.in-Bytes.n c.receive.new.into, c.in-Bytes.ensures.size, c.min-room.ensures, length-take {A = ℕ}) in
+    let short : length c.pieces.kept.items + length piece ≤ text_limit = omega (arith, i.short, length-take c.in-Bytes.n c.receive.new.into, c.in-Bytes.ensures.size, c.min-room.ensures, length-take {A = ℕ}) in
     let within : length piece ≤ 65536 = omega (arith, length-take c.in-Bytes.n c.receive.new.into, c.in-Bytes.ensures.size, c.min-room.ensures, length-take {A = ℕ}) in
     let e : c.extend_from_slice.new.self.items ≡ c.pieces.kept.items ++ piece =
     grown c.extend_from_slice.result c.extend_from_slice.new.self.items c.pieces.kept.items _ c.extend_from_slice.ensures.items c.if-is_err.ensures.value
@@ -153,7 +154,7 @@ pub returns-in-Err-Memory-clause-awaits : goal.returns-in-Err-Memory-clause-awai
 returns-in-Err-Memory-clause-awaits g c =
     let i = c.pieces.invariant in
     let piece = take c.in-Bytes.n c.receive.new.into in
-    let short : length c.pieces.kept.items + length piece ≤ answer_limit = omega (arith, i.short, length-take c.in-Bytes.n c.receive.new.into, c.in-Bytes.ensures.size, c.min-room.ensures, length-take {A = ℕ}) in
+    let short : length c.pieces.kept.items + length piece ≤ text_limit = omega (arith, i.short, length-take c.in-Bytes.n c.receive.new.into, c.in-Bytes.ensures.size, c.min-room.ensures, length-take {A = ℕ}) in
     let within : length piece ≤ 65536 = omega (arith, length-take c.in-Bytes.n c.receive.new.into, c.in-Bytes.ensures.size, c.min-room.ensures, length-take {A = ℕ}) in
     ends_awaiting (g.L.Link.told c.args.link.now) (g.L.Link.told c.pieces.link) (g.L.Link.told c.receive.new.self) (g.L.Link.left c.args.link.now) (g.L.Link.left c.pieces.link) (g.L.Link.left c.receive.new.self)
     c.pieces.kept.items i.receiving i.source i.awaiting piece short within c.in-Bytes.ensures.told c.in-Bytes.ensures.bytes

@@ -1,8 +1,8 @@
 use Rattle.ug_command_io.proofs.WholeInputs.{completes-refused}
+use Rattle.ug_types.specs.Limits.{text_limit}
 use Rattle.ug_commands.specs.Listing.{TellsDescriptors, TellsMalformed}
-use Rattle.ug_command_io.specs.WholeInputs.{input_limit}
 use Rattle.ug_commands.proofs.listing.list_input.Goals as goal
 
 pub returns-in-Err-clause-told : goal.returns-in-Err-clause-told
-returns-in-Err-clause-told g c = completes-refused input_limit TellsDescriptors TellsMalformed (g.S.Source.left c.args.input.now) (g.S.Source.left c.read_input.new.input) (g.K.Sink.held c.args.out.now) (g.K.Sink.held c.refuse_input.new.out) c.in-Err.fault c.refuse_input.result
+returns-in-Err-clause-told g c = completes-refused text_limit TellsDescriptors TellsMalformed (g.S.Source.left c.args.input.now) (g.S.Source.left c.read_input.new.input) (g.K.Sink.held c.args.out.now) (g.K.Sink.held c.refuse_input.new.out) c.in-Err.fault c.refuse_input.result
     c.in-Err.ensures.read c.refuse_input.ensures.told

@@ -1,5 +1,6 @@
 use Rattle.std.proofs.Common.{◌≡◌, ℕ, ◌∙◌, ◌++◌, List, Err, ap, subst}
 use Rattle.std.proofs.lemmas.List.Elements.{All-more}
+use Rattle.ug_types.specs.Limits.{text_limit}
 use Rattle.ug_types.specs.declared.rule.Rule.{Rule}
 use Rattle.ug_print.specs.Bytes.{RuleOfBytes}
 use Rattle.ug_print.specs.RuleTexts.{rule_line}
@@ -11,7 +12,7 @@ use Rattle.ug_print.proofs.rule_texts.rules_text.Goals as goal
 pub returns-in-Err-clause-too_long : goal.returns-in-Err-clause-too_long
 returns-in-Err-clause-too_long c = λ e.
     let same : c.in-Err.fault ≡ TooLong = cc in
-    line_long c.args.rules.now c.loop-rule.rule-index 67108864 c.rule-item.result c.loop-rule.text c.loop-rule-test.true c.rule-item.is c.loop-rule.invariant.text
+    line_long c.args.rules.now c.loop-rule.rule-index text_limit c.rule-item.result c.loop-rule.text c.loop-rule-test.true c.rule-item.is c.loop-rule.invariant.text
     (c.in-Err.ensures.too_long (ap (λ (f : RulesTextFault). Err f) same))
 
 pub loop-rule-preserved : goal.loop-rule-preserved

@@ -1,9 +1,9 @@
 use Rattle.std.proofs.Common.{◌≡◌, ◌<◌, ◌+◌, ◌++◌, ℕ, Err, List, Some, slice_get, length, take, sym, ap, subst, ◌∙◌, arith}
 use Rattle.std.specs.Prelude.{All, flat_map, option_copied}
 use Rattle.std.proofs.lemmas.List.{take_all}
+use Rattle.ug_types.specs.Limits.{text_limit}
 use Rattle.ug_policy.specs.declared.entry.RuleEntry.{RuleEntry}
 use Rattle.ug_print.specs.Bytes.{RuleOfBytes}
-use Rattle.ug_print.specs.RuleTexts.{rules_limit}
 use Rattle.ug_print.specs.declared.rule_texts.RulesTextFault.{RulesTextFault}
 use Rattle.ug_print.specs.declared.rule_texts.RulesTextFault.TheVariants as fault
 use Rattle.ug_ruleset.specs.RuleEdits.{in_front, in_place}
@@ -17,7 +17,7 @@ returns-in-Err-clause-too_long c = λ e.
     let there : slice_get es c.loop-place.place ≡ Some c.in-Some.entry.now = sym c.entry.ensures.value ∙ ap option_copied c.in-Some.is in
     let same : c.in-Err.fault ≡ fault.TooLong = cc in
     let long = c.in-Err.ensures.too_long (ap (λ (f : RulesTextFault). Err f) same) in
-    long_at edit es (c.loop-place.place + 1) (subst (λ (t : List ℕ). rules_limit < length t) (text_more edit es c.loop-place.place c.in-Some.entry.now c.loop-place.text there c.loop-place.invariant.text) long)
+    long_at edit es (c.loop-place.place + 1) (subst (λ (t : List ℕ). text_limit < length t) (text_more edit es c.loop-place.place c.in-Some.entry.now c.loop-place.text there c.loop-place.invariant.text) long)
 
 pub loop-place-preserved : goal.loop-place-preserved
 loop-place-preserved c =

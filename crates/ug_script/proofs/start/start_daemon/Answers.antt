@@ -1,6 +1,7 @@
 use Rattle.std.proofs.Common.{length, arith}
 use Rattle.std.proofs.lemmas.Bool.{leb-true}
-use Rattle.ug_print.specs.RuleTexts.{rules_limit, rules_text_of}
+use Rattle.ug_types.specs.Limits.{text_limit}
+use Rattle.ug_print.specs.RuleTexts.{rules_text_of}
 use Rattle.ug_core.specs.Event.{daemon_of}
 use Rattle.ug_script.proofs.Starts.{first_daemon, first_rules}
 use Rattle.ug_script.proofs.start.start_daemon.Goals as goal
@@ -13,6 +14,6 @@ returns-in-Ok-clause-daemon c = first_daemon c.args.setup.now c.in_ok-disk.disk 
 pub returns-in-Ok-clause-saves : goal.returns-in-Ok-clause-saves
 returns-in-Ok-clause-saves c = record {
   reads = c.in_ok-disk.ensures.reads;
-  fits = leb-true (length (rules_text_of c.args.setup.now.rules)) rules_limit c.in_ok-disk.ensures.fits;
+  fits = leb-true (length (rules_text_of c.args.setup.now.rules)) text_limit c.in_ok-disk.ensures.fits;
   few = omega (arith, c.are_few-few.ensures.few);
 }

@@ -1,7 +1,7 @@
 use Rattle.std.proofs.Common.{◌≡◌, ℕ, Bool, true, false, List, Some, None, Bor, inl, inr, map, refl}
+use Rattle.ug_types.specs.Limits.{text_limit}
 use Rattle.ug_command_io.specs.Fold.{of_first}
 use Rattle.ug_command_io.specs.Statuses.{status_of}
-use Rattle.ug_command_io.specs.WholeInputs.{input_limit}
 use Rattle.ug_lines.specs.Lines.{lines_of}
 use Rattle.ug_script.specs.Against.{RefusesScript}
 use Rattle.ug_script.specs.Generating.{generate_end, generate_step}
@@ -103,19 +103,19 @@ pub returns-in-Err-clause-listed : goal.returns-in-Err-clause-listed
 returns-in-Err-clause-listed g c = λ e all base a b.
     let words = command_in (map (λ (w : Bor (List ℕ)). w.now) c.args.words.now) in
     let short = c.refuse.ensures.memory (fault_is_memory words _ c.in-Err.fault c.in-Err.ensures.err e) in
-    rw a (input_unread status_of input_limit listing.TellsDescriptors listing.TellsMalformed all base (g.K.Sink.held c.refuse.new.out) c.refuse.result refl refl (rw b at short))
+    rw a (input_unread status_of text_limit listing.TellsDescriptors listing.TellsMalformed all base (g.K.Sink.held c.refuse.new.out) c.refuse.result refl refl (rw b at short))
 
 pub returns-in-Err-clause-checked : goal.returns-in-Err-clause-checked
 returns-in-Err-clause-checked g c = λ e all base a b.
     let words = command_in (map (λ (w : Bor (List ℕ)). w.now) c.args.words.now) in
     let short = c.refuse.ensures.memory (fault_is_memory words _ c.in-Err.fault c.in-Err.ensures.err e) in
-    rw a (input_unread checking.check_status input_limit checking.TellsCount checking.TellsBadRules all base (g.K.Sink.held c.refuse.new.out) c.refuse.result refl refl (rw b at short))
+    rw a (input_unread checking.check_status text_limit checking.TellsCount checking.TellsBadRules all base (g.K.Sink.held c.refuse.new.out) c.refuse.result refl refl (rw b at short))
 
 pub returns-in-Err-clause-linted : goal.returns-in-Err-clause-linted
 returns-in-Err-clause-linted g c = λ prune e all base a b.
     let words = command_in (map (λ (w : Bor (List ℕ)). w.now) c.args.words.now) in
     let short = c.refuse.ensures.memory (fault_is_memory words _ c.in-Err.fault c.in-Err.ensures.err e) in
-    rw a (input_unread checking.check_status input_limit (linting.IsOutput prune) linting.TellsLintFault all base (g.K.Sink.held c.refuse.new.out) c.refuse.result refl refl (rw b at short))
+    rw a (input_unread checking.check_status text_limit (linting.IsOutput prune) linting.TellsLintFault all base (g.K.Sink.held c.refuse.new.out) c.refuse.result refl refl (rw b at short))
 
 pub returns-in-Err-clause-generated : goal.returns-in-Err-clause-generated
 returns-in-Err-clause-generated g c = λ e all base a b.
@@ -138,7 +138,7 @@ pub returns-in-Err-clause-added : goal.returns-in-Err-clause-added
 returns-in-Err-clause-added g c = λ name asked e all base a b.
     let words = command_in (map (λ (w : Bor (List ℕ)). w.now) c.args.words.now) in
     let short = c.refuse.ensures.memory (fault_is_memory words _ c.in-Err.fault c.in-Err.ensures.err e) in
-    rw a (input_unread status_of input_limit (adding.IsUnited asked) adding.TellsBadAccess all base (g.K.Sink.held c.refuse.new.out) c.refuse.result refl refl (rw b at short))
+    rw a (input_unread status_of text_limit (adding.IsUnited asked) adding.TellsBadAccess all base (g.K.Sink.held c.refuse.new.out) c.refuse.result refl refl (rw b at short))
 
 pub returns-in-Err-clause-asked : goal.returns-in-Err-clause-asked
 returns-in-Err-clause-asked g c = λ socket asking e.
