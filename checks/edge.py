@@ -326,6 +326,30 @@ def refused(guard, what, status, *words):
     check("%s: standard error says so" % what, all(word in told for word in words), told)
 
 
+def trial_folder_refusals(guard, folder, settings):
+    """A refused folder of rules: its file, the line and the place."""
+    text, rules_d = settings.read_text(), folder / "rules.d"
+    rules_d.mkdir()
+    settings.write_text(text + "RuleFolder=%s\n" % rules_d)
+    (rules_d / "10-a.conf").write_text("# the distribution's\nallow id 1050:0012\n")
+    (rules_d / "20-b.conf").write_text("allow id 1050:0013\n\n  block id 1050:*:*\n")
+    (rules_d / "20-b.conf~").write_text("frob\n")
+    refused(guard, "a bad rule of the folder", 3, "%s/20-b.conf, line 3, column " % rules_d, "  block id 1050:*:*\n")
+    (rules_d / "20-b.conf").chmod(0o622)
+    refused(guard, "a file of the folder that all may write", 4, "%s/20-b.conf" % rules_d, "mode 622")
+    (rules_d / "20-b.conf").unlink()
+    guard.start()
+    guard.await_line("end ")
+    check("rules of the folder come first", guard.ask("list-rules").split("\n")[0] == "1: allow id 1050:0012 # folder", guard.ask("list-rules"))
+    guard.end()
+    shutil.rmtree(rules_d)
+    guard.start()
+    guard.await_line("end ")
+    check("an absent folder of rules is empty", guard.ask("list-rules").split("\n")[0] == "1: allow", guard.ask("list-rules"))
+    guard.end()
+    settings.write_text(text)
+
+
 def trial_refusals(o, machine, folder):
     """Refused starts say why, in words."""
     guard = Guard(o, folder)
@@ -348,6 +372,7 @@ def trial_refusals(o, machine, folder):
     os.chown(rules, 65534, -1)
     refused(guard, "rules of another owner", 9, str(rules), "owner is 65534")
     os.chown(rules, 0, -1)
+    trial_folder_refusals(guard, folder, settings)
     (folder / "access/joe~").write_text("")
     refused(guard, "an odd access file", 3, "%s/joe~" % (folder / "access"), "none of a user or a group")
     (folder / "access/joe~").unlink()

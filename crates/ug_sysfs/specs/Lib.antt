@@ -13,6 +13,7 @@ pub mod Count
 pub mod Placed
 pub mod Listing
 pub mod IfaceMoves
+pub mod IfaceEffects
 pub mod IfaceLaw
 pub mod IfaceCount
 pub mod Below

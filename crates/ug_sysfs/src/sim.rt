@@ -7,14 +7,11 @@ ghost use Rattle.ug_kernel.specs.Few.{HasFew, AreDistinct};
 ghost use Rattle.ug_sysfs.specs.Law.{does_what_it_may, begins_afresh};
 ghost use Rattle.ug_sysfs.specs.Queue.{with_move};
 ghost use Rattle.ug_sysfs.specs.Noted.{notes_itself, begins_empty};
-ghost use Rattle.ug_iface.specs.Calls as iface_calls;
-ghost use Rattle.ug_iface.specs.Calls.{Names_of, Ask_device, Ask, Put_off, HasFewIfaces, AreOf, AreDistinctIfaces};
-ghost use Rattle.ug_sysfs.specs.Serving.{ServesIfaces, IfaceEffects, PutsOff, bus_in, bus_told, left, live_file};
-ghost use Rattle.ug_sysfs.specs.IfaceLaw.{does_so, keeps_ifaces, begins_so, tells_its_kernel};
-ghost use Rattle.ug_sysfs.specs.IfaceCount.{counts_ifaces};
+ghost use Rattle.ug_sysfs.specs.Serving.{left};
 ghost use Rattle.ug_sysfs.specs.World.{halting, carried, Gives, Effects, RunsOut, PutsWrite, Ends, Enters, event_begun, over, fate_of, failure_counted, told};
 
-use crate::beside::{find_iface, live_iface};
+mod iface_calls;
+
 use crate::census::Census;
 use crate::devices::{live_held, read_file, with_file};
 use crate::failures::Failures;
@@ -26,7 +23,7 @@ use crate::schedule::{carry_out, happen, happen_all, make_room, one_more};
 use crate::script::{Failing, Move, NewDevice, Scheduled};
 use std::alloc::Global;
 use std::marker::Model;
-use ug_iface::{IfaceHeld, IfaceListing, IfaceName, IfaceOpened, IfaceRead, Ifaces, Interface};
+use ug_iface::Interface;
 use ug_kernel::{
     Asked, Attr, CallRecord, Control, Device, Effect, Held, HeldFile, Kind, Listing, Opened, Probe,
     ReadOut, Sysfs, Write, Wrote,
@@ -411,138 +408,6 @@ impl SimKernel {
             },
         }
     }
-
-    fn list_ifaces_now(&mut self, alloc: Global, name: &NodeName) -> IfaceListing
-        ensures effects { IfaceEffects self.old (Names_of name.now) result self.new }
-        ensures few { HasFewIfaces result }
-        ensures named { AreOf name.now result }
-        ensures distinct { AreDistinctIfaces result }
-    {
-        match self.fate() {
-            Some(_) => IfaceListing::Failed,
-            None => match self.census.find(name) {
-                Some(device) => match self.interfaces.names(alloc, device, name) {
-                    Ok(names) => IfaceListing::Names(names),
-                    Err(_) => IfaceListing::Memory,
-                },
-                None => IfaceListing::Absent,
-            },
-        }
-    }
-
-    fn open_iface_now(&mut self, name: &IfaceName) -> IfaceOpened
-        ensures { IfaceEffects self.old (iface_calls.Open name.now) result self.new }
-    {
-        match self.fate() {
-            Some(_) => IfaceOpened::Failed,
-            None => match find_iface(&self.census, &self.interfaces, name) {
-                Some(place) => {
-                    let number = self.iface_files.len() as u64;
-                    match self.iface_files.push(place) {
-                        Ok(_) => IfaceOpened::Token(IfaceHeld(number)),
-                        Err(_) => IfaceOpened::Memory,
-                    }
-                }
-                None => IfaceOpened::Absent,
-            },
-        }
-    }
-
-    fn read_iface_now(&mut self, name: &IfaceName) -> IfaceRead
-        ensures { IfaceEffects self.old (iface_calls.Read name.now) result self.new }
-    {
-        match self.fate() {
-            Some(_) => IfaceRead::Failed,
-            None => match find_iface(&self.census, &self.interfaces, name) {
-                Some(place) => match self.interfaces.as_slice().get(place) {
-                    Some(interface) => IfaceRead::Is(interface.triple),
-                    None => IfaceRead::Absent,
-                },
-                None => IfaceRead::Absent,
-            },
-        }
-    }
-
-    fn probe_device_now(&mut self, held: Held) -> Probe
-        ensures { IfaceEffects self.old (Ask_device held.0) result self.new }
-    {
-        match self.fate() {
-            Some(_) => Probe::Failed,
-            None => match live_held(self.census.devices(), &self.held, held.0 as usize) {
-                Some(i) => match self.census.devices().get(i) {
-                    Some(device) => Probe::Alive(device.on),
-                    None => Probe::Gone,
-                },
-                None => Probe::Gone,
-            },
-        }
-    }
-
-    // The place of the interface of a held file, where it is live.
-    fn held_iface(&self, held: IfaceHeld) -> Option<usize>
-        ensures { result ≡ live_file held.0 (bus_in self.now) }
-    {
-        live_iface(
-            self.census.devices(),
-            self.interfaces.as_slice(),
-            &self.iface_files,
-            held.0 as usize,
-        )
-    }
-
-    fn probe_iface_now(&mut self, held: IfaceHeld) -> Probe
-        ensures { IfaceEffects self.old (Ask held.0) result self.new }
-    {
-        match self.fate() {
-            Some(_) => Probe::Failed,
-            None => match self.held_iface(held) {
-                Some(place) => match self.interfaces.as_slice().get(place) {
-                    Some(interface) => Probe::Alive(interface.on),
-                    None => Probe::Gone,
-                },
-                None => Probe::Gone,
-            },
-        }
-    }
-
-    // What switching off does where it has its effect. There may be no memory for its entry.
-    fn put_off(&mut self, held: IfaceHeld) -> Option<Wrote>
-        ensures { MatchOption result (RunsOut self.old self.new)
-            (λ reply. PutsOff self.old held.0 reply self.new) }
-    {
-        match self.held_iface(held) {
-            Some(place) => match self.iface_log.push(place) {
-                Ok(_) => {
-                    self.interfaces.switch_off(place);
-                    Some(Wrote::Done)
-                }
-                Err(_) => {
-                    self.ran_out = true;
-                    None
-                }
-            },
-            None => Some(Wrote::Gone),
-        }
-    }
-
-    fn write_off_now(&mut self, held: IfaceHeld) -> Wrote
-        ensures { IfaceEffects self.old (Put_off held.0) result self.new }
-    {
-        match self.fate() {
-            Some(true) => {
-                let _ = self.put_off(held);
-                Wrote::Failed
-            }
-            Some(false) => Wrote::Failed,
-            None => match self.put_off(held) {
-                Some(answer) => answer,
-                None => {
-                    self.faults = one_more(self.faults);
-                    Wrote::Failed
-                }
-            },
-        }
-    }
 }
 
 impl Sysfs for SimKernel {
@@ -647,76 +512,4 @@ impl Sysfs for SimKernel {
     }
 
     fn close(&mut self, _held: Held) {}
-}
-
-impl Ifaces for SimKernel {
-    ghost serves = { ServesIfaces };
-
-    ghost bus = { bus_told };
-
-    ghost did_so = { does_so };
-
-    ghost kept_so = { keeps_ifaces };
-
-    ghost began_so = { begins_so };
-
-    ghost one_kernel = { tells_its_kernel };
-
-    ghost counts_so = { counts_ifaces };
-
-    fn list_ifaces(&mut self, alloc: Global, name: &NodeName) -> IfaceListing {
-        if !self.enter() {
-            return IfaceListing::Failed;
-        }
-        let answer = self.list_ifaces_now(alloc, name);
-        self.leave();
-        answer
-    }
-
-    fn open_iface(&mut self, alloc: Global, name: &IfaceName) -> IfaceOpened {
-        if !self.enter() {
-            return IfaceOpened::Failed;
-        }
-        let answer = self.open_iface_now(name);
-        self.leave();
-        answer
-    }
-
-    fn read_iface(&mut self, name: &IfaceName) -> IfaceRead {
-        if !self.enter() {
-            return IfaceRead::Failed;
-        }
-        let answer = self.read_iface_now(name);
-        self.leave();
-        answer
-    }
-
-    fn probe_device(&mut self, held: Held) -> Probe {
-        if !self.enter() {
-            return Probe::Failed;
-        }
-        let answer = self.probe_device_now(held);
-        self.leave();
-        answer
-    }
-
-    fn probe_iface(&mut self, held: IfaceHeld) -> Probe {
-        if !self.enter() {
-            return Probe::Failed;
-        }
-        let answer = self.probe_iface_now(held);
-        self.leave();
-        answer
-    }
-
-    fn write_off(&mut self, held: IfaceHeld) -> Wrote {
-        if !self.enter() {
-            return Wrote::Failed;
-        }
-        let answer = self.write_off_now(held);
-        self.leave();
-        answer
-    }
-
-    fn close_iface(&mut self, _held: IfaceHeld) {}
 }

@@ -58,7 +58,7 @@ fn make_auditors(
 ) -> Result<(Box<WriterAuditor<JournalOutput>>, Box<RefusalReader>), AllocError> {
     let alloc = rt.alloc();
     let output = JournalOutput::new(alloc, OUTPUT, omits_idle(rt));
-    let reader = RefusalReader::new(found.clone()?);
+    let reader = RefusalReader::new(alloc, found.clone()?);
     Ok((
         Box::new(alloc, WriterAuditor::new(output))?,
         Box::new(alloc, reader)?,
@@ -118,7 +118,7 @@ fn serve_with(
         rules: disk.path(),
         socket: links.last_path(),
     };
-    let refusal = found.get();
+    let refusal = found.take();
     tell_end(&rt, status, refusal.as_ref(), &paths);
     status
 }

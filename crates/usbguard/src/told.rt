@@ -18,7 +18,7 @@ fn text_of(path: &[u8]) -> &str {
 }
 
 fn fault_of(refusal: &StartRefusal) -> &'static str {
-    match refusal.part {
+    match &refusal.part {
         RefusedPart::Settings => settings_fault(refusal.kind),
         RefusedPart::Access => access_fault(refusal.kind),
         RefusedPart::Folder => "its files have more than 67,108,864 bytes together",
@@ -70,17 +70,15 @@ fn tell_name(rt: &HostRuntime, folder: &str, fault: &str) -> std::io::Result<()>
 fn tell_refusal(rt: &HostRuntime, refusal: &StartRefusal, path: &str) -> std::io::Result<()> {
     let fault = fault_of(refusal);
     let (line, column) = (refusal.line, refusal.place.saturating_add(1));
-    if matches!(refusal.part, RefusedPart::FolderFile(_)) {
-        return eprintln!(rt;
-            "usbguard: a file in {path}, line {line}, column {column}: {fault}. The last line of the journal names it."
-        );
-    }
     if line > 0 {
         eprintln!(rt; "usbguard: {path}, line {line}, column {column}: {fault}.")?;
         let spot = Spot {
             line,
             place: refusal.place,
-            counts_blanks: matches!(refusal.part, RefusedPart::Rules),
+            counts_blanks: matches!(
+                refusal.part,
+                RefusedPart::Rules | RefusedPart::FolderFile(_)
+            ),
         };
         if let Some(shown) = show_line(rt, path, spot) {
             let shown = shown.as_str();
@@ -115,12 +113,19 @@ fn tell_refused(
     paths: &LastPaths<'_>,
 ) -> std::io::Result<()> {
     let files = text_of(paths.files);
-    let path = match refusal.part {
-        RefusedPart::Settings | RefusedPart::Access => files,
-        RefusedPart::Folder | RefusedPart::FolderFile(_) => folder_of(files),
-        RefusedPart::Rules => text_of(paths.rules),
-    };
-    tell_refusal(rt, refusal, path)
+    match &refusal.part {
+        RefusedPart::Settings | RefusedPart::Access => tell_refusal(rt, refusal, files),
+        RefusedPart::Folder => tell_refusal(rt, refusal, folder_of(files)),
+        RefusedPart::FolderFile(name) => {
+            let folder = folder_of(files);
+            let name = name.as_str();
+            match format!(in rt.alloc(); "{folder}/{name}") {
+                Ok(path) => tell_refusal(rt, refusal, path.as_str()),
+                Err(_) => tell_refusal(rt, refusal, name),
+            }
+        }
+        RefusedPart::Rules => tell_refusal(rt, refusal, text_of(paths.rules)),
+    }
 }
 
 /// Tells on standard error why a daemon has ended with that status: the file or the socket, and of a refusal the line and the place too.
