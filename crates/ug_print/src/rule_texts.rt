@@ -1,5 +1,6 @@
 // The text of a rule file.
 ghost use Rattle.std.specs.Prelude.{◌≡◌, ◌<◌, ◌≤◌, ◌++◌, All, Err, IfOk, Ok, OnErr, OnOk, [], length};
+ghost use Rattle.ug_types.specs.Limits.{text_limit};
 ghost use Rattle.ug_rule.specs.Files.{file_read};
 ghost use Rattle.ug_rule.specs.Grammar.{WellFormed};
 ghost use Rattle.ug_print.specs.Bytes.{RuleOfBytes};
