@@ -11,7 +11,6 @@ use Rattle.ug_kernel.proofs.Places.{at_push, at_longer, at_end, at_set_same, at_
 use Rattle.ug_kernel.proofs.Sounds.{Kept}
 use Rattle.ug_kernel.proofs.Stayed.{begins, begins_then, unmoved, stays_at, back_at, live_back}
 use Rattle.ug_sysfs.specs.declared.kin.Kin.{Kin}
-use Rattle.ug_sysfs.specs.Begins.{begins_unplug}
 use Rattle.ug_sysfs.specs.Below.{Below, Itself, Under, IsFelled, all_below, felled_exactly}
 use Rattle.ug_sysfs.specs.Counted.{HaveLiveParents}
 use Rattle.ug_sysfs.specs.declared.parent.Parent.TheVariants as parent
@@ -20,7 +19,7 @@ use Rattle.ug_sysfs.specs.Find.{find_some}
 use Rattle.ug_sysfs.specs.Kin.{Fells, HasKin, IsYoungest, kin_born, led_to, older_in, with_child, youngest_in, youngest_under}
 use Rattle.ug_sysfs.specs.Living.{is_live, is_live_at}
 use Rattle.ug_sysfs.proofs.Kept.{was_gone}
-use Rattle.ug_sysfs.specs.Sound.{IsTree, length_felled}
+use Rattle.ug_sysfs.specs.Sound.{IsTree}
 use Rattle.ug_sysfs.specs.World.{switched, switched_to}
 
 -- ---- one more device

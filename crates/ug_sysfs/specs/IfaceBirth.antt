@@ -1,8 +1,6 @@
 -- An interface is added wherever it can be, and goes where it is there, and else nothing changes.
 use Rattle.std.proofs.Common.{◌≡◌, ℕ, ◌<◌, Bool, true, false, ◌&&◌, cond, nat_lt, List, [], ◌∷◌, ◌++◌, set, Option, Some, None, is_none, refl, sym, ◌∙◌, ap, subst}
 use Rattle.std.proofs.lemmas.Bool.{and_parts, lt-ltb, ltb-true}
-use Rattle.std.proofs.lemmas.Option.{none-some}
-use Rattle.std.specs.List.{slice_get}
 use Rattle.ug_kernel.specs.declared.device.Device.{Device}
 use Rattle.ug_kernel.specs.Kernel.{Live, IsSound}
 use Rattle.ug_iface.specs.declared.interface.Interface.{Interface}
@@ -13,7 +11,7 @@ use Rattle.ug_sysfs.specs.declared.script.NewIface.{NewIface}
 use Rattle.ug_sysfs.specs.Devices.{find}
 use Rattle.ug_sysfs.specs.Find.{find_some, find_none}
 use Rattle.ug_sysfs.specs.IfaceMoves.{none_of}
-use Rattle.ug_sysfs.specs.Interfaces.{added_to, added_under, can_add, gone_there, iface_moved, iface_of, iface_place, place_named, removed_at}
+use Rattle.ug_sysfs.specs.Interfaces.{added_under, can_add, gone_there, iface_moved, iface_of, iface_place, place_named, removed_at}
 use Rattle.ug_sysfs.specs.Placed.{NamedThere, named_none, named_some, place_none, place_some}
 
 -- no live interface bears that name

@@ -19,7 +19,7 @@ use Rattle.ug_sysfs.specs.Devices.{find}
 use Rattle.ug_sysfs.specs.Find.{find_some}
 use Rattle.ug_sysfs.specs.Interfaces.{place_named, iface_name, iface_names, is_of}
 use Rattle.ug_sysfs.specs.Placed.{NamedThere, named_some, named_none, FileThere, file_some, file_none, is_of_device, of_device}
-use Rattle.ug_sysfs.specs.World.{World, probed_at, live_held, effect}
+use Rattle.ug_sysfs.specs.World.{World, probed_at, live_held}
 use Rattle.ug_sysfs.specs.Law.{none_lived, ready_probe}
 use Rattle.ug_sysfs.specs.Serving.{IfaceReply, iface_failure, IsIfaceMemory, listed_under, iface_opened, iface_read, iface_probed, put_off, live_file, iface_act, iface_hidden, iface_effect, iface_told_as}
 use Rattle.ug_sysfs.specs.IfaceMoves.{sound_set}
@@ -27,9 +27,9 @@ use Rattle.ug_sysfs.specs.Listing.{all_listed, all_of, distinct_of}
 
 -- what holds of the effect of a call
 pub record ReadyIface (c : IfaceCall) (a : IfaceAnswer c) (k l : Bus) : Type 0 where
-  does : IfaceDoes c a k l
-  says : (x y : Bus) → IsSoundBus x → IsSoundBus k → MovesBus x k → MovesBus l y → IfaceSays c a x y
-  sound : IsSoundBus k → IsSoundBus l
+  pub does : IfaceDoes c a k l
+  pub says : (x y : Bus) → IsSoundBus x → IsSoundBus k → MovesBus x k → MovesBus l y → IfaceSays c a x y
+  pub sound : IsSoundBus k → IsSoundBus l
 
 grown : (b c : Bus) → MovesBus b c → BusGrows b c
 grown b c m = still_grows b c (moves_still b c m)

@@ -1,5 +1,5 @@
 -- The order in which scheduled moves are to come.
-use Rattle.std.specs.Prelude.{◌≡◌, ℕ, ◌+◌, ◌-◌, ◌*◌, ◌≤◌, Bool, true, not, cond, ◌&&◌, ◌||◌, nat_eq, nat_lt, if◌then◌else◌, List, length, insert, Option, Some, None}
+use Rattle.std.specs.Prelude.{ℕ, ◌+◌, ◌-◌, ◌*◌, Bool, true, not, cond, ◌&&◌, ◌||◌, nat_eq, nat_lt, if◌then◌else◌, List, length, insert, Option, Some, None}
 use Rattle.std.specs.List.{position, slice_get}
 use Rattle.std.specs.List.Sorted.{IsNonDecreasingBy}
 use Rattle.ug_sysfs.specs.declared.script.Scheduled.{Scheduled}

@@ -1,6 +1,4 @@
-use Rattle.std.proofs.Common.{◌≡◌, ◌<◌, length, Option, Some, None, ℕ, refl, sym, subst, ◌∙◌, arith}
-use Rattle.std.specs.List.{slice_get}
-use Rattle.ug_sysfs.specs.Kin.{older_in}
+use Rattle.std.proofs.Common.{◌<◌, Option, Some, ℕ, refl, sym, subst, ◌∙◌, arith}
 use Rattle.ug_sysfs.proofs.Links.{Felling, WentAlone, child_places, fells_unless, felling_done, first_walk, has_kin_begins, next_smaller, next_walk, still_left, went_alone}
 use Rattle.ug_sysfs.proofs.kin.+fell.Goals as goal
 

@@ -1,4 +1,4 @@
-use Rattle.std.proofs.Common.{◌≡◌, ℕ, List, length, sym, ◌∙◌, ap, arith}
+use Rattle.std.proofs.Common.{◌≡◌, List, length, ◌∙◌, ap, arith}
 use Rattle.std.specs.List.{filter}
 use Rattle.ug_kernel.specs.declared.device.Device.{Device}
 use Rattle.ug_sysfs.specs.Living.{is_live_at, live_places}

@@ -1,4 +1,4 @@
-use Rattle.std.proofs.Common.{◌≡◌, ◌<◌, length, take, drop, ◌∙◌, ap, arith}
+use Rattle.std.proofs.Common.{◌<◌, length, take, drop, ◌∙◌, ap, arith}
 use Rattle.ug_kernel.specs.Kernel.{live_count}
 use Rattle.ug_kernel.proofs.Stayed.{live_count_begins}
 use Rattle.ug_sysfs.specs.Devices.{fall}
