@@ -16,7 +16,7 @@ use Rattle.ug_script.specs.declared.step.Step.{Step}
 use Rattle.ug_script.specs.declared.step.Step.TheVariants as step
 use Rattle.ug_script.specs.Against.{AreRefused, BehindSetup, LacksNumbers, NoHeader, NoRoom, NoStep, NotTaken, RefusesScript, SpeaksAgainst, starts_daemon}
 use Rattle.ug_script.specs.Grammar.{step_of_line}
-use Rattle.ug_script.specs.Laws.{StaysLawful}
+use Rattle.ug_script.specs.Laws.{IsFaultless, StaysLawful}
 use Rattle.ug_script.specs.Replay.{StartsAgain, bad, event_by, header, in_script, line_added, planned, quiet, restarted, script_end, script_step, taken_if, with_plan}
 use Rattle.ug_script.specs.Script.{Phase, SettingUp, Unstarted, Started, Script, can_start, daemon_in, disk_in, fits_file, fresh, has_started, takes_setup, with_setup_closed}
 use Rattle.ug_script.specs.Setup.{SetupState, one_line_more, rules_from}
@@ -90,12 +90,12 @@ line_fault (Some s, w) line next h0 h1 r q why fault e = step_fault s w line nex
 
 -- ---- a whole script
 
-unnumbered : (first : World) → StaysLawful first → first.faults ≡ 0 → (p : Option Script × World) (line : List ℕ) (fault : LineRefusal) (lines : List (List ℕ)) (n : ℕ) (text : List ℕ) → plays script_step (Going 0 [] (None, first)) lines ≡ Going n text p → Speaks p line fault → SpeaksAgainst p line fault
+unnumbered : (first : World) → StaysLawful first → IsFaultless first → (p : Option Script × World) (line : List ℕ) (fault : LineRefusal) (lines : List (List ℕ)) (n : ℕ) (text : List ℕ) → plays script_step (Going 0 [] (None, first)) lines ≡ Going n text p → Speaks p line fault → SpeaksAgainst p line fault
 unnumbered first lawful none p line fault lines n text played (inl k) = k
 unnumbered first lawful none (None, w) line fault lines n text played (inr k) = absurd k
 unnumbered first lawful none (Some s, w) line fault lines n text played (inr k) = absurd (both_ways (has_numbers (daemon_in s) w.faults (disk_in s).faults) k.2 ((lawful lines n text s w played).numbers none))
 
-pub script_refused : (first : World) (lines : List (List ℕ)) (fault : LineRefusal) → StaysLawful first → first.faults ≡ 0 → RefusesLines script_step (of_first script_end) Speaks (Going 0 [] (None, first)) lines fault → RefusesScript first lines
+pub script_refused : (first : World) (lines : List (List ℕ)) (fault : LineRefusal) → StaysLawful first → IsFaultless first → RefusesLines script_step (of_first script_end) Speaks (Going 0 [] (None, first)) lines fault → RefusesScript first lines
 script_refused first lines fault lawful none (AtLine r) = (
   fault,
   AtLine (record {
@@ -140,7 +140,7 @@ no_end : (p : Summary × World) → summary_end p ≡ None → script_end p.0.0 
 no_end ((None, t), w) e = refl
 no_end ((Some s, t), w) e = let none : ⊥ = cc in absurd none
 
-pub summary_refused : (first : World) (lines : List (List ℕ)) (fault : LineRefusal) → StaysLawful first → first.faults ≡ 0 → RefusesLines summary_step summary_end SumSpeaks (Going 0 [] ((None, no_totals), first)) lines fault → RefusesScript first lines
+pub summary_refused : (first : World) (lines : List (List ℕ)) (fault : LineRefusal) → StaysLawful first → IsFaultless first → RefusesLines summary_step summary_end SumSpeaks (Going 0 [] ((None, no_totals), first)) lines fault → RefusesScript first lines
 summary_refused first lines fault lawful none (AtLine r) =
     let u = unsummed_at first r.earlier r.count r.text r.machine r.played in (
       fault,

@@ -44,6 +44,17 @@ use Rattle.ug_script.specs.declared.step.Step.{Step}
 use Rattle.ug_script.specs.declared.step.Step.TheVariants as step
 use Rattle.ug_script.specs.Births.{AreMovesOf, Becomes, BecomesBy, Born, Change, Facts, Idle, StaysBorn, Unplugged, Wrote, birth_in, effect_in, facts_given, facts_of, move_in, scheduled_action}
 use Rattle.ug_script.specs.Grammar.{step_of_line}
+use Rattle.ug_sysfs.specs.Serving.{bus_in, iface_answer_from, iface_answer_of, iface_answer_unless, iface_effect, with_bus}
+use Rattle.ug_sysfs.specs.World.{failure_counted}
+use Rattle.ug_iface.specs.declared.rules.IfaceRule.{IfaceRule}
+use Rattle.ug_iface.specs.declared.settle.Begun.{Begun}
+use Rattle.ug_iface.specs.declared.settle.Begun.TheVariants.{Walks, Ends}
+use Rattle.ug_iface.specs.Calls.{IfaceCall, Close as CloseIface}
+use Rattle.ug_iface.specs.Order.{in_iface_order}
+use Rattle.ug_iface.specs.Settle.{Aim, beginning, walking}
+use Rattle.ug_iface.specs.Tree.{IfaceProg, Return as Gives, Make, Room as IfaceRoom}
+use Rattle.ug_script.specs.Passes.{aims_in, device_pass, pass_behind, pass_over, play_ifaces, walk_from}
+use Rattle.ug_script.proofs.PassBehind.{effect_kernel}
 use Rattle.ug_script.specs.Replay.{Played, order_played_by, answered_from, begun_disk, came_of, event_from, finished, halted, header, in_script, line_added, planned, quiet, restarted, script_step, stop_in, stopped_of, taken, taken_if, tried_by}
 use Rattle.ug_script.specs.Schedules.{IsSchedule}
 use Rattle.ug_script.specs.Script.{Script, can_start, daemon_in, disk_in, fresh, takes_setup}
@@ -240,9 +251,9 @@ answered_goes (Order moment who line) d w o s =
     let x = play_goes (asking d who line) w s in
     to_then w c.1 (play (acting who (stored_with b.0 c.0.change d) (deed_after b.0 c.0.deed)) c.1).1 x (play_goes (acting who (stored_with b.0 c.0.change d) (deed_after b.0 c.0.deed)) c.1 x.sound)
 
--- an event, and what is still to come behind it
-event_goes : (event : events.Event) (d : DaemonState) (w : World) (o : DiskWorld) → IsSound w.kernel.devices → Goes w.moves w.kernel [] (over (event_from event d w o).world).kernel
-event_goes event d w o s =
+-- an event
+event_reaches : (event : events.Event) (d : DaemonState) (w : World) (o : DiskWorld) → IsSound w.kernel.devices → GoesTo w (event_from event d w o).world
+event_reaches event d w o s =
     let q : DiskWorld = (tried_by d o).1 in
     let start : World = halted q (event_begun w) in
     let a = answered_from event d w o in
@@ -252,8 +263,51 @@ event_goes event d w o s =
     let y : GoesTo start a.world = answered_goes event (ready event (tried_by d o).0 d) start q x.sound in
     let z : GoesTo a.world middle = halted_goes a.disk a.world y.sound in
     let v : GoesTo middle p.world = play_goes (handling a.daemon) middle z.sound in
-    let until : GoesTo (event_begun w) p.world = to_then (event_begun w) start p.world x (to_then start a.world p.world y (to_then a.world middle p.world z v)) in
-    goes_then w.moves p.world.moves [] w.kernel p.world.kernel (over p.world).kernel until (all_go p.world.moves p.world.kernel v.sound)
+    to_then (event_begun w) start p.world x (to_then start a.world p.world y (to_then a.world middle p.world z v))
+
+-- and what is still to come
+over_goes : (w v : World) → GoesTo w v → Goes w.moves w.kernel [] (over v).kernel
+over_goes w v g = goes_then w.moves v.moves [] w.kernel v.kernel (over v).kernel g (all_go v.moves v.kernel g.sound)
+
+-- ---- a pass
+
+iface_goes : (w : World) (call : IfaceCall) → IsSound w.kernel.devices → GoesTo w (iface_answer_from (entered w) call).1
+iface_goes w call s =
+    let u : World = entered w in
+    let v : World = with_bus (failure_counted u) (iface_effect (fate_of u) call (bus_in u)).1 in
+    let same : v.kernel ≡ u.kernel = effect_kernel (fate_of u) call (bus_in u) in
+    let x : GoesTo w u = happen_goes (raised w.calls) false w.moves w.kernel s in
+    let y : GoesTo u v = goes_still u.moves u.kernel v.kernel (ap (λ (k : Kernel). k.devices) same) (ap (λ (k : Kernel). k.log) same) x.sound in
+    let z : GoesTo v (iface_answer_from u call).1 = happen_goes v.calls true v.moves v.kernel y.sound in
+    to_then w u (iface_answer_from u call).1 x (to_then u v (iface_answer_from u call).1 y z)
+
+iface_unless : (out : Bool) (w : World) (call : IfaceCall) → IsSound w.kernel.devices → GoesTo w (iface_answer_unless out w call).1
+iface_unless out w (CloseIface held) s = goes_still w.moves w.kernel w.kernel refl refl s
+iface_unless true w call s = goes_still w.moves w.kernel w.kernel refl refl s
+iface_unless false w call s = iface_goes w call s
+
+play_ifaces_goes : {R : Type 0} (p : IfaceProg R) (w : World) → IsSound w.kernel.devices → GoesTo w (play_ifaces p w).1
+play_ifaces_goes (Gives value) w s = goes_still w.moves w.kernel w.kernel refl refl s
+play_ifaces_goes (Make call next) w s =
+    let u : World = (iface_answer_of w call).1 in
+    let x : GoesTo w u = iface_unless w.ran_out w call s in
+    to_then w u (play_ifaces (next (iface_answer_of w call).0) u).1 x (play_ifaces_goes (next (iface_answer_of w call).0) u x.sound)
+play_ifaces_goes (IfaceRoom next) w s = play_ifaces_goes (next true) w s
+
+walk_goes : (aim : Aim) (w : World) (p : Begun × World) → GoesTo w p.1 → GoesTo w (walk_from aim p).world
+walk_goes aim w (Ends end, u) g = g
+walk_goes aim w (Walks names, u) g = to_then w u (play_ifaces (walking aim (in_iface_order names) []) u).1 g (play_ifaces_goes (walking aim (in_iface_order names) []) u g.sound)
+
+pass_goes : (aims : List Aim) (w : World) → IsSound w.kernel.devices → GoesTo w (pass_over aims w).world
+pass_goes [] w s = goes_still w.moves w.kernel w.kernel refl refl s
+pass_goes (aim ∷ aims) w s =
+    let u : World = (device_pass aim w).world in
+    let x : GoesTo w u = walk_goes aim w (play_ifaces (beginning aim.device.via_port) w) (play_ifaces_goes (beginning aim.device.via_port) w s) in
+    to_then w u (pass_over aims u).world x (pass_goes aims u x.sound)
+
+behind_goes : (rules : List IfaceRule) (d : DaemonState) (w : World) → IsSound w.kernel.devices → GoesTo w (pass_behind rules d w).world
+behind_goes [] d w s = goes_still w.moves w.kernel w.kernel refl refl s
+behind_goes (rule ∷ rules) d w s = pass_goes (aims_in (rule ∷ rules) d.sweep.standings) w s
 
 -- ---- steps one after another
 
@@ -320,9 +374,14 @@ stopped_after : (written : List Scheduled) (event : events.Event) (k : Kernel) (
 stopped_after written event k s call p (Ok rules) leads sound = over_after written event k p.world leads sound
 stopped_after written event k s call p (Err fault) leads sound = tt
 
-came_after : (written : List Scheduled) (event : events.Event) (k : Kernel) (s : Script) (p : Played) (stopped : Bool) → Leads written (Some (step.Event event)) k [] (over p.world).kernel → IsSound (over p.world).kernel.devices → After written (Some (step.Event event)) k (in_script s (cond stopped (stopped_of s.setup (stop_in s.planned p) p (rules_from s.setup.folder.count p.disk.disk.text)) (finished p)))
-came_after written event k s p true leads sound = stopped_after written event k s (stop_in s.planned p) p (rules_from s.setup.folder.count p.disk.disk.text) leads sound
-came_after written event k s p false leads sound = over_after written event k p.world leads sound
+came_after : (written : List Scheduled) (event : events.Event) (k : Kernel) (s : Script) (p : Played) (stopped : Bool) → ((v : World) → GoesTo p.world v → Leads written (Some (step.Event event)) k [] (over v).kernel × IsSound (over v).kernel.devices) → IsSound p.world.kernel.devices → After written (Some (step.Event event)) k (in_script s (cond stopped (stopped_of s.setup (stop_in s.planned p) p (rules_from s.setup.folder.count p.disk.disk.text)) (finished s.setup.ifaces p)))
+came_after written event k s p true leads sound =
+    let here = leads p.world (goes_still p.world.moves p.world.kernel p.world.kernel refl refl sound) in
+    stopped_after written event k s (stop_in s.planned p) p (rules_from s.setup.folder.count p.disk.disk.text) here.0 here.1
+came_after written event k s p false leads sound =
+    let v : World = (pass_behind s.setup.ifaces p.daemon p.world).world in
+    let there = leads v (behind_goes s.setup.ifaces p.daemon p.world sound) in
+    over_after written event k v there.0 there.1
 
 event_after : (written : List Scheduled) (event : events.Event) (k : Kernel) (s : Script) (w : World) (start room : Bool) (came : LineOutcome Played) (other : Played) → After written (Some (step.Event event)) k (in_script s came) → After written (Some (step.Event event)) k (cond start (in_script s (cond room came (Refused BadLine other))) (Refused InputTooLong (Some s, w)))
 event_after written event k s w true true came other h = h
@@ -336,8 +395,11 @@ step_after written (step.Move action) s w schedule sound = (written, schedule, s
 step_after written (step.Schedule p) s w schedule sound = plan_after written p s w schedule sound
 step_after written (step.Event event) s w schedule sound =
     let p : Played = event_from event (daemon_in s) w (begun_disk s.planned (disk_in s)) in
-    let g = event_goes event (daemon_in s) w (begun_disk s.planned (disk_in s)) sound in
-    event_after written event w.kernel s w (can_start s.setup s.phase) (has_numbers (daemon_in s) w.faults (disk_in s).faults) (came_of s.setup s.planned p) _ (came_after written event w.kernel s p p.disk.stopped (event_leads written w.moves event w.kernel (over p.world).kernel schedule g) g.sound)
+    let g : GoesTo w p.world = event_reaches event (daemon_in s) w (begun_disk s.planned (disk_in s)) sound in
+    let leads : (v : World) → GoesTo p.world v → Leads written (Some (step.Event event)) w.kernel [] (over v).kernel × IsSound (over v).kernel.devices = λ v more.
+    let x = over_goes w v (to_then w p.world v g more) in
+    (event_leads written w.moves event w.kernel (over v).kernel schedule x, x.sound) in
+    event_after written event w.kernel s w (can_start s.setup s.phase) (has_numbers (daemon_in s) w.faults (disk_in s).faults) (came_of s.setup s.planned p) _ (came_after written event w.kernel s p p.disk.stopped leads g.sound)
 step_after written step.Restart s w schedule sound = after_when written (Some step.Restart) w.kernel (can_start s.setup s.phase) (restarted (rules_from s.setup.folder.count (disk_in s).disk.text) s w) (Refused InputTooLong (Some s, w)) (restarted_after written s w (rules_from s.setup.folder.count (disk_in s).disk.text) schedule sound) tt
 
 line_after : (written : List Scheduled) (asked : Option Step) (s : Script) (w : World) → IsSchedule written w.moves → IsSound w.kernel.devices → After written asked w.kernel (taken_if asked s w)

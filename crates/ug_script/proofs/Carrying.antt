@@ -20,7 +20,7 @@ use Rattle.ug_script.specs.declared.step.Step.{Step}
 use Rattle.ug_script.specs.declared.step.Step.TheVariants.{Skip, Setup, Move, Schedule, Event, Restart}
 use Rattle.ug_script.specs.CarriedOn.{CarriesThrough, EachCarriesOn, StaysCarried}
 use Rattle.ug_script.specs.Grammar.{step_of_line}
-use Rattle.ug_script.specs.Journal.{AreSuccessive, EventsOfRuns, RunEnd, RunStart, first_start, happened_at, left_by, no_events, runs_after, runs_by, runs_in, stop_of, with_end, with_events, with_stop}
+use Rattle.ug_script.specs.Journal.{AreSuccessive, EventsOfRuns, RunEnd, RunStart, first_start, happened_at, pass_at, left_by, no_events, runs_after, runs_by, runs_in, stop_of, with_end, with_events, with_stop}
 use Rattle.ug_script.specs.LinesRead.{FirstReads, LineReads, StepReads}
 use Rattle.ug_script.specs.Replay.{Played, bad, came_of, event_of, finished, header, in_script, line_added, planned, quiet, restarted, script_end, script_step, stopped_of, taken, taken_if, with_plan}
 use Rattle.ug_script.specs.Script.{Phase, SettingUp, Unstarted, Started, Script, can_start, closed_phase, daemon_in, disk_in, fresh, has_started, takes_setup, with_setup_closed}
@@ -93,23 +93,23 @@ setup_reread None s w runs true e h = tt
 setup_reread o s w runs false e h = tt
 
 -- an event, whether the machine stopped in it or not
-module _ (event : events.Event) (s : Script) (w : World) (runs : EventsOfRuns) (reads : StepReads (Some (Event event)) s w) (h : Reread s runs) where
+module _ (event : events.Event) (s : Script) (w : World) (pass : List ℕ) (runs : EventsOfRuns) (reads : StepReads (Some (Event event)) s w) (h : Reread s runs) where
   hs : AllReadable (runs.last ++ happened_at event s w ∷ [])
   hs = events_more runs.last (happened_at event s w) h.last reads.1
 
-  came_reread : (stopped : Bool) (loaded : Result (List Rule) LineRefusal) → RereadBy (in_script s (cond stopped (stopped_of s.setup (stop_of event s w) (event_of event s w) loaded) (finished (event_of event s w)))) (with_stop stopped (stop_of event s w) (with_events (happened_at event s w ∷ []) runs))
-  came_reread true (Ok rules) = record { first = λ e. starts_reread s runs reads.0 h; ended = runs_more runs.ended (record { events = runs.last ++ happened_at event s w ∷ []; stop = Some (stop_of event s w) }) h.ended hs; last = tt }
+  came_reread : (stopped : Bool) (loaded : Result (List Rule) LineRefusal) → RereadBy (in_script s (cond stopped (stopped_of s.setup (stop_of event s w) (event_of event s w) loaded) (finished s.setup.ifaces (event_of event s w)))) (with_stop stopped (stop_of event s w) (with_events (happened_at event s w ∷ []) (pass ∷ []) runs))
+  came_reread true (Ok rules) = record { first = λ e. starts_reread s runs reads.0 h; ended = runs_more runs.ended (record { events = runs.last ++ happened_at event s w ∷ []; passes = runs.passes ++ pass ∷ []; stop = Some (stop_of event s w) }) h.ended hs; last = tt }
   came_reread true (Err fault) = tt
   came_reread false loaded = record { first = λ e. starts_reread s runs reads.0 h; ended = h.ended; last = hs }
 
-  event_reread : (stopped : Bool) (came : LineOutcome Played) (can has : Bool) → RereadBy (in_script s came) (with_stop stopped (stop_of event s w) (with_events (happened_at event s w ∷ []) runs))
-      → RereadBy (cond can (in_script s (cond has came (Refused BadLine (record { daemon = daemon_in s; world = w; disk = disk_in s })))) (Refused InputTooLong (Some s, w))) (with_stop stopped (stop_of event s w) (with_events (cond (can && has) (happened_at event s w ∷ []) []) runs))
+  event_reread : (stopped : Bool) (came : LineOutcome Played) (can has : Bool) → RereadBy (in_script s came) (with_stop stopped (stop_of event s w) (with_events (happened_at event s w ∷ []) (pass ∷ []) runs))
+      → RereadBy (cond can (in_script s (cond has came (Refused BadLine (record { daemon = daemon_in s; world = w; disk = disk_in s })))) (Refused InputTooLong (Some s, w))) (with_stop stopped (stop_of event s w) (with_events (cond (can && has) (happened_at event s w ∷ []) []) (cond (can && has) (pass ∷ []) []) runs))
   event_reread stopped came true true k = k
   event_reread stopped came true false k = tt
   event_reread stopped came false has k = tt
 
 restart_reread : (s : Script) (w : World) (runs : EventsOfRuns) (can : Bool) (loaded : Result (List Rule) LineRefusal) → FirstReads s → Reread s runs → RereadBy (cond can (restarted loaded s w) (Refused InputTooLong (Some s, w))) (with_end None runs)
-restart_reread s w runs true (Ok rules) reads h = record { first = λ e. starts_reread s runs reads h; ended = runs_more runs.ended (record { events = runs.last; stop = None }) h.ended h.last; last = tt }
+restart_reread s w runs true (Ok rules) reads h = record { first = λ e. starts_reread s runs reads h; ended = runs_more runs.ended (record { events = runs.last; passes = runs.passes; stop = None }) h.ended h.last; last = tt }
 restart_reread s w runs true (Err fault) reads h = tt
 restart_reread s w runs false loaded reads h = tt
 
@@ -120,8 +120,8 @@ step_reread (Move action) s w runs reads h = closed_reread s s.planned runs h
 step_reread (Schedule x) s w runs reads h = plan_reread x s w runs h
 step_reread (Event event) s w runs reads h =
     let p = event_of event s w in
-    event_reread event s w runs reads h p.disk.stopped (came_of s.setup s.planned p) (can_start s.setup s.phase) (has_numbers (daemon_in s) w.faults (disk_in s).faults)
-    (came_reread event s w runs reads h p.disk.stopped (rules_from s.setup.folder.count p.disk.disk.text))
+    event_reread event s w (pass_at event s w) runs reads h p.disk.stopped (came_of s.setup s.planned p) (can_start s.setup s.phase) (has_numbers (daemon_in s) w.faults (disk_in s).faults)
+    (came_reread event s w (pass_at event s w) runs reads h p.disk.stopped (rules_from s.setup.folder.count p.disk.disk.text))
 step_reread Restart s w runs reads h = restart_reread s w runs (can_start s.setup s.phase) (rules_from s.setup.folder.count (disk_in s).disk.text) reads h
 
 line_reread : (step : Option Step) (s : Script) (w : World) (runs : EventsOfRuns) → StepReads step s w → Reread s runs → RereadBy (taken_if step s w) (runs_by step s w runs)

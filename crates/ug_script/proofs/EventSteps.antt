@@ -325,20 +325,20 @@ stopped_steps setup call p d w o before after r ended starts read c =
     ∙ ap (λ (x : DiskWorld). record { daemon = next.daemon; world = over p.world; disk = x }) read in
     subst (λ (x : Result (List types.Rule) LineRefusal). Steps (stopped_of setup call p x) (record { daemon = d; world = w; disk = o }) before after r) (sym starts.loaded) (text_steps (stopped_text call p.daemon.sweep.entries) next (record { daemon = d; world = w; disk = o }) before after r same c)
 
-came_by : (setup : SetupState) (plan : List Planned) (p x : Played) (d : DaemonState) (w : World) (o : DiskWorld) (before after : Option (List ℕ)) (r : Ran) → p ≡ x → w ≡ over p.world → Steps (came_of setup plan p) (record { daemon = d; world = over p.world; disk = o }) before after r → Steps (came_of setup plan x) (record { daemon = d; world = w; disk = o }) before after r
-came_by setup plan p x d w o before after r same ended h = subst (λ (y : Played). Steps (came_of setup plan y) (record { daemon = d; world = w; disk = o }) before after r) same (subst (λ (v : World). Steps (came_of setup plan p) (record { daemon = d; world = v; disk = o }) before after r) (sym ended) h)
+came_by : (setup : SetupState) (plan : List Planned) (p x : Played) (d : DaemonState) (w : World) (o : DiskWorld) (before after : Option (List ℕ)) (r : Ran) → p ≡ x → Steps (came_of setup plan p) (record { daemon = d; world = w; disk = o }) before after r → Steps (came_of setup plan x) (record { daemon = d; world = w; disk = o }) before after r
+came_by setup plan p x d w o before after r same h = subst (λ (y : Played). Steps (came_of setup plan y) (record { daemon = d; world = w; disk = o }) before after r) same h
 
 -- an event in which it stopped, or didn't
 pub came_stopped : (setup : SetupState) (plan : List Planned) (p x : Played) (call : ℕ) (d : DaemonState) (w : World) (o : DiskWorld) (before after : Option (List ℕ)) (r : Ran) → p ≡ x → p.disk.stopped ≡ true → call ≡ stop_in plan p → w ≡ over p.world → Steps (stopped_of setup call p (rules_from setup.folder.count p.disk.disk.text)) (record { daemon = d; world = over p.world; disk = o }) before after r → Steps (came_of setup plan x) (record { daemon = d; world = w; disk = o }) before after r
 came_stopped setup plan p x call d w o before after r same stopped at ended h =
     let there : Steps (stopped_of setup (stop_in plan p) p (rules_from setup.folder.count p.disk.disk.text)) (record { daemon = d; world = over p.world; disk = o }) before after r = subst (λ (n : ℕ). Steps (stopped_of setup n p (rules_from setup.folder.count p.disk.disk.text)) (record { daemon = d; world = over p.world; disk = o }) before after r) at h in
-    let came : Steps (came_of setup plan p) (record { daemon = d; world = over p.world; disk = o }) before after r = subst (λ (b : Bool). Steps (cond b (stopped_of setup (stop_in plan p) p (rules_from setup.folder.count p.disk.disk.text)) (finished p)) (record { daemon = d; world = over p.world; disk = o }) before after r) (sym stopped) there in
-    came_by setup plan p x d w o before after r same ended came
+    let came : Steps (came_of setup plan p) (record { daemon = d; world = over p.world; disk = o }) before after r = subst (λ (b : Bool). Steps (cond b (stopped_of setup (stop_in plan p) p (rules_from setup.folder.count p.disk.disk.text)) (finished setup.ifaces p)) (record { daemon = d; world = over p.world; disk = o }) before after r) (sym stopped) there in
+    came_by setup plan p x d w o before after r same (subst (λ (v : World). Steps (came_of setup plan p) (record { daemon = d; world = v; disk = o }) before after r) (sym ended) came)
 
-pub came_ended : (setup : SetupState) (plan : List Planned) (p x : Played) (d : DaemonState) (w : World) (o : DiskWorld) (before after : Option (List ℕ)) (r : Ran) → p ≡ x → p.disk.stopped ≡ false → w ≡ over p.world → Steps (finished p) (record { daemon = d; world = over p.world; disk = o }) before after r → Steps (came_of setup plan x) (record { daemon = d; world = w; disk = o }) before after r
-came_ended setup plan p x d w o before after r same stopped ended h =
-    came_by setup plan p x d w o before after r same ended
-    (subst (λ (b : Bool). Steps (cond b (stopped_of setup (stop_in plan p) p (rules_from setup.folder.count p.disk.disk.text)) (finished p)) (record { daemon = d; world = over p.world; disk = o }) before after r) (sym stopped) h)
+pub came_ended : (setup : SetupState) (plan : List Planned) (p x : Played) (d : DaemonState) (w : World) (o : DiskWorld) (before after : Option (List ℕ)) (r : Ran) → p ≡ x → p.disk.stopped ≡ false → Steps (finished setup.ifaces p) (record { daemon = d; world = w; disk = o }) before after r → Steps (came_of setup plan x) (record { daemon = d; world = w; disk = o }) before after r
+came_ended setup plan p x d w o before after r same stopped h =
+    came_by setup plan p x d w o before after r same
+    (subst (λ (b : Bool). Steps (cond b (stopped_of setup (stop_in plan p) p (rules_from setup.folder.count p.disk.disk.text)) (finished setup.ifaces p)) (record { daemon = d; world = w; disk = o }) before after r) (sym stopped) h)
 
 abbrev place : Script → Played → Option Script × World
 place s p = (Some (with_played s p), p.world)

@@ -1,5 +1,5 @@
 -- Events, readings and starts keep a script's rule file one that a daemon starts with.
-use Rattle.std.proofs.Common.{◌≡◌, ℕ, ◌+◌, ◌≤◌, arith, Bool, true, false, cond, if◌then◌else◌, List, [], ◌∷◌, ◌++◌, filter, length, map, Option, Some, None, Result, Ok, Err, OnOk, OnErr, inl, inr, ◌⊎◌, refl, sym, ◌∙◌, ap, subst}
+use Rattle.std.proofs.Common.{◌≡◌, ℕ, ◌+◌, ◌≤◌, arith, Bool, true, false, cond, List, [], ◌∷◌, ◌++◌, filter, length, map, Option, Some, None, Result, Ok, Err, OnOk, OnErr, inl, inr, ◌⊎◌, refl, sym, ◌∙◌, ap, subst}
 use Rattle.std.proofs.lemmas.Option.{same_Some}
 use Rattle.ug_types.specs.Elements.{Has}
 use Rattle.ug_types.proofs.Elements.{has_cases}
@@ -29,7 +29,6 @@ use Rattle.ug_core.specs.declared.storing.Stored.{Stored}
 use Rattle.ug_core.specs.declared.storing.Stored.TheVariants as stored
 use Rattle.ug_core.proofs.Numbering.{entries_length, start_length}
 use Rattle.ug_core.proofs.Stopped.{written_file}
-use Rattle.ug_command_io.specs.Fold.{LineRefusal}
 use Rattle.ug_script.specs.FolderLines.{HasLines}
 use Rattle.ug_script.specs.RuleFiles.{HasFolder, IsStillOn, StaysReadable, is_given, is_startable}
 use Rattle.ug_script.specs.Setup.{SetupState, StartsOn, folder_of, policy_of, rules_from}
@@ -120,13 +119,6 @@ event_files before event tried became d o e p file writes saves folder was ran =
 
 -- ---- a start
 
-pub still_files : (before : ℕ) (o p : DiskWorld) → IsStillOn o p → StaysReadable before o → StaysReadable before p
-still_files before o p still was ran =
-    let f = was (sym still.ran_out ∙ ran) in (
-      λ c h. f.0 c (subst (λ (i : Images). IsImage i c) still.left h),
-      λ never. f.1 (λ h. never (subst (λ (i : Images). IsImage i p.disk.text) (sym still.left) (subst (λ (t : List ℕ). IsImage o.disk.left t) (sym still.text) h))),
-    )
-
 -- a daemon starts with the text that a stop left
 pub left_starts : (before : ℕ) (o : DiskWorld) → StaysReadable before o → o.ran_out ≡ false → is_startable before o.disk.text ≡ true
 left_starts before o was alive = by_start (is_startable before o.disk.text) refl
@@ -172,16 +164,6 @@ still_on faults outset (Err e) o result t h ran = same_still o t h.1
 
 pub start_still : (faults : DiskWorld → ℕ) (outset : Outset) (files : List FolderFile) (o : DiskWorld) (result : Result DaemonState StartFault) (t : DiskWorld) → Starts MemKeeps disk_told faults outset files o result t → t.ran_out ≡ false → IsStillOn o t
 start_still faults outset files o result t h ran = still_on faults outset h.folder o result t h.starts ran
-
-pub still_then : (before : ℕ) (o p : DiskWorld) → (p.ran_out ≡ false → IsStillOn o p) → StaysReadable before o → StaysReadable before p
-still_then before o p still was ran = still_files before o p (still ran) was ran
-
--- a text that a daemon starts with is not refused
-pub given_never : {X : Type 0} (before : ℕ) (text : List ℕ) (e : LineRefusal) → is_startable before text ≡ true → rules_from before text ≡ Err e → X
-given_never before text e h is =
-    let other : false ≡ true = sym (ap is_given is) ∙ h in
-    let none : ⊥ = cc in
-    absurd none
 
 -- a new daemon has the rules of the setup's folder
 pub starts_with_folder : (setup : SetupState) (held : HasLines setup.folder.files setup.folder.count) (number : ℕ) (o : DiskWorld) (d : DaemonState) → StartsOn setup number o d → HasFolder setup.folder.count d

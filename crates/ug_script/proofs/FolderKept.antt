@@ -1,8 +1,8 @@
 -- An event keeps the rules of the folder, and what it writes leaves room for them.
 use Rattle.std.proofs.Common.{◌≡◌, ℕ, ◌+◌, ◌≤◌, ◌⊎◌, Bool, true, false, not, ◌&&◌, ◌||◌, cond, if◌then◌else◌, zero, suc, List, [], ◌∷◌, ◌++◌, filter, flat_map, length, map, Option, Some, None, Result, Ok, Err, inl, inr, refl, sym, ap, subst, ◌∙◌, arith}
 use Rattle.std.specs.Option.{option_map}
-use Rattle.std.specs.List.{insert, list_any}
-use Rattle.ug_types.specs.Elements.{Has, AllDistinct}
+use Rattle.std.specs.List.{insert}
+use Rattle.ug_types.specs.Elements.{Has}
 use Rattle.ug_types.specs.Principals.{Named}
 use Rattle.ug_types.specs.declared.record.Judged.{Judged}
 use Rattle.ug_types.specs.declared.record.Judged.TheVariants as judged
@@ -18,7 +18,7 @@ use Rattle.ug_kernel.specs.Calls.{Call, Answer, ToldAnswer}
 use Rattle.ug_kernel.specs.declared.calls.Probe.{Probe}
 use Rattle.ug_kernel.specs.Tree.{Runs}
 use Rattle.ug_policy.specs.Edits.{at_front, followed, has_id, inserted, new_entry, removed, retargeted, aimed}
-use Rattle.ug_policy.specs.Marks.{FolderFirst, folder_end, is_folder, is_permanent}
+use Rattle.ug_policy.specs.Marks.{folder_end, is_folder, is_permanent}
 use Rattle.ug_policy.specs.Rules.{IsNumbered, ids, marks}
 use Rattle.ug_policy.specs.declared.entry.Mark.{Mark}
 use Rattle.ug_policy.specs.declared.entry.Mark.TheVariants as mark
@@ -26,7 +26,7 @@ use Rattle.ug_policy.specs.declared.entry.RuleEntry.{RuleEntry}
 use Rattle.ug_rule.specs.Files.{file_read}
 use Rattle.ug_rule.specs.Rules.{rule_read}
 use Rattle.ug_rule.specs.declared.fault.Fault.{Fault}
-use Rattle.ug_ruleset.specs.RuleEdits.{CanEdit, changes_file, edited_by}
+use Rattle.ug_ruleset.specs.RuleEdits.{CanEdit, edited_by}
 use Rattle.ug_ruleset.specs.RuleFile.{IsRuleFile, as_given, permanent_rules, permanent_text}
 use Rattle.ug_ruleset.specs.RulePlaces.{has_folder_rule, made_rule}
 use Rattle.ug_ruleset.specs.declared.edit.Edit.{Edit}
@@ -39,10 +39,10 @@ use Rattle.ug_store.specs.DiskCalls.{DiskCall, DiskTold}
 use Rattle.ug_table.specs.Standings.{numbered}
 use Rattle.ug_table.specs.declared.standing.Standing.{Standing}
 use Rattle.ug_types.specs.declared.saved.Saved.{Saved}
-use Rattle.ug_core.specs.Changes.{CanChange, ChangeSaves, change_asked, changed_by, edit_for, is_saved, ordered_mark, record_change, rule_asked, setting_asked, standing_change, text_if_saved, text_to_save, verdict_edit}
+use Rattle.ug_core.specs.Changes.{CanChange, ChangeSaves, change_asked, changed_by, edit_for, is_saved, ordered_mark, record_change, rule_asked, setting_asked, standing_change, text_if_saved, text_to_save}
 use Rattle.ug_core.specs.Durable.{WritesEvent, as_list, change_ordered, if_written, text_of_change, texts_of}
 use Rattle.ug_core.specs.Event.{DaemonState, handling, ready}
-use Rattle.ug_core.specs.Laws.{Outcome, RunsAnswer, if_watching, outcome_of_change}
+use Rattle.ug_core.specs.Laws.{Outcome, RunsAnswer, if_watching}
 use Rattle.ug_core.specs.Policy.{Judging}
 use Rattle.ug_core.specs.Privileges.{is_granted}
 use Rattle.ug_core.specs.Storing.{WritesRules, has_written, noted_store, with_changes}
@@ -59,7 +59,6 @@ use Rattle.ug_core.proofs.Changed.{numbered_changed}
 use Rattle.ug_core.proofs.Kept.{asked_anytime}
 use Rattle.ug_core.proofs.Plain.{event_keeps_rules}
 use Rattle.ug_script.specs.RuleFiles.{HasFolder}
-use Rattle.ug_script.specs.Setup.{folder_of}
 use Rattle.ug_script.proofs.Filed.{KeepsFolder, among}
 use Rattle.ug_script.proofs.Setups.{folder_in}
 

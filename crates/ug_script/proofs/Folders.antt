@@ -1,5 +1,5 @@
 -- The files of `folder` lines, a line at a time.
-use Rattle.std.proofs.Common.{◌≡◌, ℕ, zero, suc, ◌+◌, ◌<◌, ◌≤◌, Bool, true, false, if◌then◌else◌, nat_eq, List, [], ◌∷◌, ◌++◌, get_or, set, length, map, flat_map, Result, Ok, Err, OnOk, OnErr, inl, inr, refl, sym, ap, subst, ◌∙◌, append_assoc, append-nil, length-append, arith}
+use Rattle.std.proofs.Common.{◌≡◌, ℕ, zero, suc, ◌+◌, ◌<◌, ◌≤◌, Bool, true, false, if◌then◌else◌, nat_eq, List, [], ◌∷◌, ◌++◌, get_or, set, length, Result, Ok, Err, OnOk, OnErr, refl, sym, ap, subst, ◌∙◌, append_assoc, append-nil, length-append, arith}
 use Rattle.std.specs.Prelude.{All}
 use Rattle.std.specs.Cmp.Lexicographic.{pointwise, same_text, slice_cmp}
 use Rattle.std.specs.FinMap.{nat_cmp-IsAntisymmetric, slice_cmp-IsAntisymmetric}
@@ -28,7 +28,7 @@ use Rattle.ug_rule.proofs.Texts.{read-rules}
 use Rattle.ug_core.specs.Starting.{AreAscending}
 use Rattle.ug_script.specs.declared.folder_lines.FileText.{FileText}
 use Rattle.ug_script.specs.declared.step.FolderLine.{FolderLine}
-use Rattle.ug_script.specs.FolderLines.{AreFilesOf, AreRuleLines, HasLines, HoldsRule, HoldsRules, IsPlaceOf, LineBefore, NoLine, ScriptFolder, ended_line, file_of, files_of, line_at, lines_length, lines_under, no_folder, one_line_file, rules_in_folder, text_under, with_line, with_line_in}
+use Rattle.ug_script.specs.FolderLines.{AreFilesOf, AreRuleLines, HasLines, HoldsRule, HoldsRules, IsPlaceOf, LineBefore, NoLine, ended_line, file_of, files_of, line_at, lines_length, lines_under, one_line_file, rules_in_folder, text_under, with_line_in}
 use Rattle.ug_script.specs.RuleLines.{rules_kept, rules_or_none}
 use Rattle.ug_script.proofs.AccessLines.{is_line}
 

@@ -62,7 +62,7 @@ pub record Holds (standings : List Standing) (next : ℕ) (w : World) : Type 0 w
 abbrev pub HoldsOf : DaemonState → World → Type 0
 HoldsOf d w = Holds d.sweep.standings d.sweep.next w
 
-moves_on : (ss : List Standing) (next : ℕ) (k l : Kernel) → Moves k l → Stand k ss next → Stand l ss next
+pub moves_on : (ss : List Standing) (next : ℕ) (k l : Kernel) → Moves k l → Stand k ss next → Stand l ss next
 moves_on ss next k l m s = stand_stays k l ss next (quiet_grows k l (moves_quiet k l m)) s
 
 pub told_at : (w : World) → w.ran_out ≡ false → told w ≡ Some w.kernel

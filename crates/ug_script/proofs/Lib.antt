@@ -19,6 +19,8 @@ pub mod Numbers
 pub mod Setups
 pub mod Skimmed
 pub mod FileTexts
+mod KeptRuns
+mod KeptEnds
 pub mod Journals
 pub mod Carrying
 pub mod Filed
@@ -41,3 +43,12 @@ pub mod MoveLines
 pub mod Births
 pub mod Against
 pub mod Roomless
+mod PassPlays
+mod PassWalk
+mod PassBehind
+mod PassSure
+mod PassRuns
+mod BusSound
+mod PassFaults
+mod FewStandings
+mod PassFits

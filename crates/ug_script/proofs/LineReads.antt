@@ -1,5 +1,5 @@
 -- Each line is read as its grammar says.
-use Rattle.std.proofs.Common.{◌≡◌, ℕ, ◌+◌, inl, inr, ◌↔◌, Bool, true, false, ◌&&◌, ◌||◌, cond, if◌then◌else◌, nat_eq, nat_le, List, [], ◌∷◌, ◌++◌, length, Option, Some, None, Result, Ok, Err, refl, sym, ap, subst, ◌∙◌, append-nil, arith}
+use Rattle.std.proofs.Common.{◌≡◌, ℕ, inl, inr, ◌↔◌, Bool, true, false, ◌&&◌, ◌||◌, cond, if◌then◌else◌, nat_eq, nat_le, List, [], ◌∷◌, ◌++◌, length, Option, Some, None, Result, Ok, Err, refl, sym, ap, subst, ◌∙◌, append-nil, arith}
 use Rattle.std.specs.Prelude.{codes, decimal, option_and_then, option_map}
 use Rattle.std.specs.Cmp.Lexicographic.{pointwise, same_text}
 use Rattle.std.specs.List.{starts_with}
@@ -21,6 +21,9 @@ use Rattle.ug_proto.proofs.Numerals.{decimal_plain}
 use Rattle.ug_store.specs.declared.mishap.Mishap.{Mishap}
 use Rattle.ug_store.specs.declared.mishap.Mishap.TheVariants.{NoEffect, Effect}
 use Rattle.ug_store.specs.declared.mishap.Planned.{Planned}
+use Rattle.ug_iface.specs.declared.rules.IfaceRule.{IfaceRule}
+use Rattle.ug_iface.specs.Rules.{LineFault, iface_rule_read}
+use Rattle.ug_iface.proofs.Lines.{line_cut, line_reads as iface_line_reads}
 use Rattle.ug_sysfs.specs.declared.script.Failing.{Failing}
 use Rattle.ug_sysfs.specs.declared.script.IfaceMove.TheVariants.{Add, Remove}
 use Rattle.ug_sysfs.specs.declared.script.Move.{Move}
@@ -38,7 +41,7 @@ use Rattle.ug_script.specs.declared.step.SetupLine.{SetupLine}
 use Rattle.ug_script.specs.declared.step.SetupLine.TheVariants as setup
 use Rattle.ug_script.specs.declared.step.Step.{Step}
 use Rattle.ug_script.specs.declared.step.Step.TheVariants as step
-use Rattle.ug_script.specs.Grammar.{disk_fail_of, failing_at, failing_of, fails_on_disk, folder_line_of, grant_of, granting, in_access, in_rule, is_effect, is_fail, left_by, mishap_of, move_behind, move_by, move_of, order_at, order_of, scheduled_at, scheduled_of, step_behind, step_by, step_of_line, stop_of, stopping_at}
+use Rattle.ug_script.specs.Grammar.{disk_fail_of, failing_at, failing_of, fails_on_disk, folder_line_of, grant_of, granting, in_access, in_iface_rule, in_rule, is_effect, is_fail, left_by, mishap_of, move_behind, move_by, move_of, order_at, order_of, scheduled_at, scheduled_of, step_behind, step_by, step_of_line, stop_of, stopping_at}
 use Rattle.ug_script.specs.IfaceLines.{iface_name_of, new_iface_of}
 use Rattle.ug_script.specs.LineGrammar.{AsksFor, IsCall, IsDiskFail, IsEventLine, IsMoment, IsMoveLine, IsOrderLine, IsPassedOver, IsPlanLine, IsPlug, IsScheduled, IsSetupLine, IsShortName, IsStopLine, effect_words, left_words, mishap_words, start_word, when_word}
 use Rattle.ug_script.specs.LineWords.{line_word_of}
@@ -174,6 +177,7 @@ moves_so word.Conf text action h = absurd (none-some action h)
 moves_so word.Access text action h = absurd (none-some action h)
 moves_so word.Seed text action h = absurd (none-some action h)
 moves_so word.Zone text action h = absurd (none-some action h)
+moves_so word.IfaceRule text action h = absurd (none-some action h)
 
 move_so : (line : List ℕ) (action : Move) → move_of line ≡ Some action → IsMoveLine line action
 move_so line action h =
@@ -402,6 +406,13 @@ access_so text line h =
 
 -- ---- all lines
 
+iface_rule_so : (text : List ℕ) (asked : SetupLine) → in_iface_rule (iface_rule_read text) ≡ Some asked → IsSetupLine (codes "iface-rule " ++ text) asked
+iface_rule_so text asked h = by (iface_rule_read text) refl h
+  where
+    by : (r : Result IfaceRule LineFault) → iface_rule_read text ≡ r → in_iface_rule r ≡ Some asked → IsSetupLine (codes "iface-rule " ++ text) asked
+    by (Ok rule) is k = subst (IsSetupLine (codes "iface-rule " ++ text)) (same_Some (setup.IfaceRule rule) asked k) (text, refl, line_cut text rule is)
+    by (Err fault) is k = absurd (none-some asked k)
+
 behind_so : (w : LineWord) (text : List ℕ) (asked : Step) → step_behind w text ≡ Some asked → AsksFor (word_text w ++ 32 ∷ text) asked
 unfolding step_behind
 behind_so word.Plug text asked h = let m = mapped (λ device. step.Move (move.Plug device)) (device_of text) asked h in subst (AsksFor (codes "plug " ++ text)) m.2 (plug_so text m.0 m.1)
@@ -433,6 +444,7 @@ behind_so word.Seed text asked h =
     let s = seed_so text m.0 m.1 in
     subst (AsksFor (codes "seed " ++ text)) m.2 (text, refl, s.0, s.1)
 behind_so word.Zone text asked h = let m = mapped (λ offset. step.Setup (setup.Zone offset)) (offset_of text) asked h in subst (AsksFor (codes "zone " ++ text)) m.2 (zone_so text m.0 m.1)
+behind_so word.IfaceRule text asked h = let m = mapped step.Setup (in_iface_rule (iface_rule_read text)) asked h in subst (AsksFor (codes "iface-rule " ++ text)) m.2 (iface_rule_so text m.0 m.1)
 
 has_some : (b : ℕ) (text : List ℕ) → nat_eq (length (b ∷ text)) 0 ≡ false
 has_some b text = grind (arith, nat_tests)
@@ -497,6 +509,7 @@ reads_on word.Conf text = reads_further 99 (codes "onf " ++ text) refl refl
 reads_on word.Access text = reads_further 97 (codes "ccess " ++ text) refl refl
 reads_on word.Seed text = reads_further 115 (codes "eed " ++ text) refl refl
 reads_on word.Zone text = reads_further 122 (codes "one " ++ text) refl refl
+reads_on word.IfaceRule text = reads_further 105 (codes "face-rule " ++ text) refl refl
 
 line_reads : (w : LineWord) (line text : List ℕ) (o : Option Step) → line ≡ word_text w ++ 32 ∷ text → step_behind w text ≡ o → step_of_line line ≡ o
 line_reads w line text o is h = ap step_of_line is ∙ reads_on w text ∙ behind_read w text ∙ h
@@ -533,6 +546,7 @@ so_setup line (setup.Conf text) is = line_reads word.Conf line text _ is refl
 so_setup line (setup.Access a) (text, is, gives) = line_reads word.Access line text _ is (ap (option_map step.Setup) ((access_text text a).1 gives))
 so_setup line (setup.Seed seed) (digits, is, hex, long) = line_reads word.Seed line digits _ is (ap (option_map (λ seed. step.Setup (setup.Seed seed))) (so_seed digits seed hex long))
 so_setup line (setup.Zone offset) z = let d = so_zone line offset z in line_reads word.Zone line d.0 _ d.1 (ap (option_map (λ offset. step.Setup (setup.Zone offset))) d.2)
+so_setup line (setup.IfaceRule rule) (text, is, says) = line_reads word.IfaceRule line text _ is (ap (λ (r : Result IfaceRule LineFault). option_map step.Setup (in_iface_rule r)) (iface_line_reads text rule says))
 
 so_moved : (line : List ℕ) (action : Move) → IsMoveLine line action → step_of_line line ≡ Some (step.Move action)
 unfolding step_behind

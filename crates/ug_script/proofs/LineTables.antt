@@ -42,10 +42,11 @@ word_text word.Conf = codes "conf"
 word_text word.Access = codes "access"
 word_text word.Seed = codes "seed"
 word_text word.Zone = codes "zone"
+word_text word.IfaceRule = codes "iface-rule"
 
 setup_word_written : (text : List ℕ) (it : LineWord) → setup_word_of text ≡ Some it → text ≡ word_text it
 unfolding setup_word_of
-setup_word_written text it h = named word_text text (codes "rule") word.Rule it _ refl (λ h. named word_text text (codes "folder") word.Folder it _ refl (λ h. named word_text text (codes "conf") word.Conf it _ refl (λ h. named word_text text (codes "access") word.Access it _ refl (λ h. named word_text text (codes "seed") word.Seed it _ refl (λ h. named word_text text (codes "zone") word.Zone it _ refl (λ h. absurd (none-some it h)) h) h) h) h) h) h
+setup_word_written text it h = named word_text text (codes "rule") word.Rule it _ refl (λ h. named word_text text (codes "folder") word.Folder it _ refl (λ h. named word_text text (codes "conf") word.Conf it _ refl (λ h. named word_text text (codes "access") word.Access it _ refl (λ h. named word_text text (codes "seed") word.Seed it _ refl (λ h. named word_text text (codes "zone") word.Zone it _ refl (λ h. named word_text text (codes "iface-rule") word.IfaceRule it _ refl (λ h. absurd (none-some it h)) h) h) h) h) h) h) h
 
 plan_word_written : (text : List ℕ) (it : LineWord) → plan_word_of text ≡ Some it → text ≡ word_text it
 unfolding plan_word_of
@@ -74,6 +75,7 @@ line_word_read word.Conf = refl
 line_word_read word.Access = refl
 line_word_read word.Seed = refl
 line_word_read word.Zone = refl
+line_word_read word.IfaceRule = refl
 
 pub word_apart : (it : LineWord) → ¬ Has (word_text it) 32
 word_apart word.Plug = apart_by (codes "plug") refl
@@ -93,6 +95,7 @@ word_apart word.Conf = apart_by (codes "conf") refl
 word_apart word.Access = apart_by (codes "access") refl
 word_apart word.Seed = apart_by (codes "seed") refl
 word_apart word.Zone = apart_by (codes "zone") refl
+word_apart word.IfaceRule = apart_by (codes "iface-rule") refl
 
 -- ---- starts
 

@@ -122,7 +122,7 @@ call_few (Ask_alive held) answer ms s u k g = omega arith
 call_few (Put held write) answer ms s u k g = omega arith
 call_few (Close held) answer ms s u k g = omega arith
 
-found_few : (ms : List Made) (s t : World) → IsKernel s.kernel → Along Gives s ms t → found ms ≤ 65536
+pub found_few : (ms : List Made) (s t : World) → IsKernel s.kernel → Along Gives s ms t → found ms ≤ 65536
 found_few [] s t k a = omega arith
 found_few (m ∷ ms) s t k a = call_few m.call m.answer ms s a.0 k a.1
 
@@ -136,7 +136,7 @@ raises (Ask_alive held) answer c f d g h = h.by_one
 raises (Put held write) answer c f d g h = h.by_one
 raises (Close held) answer c f d g h = omega (arith, h.1)
 
-along_faults : (ms : List Made) (s t : World) → Along Gives s ms t → t.faults ≤ s.faults + count_calls ms
+pub along_faults : (ms : List Made) (s t : World) → Along Gives s ms t → t.faults ≤ s.faults + count_calls ms
 along_faults [] s t a = let same = ap (λ (w : World). w.faults) a in omega (arith, same)
 along_faults (m ∷ ms) s t a =
     let one = raises m.call m.answer s.calls s.faults a.0.calls a.0.faults (counts_each s m.call m.answer a.0 a.1) in
@@ -173,7 +173,7 @@ few_calls P p w most ways few =
     omega (arith, faults, low)
 
 -- an order has five calls of the kernel at most
-answer_calls : (event : Event) (d : DaemonState) (w : World) (o : DiskWorld) → o.ran_out ≡ false → (order_played_by event d w o).world.faults ≤ w.faults + 5
+pub answer_calls : (event : Event) (d : DaemonState) (w : World) (o : DiskWorld) → o.ran_out ≡ false → (order_played_by event d w o).world.faults ≤ w.faults + 5
 answer_calls (Sweep moment) d w o out = omega arith
 answer_calls (Order moment who line) d w o out =
     let c = play (asking d who line) w in

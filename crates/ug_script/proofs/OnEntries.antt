@@ -56,14 +56,20 @@ halted_good o w g = (
   subst (λ (k : Kernel). HasOnEntries k) (sym (halted_kernel o w)) g.2,
 )
 
--- an event, and what is still to come behind it
-pub event_on_entries : (event : Event) (d : DaemonState) (w : World) (o : DiskWorld) → HoldsOf d w → HasOnEntries w.kernel → HasOnEntries (over (event_from event d w o).world).kernel
-event_on_entries event d w o h g =
+-- an event
+pub event_ends_on_entries : (event : Event) (d : DaemonState) (w : World) (o : DiskWorld) → HoldsOf d w → HasOnEntries w.kernel → HasOnEntries (event_from event d w o).world.kernel
+event_ends_on_entries event d w o h g =
     let a = answered_from event d w o in
     let p = event_from event d w o in
     let start : IsGood (start_of d w o) = halted_good (tried_by d o).1 (event_begun w) (h.told, h.sound, g) in
     let good : IsGood p.world = play_good (handling a.daemon) (halted a.disk a.world) (halted_good a.disk a.world (answered_good event (ready event (tried_by d o).0 d) (start_of d w o) (tried_by d o).1 start)) in
-    moves_on_entries p.world.kernel (over p.world).kernel (happened_moves p.world.moves p.world.kernel) good.2
+    good.2
+
+-- and what is still to come behind it
+pub event_on_entries : (event : Event) (d : DaemonState) (w : World) (o : DiskWorld) → HoldsOf d w → HasOnEntries w.kernel → HasOnEntries (over (event_from event d w o).world).kernel
+event_on_entries event d w o h g =
+    let p = event_from event d w o in
+    moves_on_entries p.world.kernel (over p.world).kernel (happened_moves p.world.moves p.world.kernel) (event_ends_on_entries event d w o h g)
 
 -- ---- behind each call
 

@@ -15,6 +15,7 @@ rule_asks line (setup.Conf text) h = tt
 rule_asks line (setup.Access a) h = tt
 rule_asks line (setup.Seed seed) h = tt
 rule_asks line (setup.Zone offset) h = tt
+rule_asks line (setup.IfaceRule rule) h = tt
 
 asks : (line : List ℕ) (asked : Step) → AsksFor line asked → AsksForRules asked
 asks line step.Skip h = tt

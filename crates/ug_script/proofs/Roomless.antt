@@ -122,6 +122,7 @@ gives_rules before (setup.Conf text) = gives_when before (setup.Conf text) (is_e
 gives_rules before (setup.Access line) = (sym (append-nil before.rules), sym (add-zero (folder_length before.folder.files)))
 gives_rules before (setup.Seed seed) = gives_when before (setup.Seed seed) _ (Some _) (sym (append-nil before.rules), sym (add-zero (folder_length before.folder.files)))
 gives_rules before (setup.Zone offset) = gives_when before (setup.Zone offset) _ (Some _) (sym (append-nil before.rules), sym (add-zero (folder_length before.folder.files)))
+gives_rules before (setup.IfaceRule rule) = (sym (append-nil before.rules), sym (add-zero (folder_length before.folder.files)))
 
 sets_added : (s : Script) (w : World) (line : SetupLine) (o : Option SetupState) → GivesRules s.setup line o → SetsAfter s (Some (Setup line)) (line_added o s w)
 sets_added s w line None h = tt
@@ -143,9 +144,9 @@ sets_stopped : (s : Script) (event : events.Event) (call : ℕ) (p : Played) (lo
 sets_stopped s event call p (Ok rules) = sets_played s event (begun_again s.setup rules p)
 sets_stopped s event call p (Err fault) = tt
 
-sets_came : (s : Script) (event : events.Event) (p : Played) (stopped : Bool) → SetsAfter s (Some (Event event)) (in_script s (cond stopped (stopped_of s.setup (stop_in s.planned p) p (rules_from s.setup.folder.count p.disk.disk.text)) (finished p)))
+sets_came : (s : Script) (event : events.Event) (p : Played) (stopped : Bool) → SetsAfter s (Some (Event event)) (in_script s (cond stopped (stopped_of s.setup (stop_in s.planned p) p (rules_from s.setup.folder.count p.disk.disk.text)) (finished s.setup.ifaces p)))
 sets_came s event p true = sets_stopped s event (stop_in s.planned p) p (rules_from s.setup.folder.count p.disk.disk.text)
-sets_came s event p false = sets_played s event (left_played p)
+sets_came s event p false = sets_played s event (left_played s.setup.ifaces p)
 
 sets_event : (s : Script) (w : World) (event : events.Event) (start room : Bool) (came : LineOutcome Played) (other : Played) → SetsAfter s (Some (Event event)) (in_script s came) → SetsAfter s (Some (Event event)) (cond start (in_script s (cond room came (Refused BadLine other))) (Refused InputTooLong (Some s, w)))
 sets_event s w event true true came other h = h

@@ -17,6 +17,7 @@ use Rattle.ug_script.specs.declared.step.SetupLine.{SetupLine}
 use Rattle.ug_script.specs.declared.step.Step.{Step}
 use Rattle.ug_script.specs.declared.step.Step.TheVariants.{Event, Move, Restart, Schedule, Setup, Skip}
 use Rattle.ug_script.specs.Grammar.{step_of_line}
+use Rattle.ug_script.specs.Passes.{pass_behind}
 use Rattle.ug_script.specs.Replay.{Played, begun_again, begun_disk, came_of, event_from, finished, header, in_script, left_played, line_added, planned, quiet, restarted, script_step, stop_in, stopped_of, taken, taken_if, with_plan, with_played}
 use Rattle.ug_script.specs.Schedules.{IsSchedule, StaysScheduled, behind_event, disk_asked, fail_asked, move_asked, since_event}
 use Rattle.ug_script.specs.Script.{Phase, Script, SettingUp, Started, Unstarted, can_start, closed_phase, daemon_in, disk_in, fresh, has_started, takes_setup, with_setup_closed}
@@ -119,9 +120,9 @@ stopped_holds : (done : List (Option Step)) (text : List ℕ) (event : events.Ev
 stopped_holds done text event s call p (Ok rules) = over_holds done _ event s (begun_again s.setup rules p) p.world refl
 stopped_holds done text event s call p (Err fault) = tt
 
-came_holds : (done : List (Option Step)) (text : List ℕ) (event : events.Event) (s : Script) (p : Played) (stopped : Bool) → HoldsAfter (done ++ Some (Event event) ∷ []) text (in_script s (cond stopped (stopped_of s.setup (stop_in s.planned p) p (rules_from s.setup.folder.count p.disk.disk.text)) (finished p)))
+came_holds : (done : List (Option Step)) (text : List ℕ) (event : events.Event) (s : Script) (p : Played) (stopped : Bool) → HoldsAfter (done ++ Some (Event event) ∷ []) text (in_script s (cond stopped (stopped_of s.setup (stop_in s.planned p) p (rules_from s.setup.folder.count p.disk.disk.text)) (finished s.setup.ifaces p)))
 came_holds done text event s p true = stopped_holds done text event s (stop_in s.planned p) p (rules_from s.setup.folder.count p.disk.disk.text)
-came_holds done text event s p false = over_holds done _ event s (left_played p) p.world refl
+came_holds done text event s p false = over_holds done _ event s (left_played s.setup.ifaces p) (pass_behind s.setup.ifaces p.daemon p.world).world refl
 
 event_holds : (done : List (Option Step)) (text : List ℕ) (event : events.Event) (s : Script) (w : World) (start room : Bool) (came : LineOutcome Played) (other : Played) → HoldsAfter (done ++ Some (Event event) ∷ []) text (in_script s came) → HoldsAfter (done ++ Some (Event event) ∷ []) text (cond start (in_script s (cond room came (Refused BadLine other))) (Refused InputTooLong (Some s, w)))
 event_holds done text event s w true true came other h = h

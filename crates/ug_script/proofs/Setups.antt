@@ -1,5 +1,5 @@
 -- What setup lines give, a line at a time.
-use Rattle.std.proofs.Common.{◌≡◌, ℕ, ◌+◌, ◌<◌, ◌≤◌, ℤ, pos, Bool, true, false, is_none, ◌&&◌, if◌then◌else◌, nat_lt, List, [], ◌∷◌, ◌++◌, filter, length, map, flat_map, Option, Some, None, Result, Ok, Err, inl, inr, refl, sym, ◌∙◌, ap, subst, arith, append_assoc, append-nil, length-append}
+use Rattle.std.proofs.Common.{◌≡◌, ℕ, ◌+◌, ◌<◌, ◌≤◌, ℤ, pos, Bool, true, false, is_none, ◌&&◌, if◌then◌else◌, List, [], ◌∷◌, ◌++◌, filter, length, map, flat_map, Option, Some, None, Result, Ok, Err, inl, inr, refl, sym, ◌∙◌, ap, subst, arith, append_assoc, append-nil, length-append}
 use Rattle.std.proofs.lemmas.Bool.Decides.{nat_tests}
 use Rattle.ug_types.specs.Elements.{Has, AllDistinct}
 use Rattle.ug_types.specs.declared.rule.Rule as types
@@ -22,15 +22,16 @@ use Rattle.ug_core.proofs.Numbering.{entries_length, start_length}
 use Rattle.ug_core.specs.Policy.{Judging}
 use Rattle.ug_ruleset.specs.RuleFile.{as_given}
 use Rattle.ug_core.specs.Verdicts.{IsLater}
+use Rattle.ug_iface.specs.declared.rules.IfaceRule as iface
 use Rattle.ug_script.specs.declared.step.AccessLine.{AccessLine}
 use Rattle.ug_script.specs.declared.step.FolderLine.{FolderLine}
 use Rattle.ug_script.specs.declared.step.SetupLine.{SetupLine}
-use Rattle.ug_script.specs.declared.step.SetupLine.TheVariants.{Rule, Folder, Conf, Access, Seed, Zone}
+use Rattle.ug_script.specs.declared.step.SetupLine.TheVariants.{Rule, Folder, Conf, Access, Seed, Zone, IfaceRule}
 use Rattle.ug_script.specs.declared.step.Step.{Step}
 use Rattle.ug_script.specs.declared.step.Step.TheVariants.{Setup}
 use Rattle.ug_script.specs.FolderLines.{AreFilesOf, HasLines, HoldsRule, rules_in_folder, with_line, with_line_in}
 use Rattle.ug_script.specs.Grammar.{AsksForRule}
-use Rattle.ug_script.specs.Setup.{SetupState, no_setup, folder_asked, folder_of, has_rule_room, is_offset, with_draft, one_line_more, everything, granted, beside_of, clock_ahead, seeded, no_seed, given_or, policy_of, setup_rule, conf_asked, access_asked, seed_asked, zone_asked, first_or, with_rules, IsSetup}
+use Rattle.ug_script.specs.Setup.{SetupState, no_setup, folder_asked, folder_of, has_rule_room, is_offset, with_draft, one_line_more, everything, granted, beside_of, clock_ahead, seeded, no_seed, given_or, policy_of, setup_rule, conf_asked, access_asked, seed_asked, zone_asked, iface_asked, first_or, with_rules, IsSetup}
 use Rattle.ug_script.specs.Words.{is_entry}
 use Rattle.ug_script.proofs.Folders.{files_more, lines_more, no_files, no_lines}
 
@@ -76,18 +77,19 @@ pub record IsGiven (n : ℕ) (done : List (Option Step)) (s : SetupState) : Type
   pub granted : s.access ≡ flat_map access_asked done
   pub seeds : flat_map seed_asked done ≡ alone s.seed
   pub zones : flat_map zone_asked done ≡ alone s.zone
+  pub ifaces : s.ifaces ≡ flat_map iface_asked done
 
 pub given_first : IsGiven 1 [] no_setup
 unfolding lines_read
-given_first = record { files = no_files; held = no_lines; rules = refl; few_rules = omega arith; listed = omega arith; read = refl; lines = refl; few = omega arith; granted = refl; seeds = refl; zones = refl }
+given_first = record { files = no_files; held = no_lines; rules = refl; few_rules = omega arith; listed = omega arith; read = refl; lines = refl; few = omega arith; granted = refl; seeds = refl; zones = refl; ifaces = refl }
 
 -- a step that isn't of the folder
 files_still : (done : List (Option Step)) (step : Option Step) (s : SetupState) → folder_asked step ≡ [] → AreFilesOf (flat_map folder_asked done) s.folder.files → AreFilesOf (flat_map folder_asked (done ++ step ∷ [])) s.folder.files
 files_still done step s none h = subst (λ (lines : List FolderLine). AreFilesOf lines s.folder.files) (sym (flat_none folder_asked done step none)) h
 
 -- a step that isn't one of setup
-pub given_still : (n : ℕ) (done : List (Option Step)) (step : Option Step) (s : SetupState) → setup_rule step ≡ [] → folder_asked step ≡ [] → conf_asked step ≡ [] → access_asked step ≡ [] → seed_asked step ≡ [] → zone_asked step ≡ [] → IsGiven n done s → IsGiven (n + 1) (done ++ step ∷ []) s
-given_still n done step s rule folder conf access seed zone h =
+pub given_still : (n : ℕ) (done : List (Option Step)) (step : Option Step) (s : SetupState) → setup_rule step ≡ [] → folder_asked step ≡ [] → conf_asked step ≡ [] → access_asked step ≡ [] → seed_asked step ≡ [] → zone_asked step ≡ [] → iface_asked step ≡ [] → IsGiven n done s → IsGiven (n + 1) (done ++ step ∷ []) s
+given_still n done step s rule folder conf access seed zone none h =
     let few_rules : s.folder.count + length s.rules ≤ n = h.few_rules in
     let few : s.settings.lines ≤ n = h.few in
     record {
@@ -102,6 +104,7 @@ given_still n done step s rule folder conf access seed zone h =
       granted = h.granted ∙ sym (flat_none access_asked done step access);
       seeds = flat_none seed_asked done step seed ∙ h.seeds;
       zones = flat_none zone_asked done step zone ∙ h.zones;
+      ifaces = h.ifaces ∙ sym (flat_none iface_asked done step none);
     }
 
 -- of what a line gives, where it may stand there
@@ -146,6 +149,7 @@ given_rule n done rule s b h =
       granted = h.granted ∙ sym (flat_none access_asked done step refl);
       seeds = flat_none seed_asked done step refl ∙ h.seeds;
       zones = flat_none zone_asked done step refl ∙ h.zones;
+      ifaces = h.ifaces ∙ sym (flat_none iface_asked done step refl);
     }
 
 given_folder : (n : ℕ) (done : List (Option Step)) (line : FolderLine) (s : SetupState) → HoldsRule line.text → has_rule_room s ≡ true → IsGiven n done s → AfterLine n done (Folder line) (record s { folder = with_line line s.folder })
@@ -166,6 +170,7 @@ given_folder n done line s rule b h =
       granted = h.granted ∙ sym (flat_none access_asked done step refl);
       seeds = flat_none seed_asked done step refl ∙ h.seeds;
       zones = flat_none zone_asked done step refl ∙ h.zones;
+      ifaces = h.ifaces ∙ sym (flat_none iface_asked done step refl);
     }
 
 -- the line of settings has the number that is next
@@ -193,6 +198,7 @@ given_conf n done text s (Ok draft) lt is h =
       granted = h.granted ∙ sym (flat_none access_asked done step refl);
       seeds = flat_none seed_asked done step refl ∙ h.seeds;
       zones = flat_none zone_asked done step refl ∙ h.zones;
+      ifaces = h.ifaces ∙ sym (flat_none iface_asked done step refl);
     }
 
 given_access : (n : ℕ) (done : List (Option Step)) (line : AccessLine) (s : SetupState) → IsGiven n done s → AfterLine n done (Access line) (record s { access = s.access ++ line ∷ [] })
@@ -212,6 +218,7 @@ given_access n done line s h =
       granted = ap (λ (l : List AccessLine). l ++ line ∷ []) h.granted ∙ sym (flat_more access_asked done step);
       seeds = flat_none seed_asked done step refl ∙ h.seeds;
       zones = flat_none zone_asked done step refl ∙ h.zones;
+      ifaces = h.ifaces ∙ sym (flat_none iface_asked done step refl);
     }
 
 given_seed : (n : ℕ) (done : List (Option Step)) (seed : List ℕ) (s : SetupState) → is_none s.seed ≡ true → IsGiven n done s → AfterLine n done (Seed seed) (record s { seed = Some seed })
@@ -231,6 +238,7 @@ given_seed n done seed s b h =
       granted = h.granted ∙ sym (flat_none access_asked done step refl);
       seeds = flat_more seed_asked done step ∙ ap (λ (l : List (List ℕ)). l ++ seed ∷ []) (h.seeds ∙ none_alone s.seed b);
       zones = flat_none zone_asked done step refl ∙ h.zones;
+      ifaces = h.ifaces ∙ sym (flat_none iface_asked done step refl);
     }
 
 given_zone : (n : ℕ) (done : List (Option Step)) (offset : ℤ) (s : SetupState) → is_none s.zone ≡ true → IsGiven n done s → AfterLine n done (Zone offset) (record s { zone = Some offset })
@@ -250,6 +258,27 @@ given_zone n done offset s b h =
       granted = h.granted ∙ sym (flat_none access_asked done step refl);
       seeds = flat_none seed_asked done step refl ∙ h.seeds;
       zones = flat_more zone_asked done step ∙ ap (λ (l : List ℤ). l ++ offset ∷ []) (h.zones ∙ none_alone s.zone b);
+      ifaces = h.ifaces ∙ sym (flat_none iface_asked done step refl);
+    }
+
+given_iface : (n : ℕ) (done : List (Option Step)) (rule : iface.IfaceRule) (s : SetupState) → IsGiven n done s → AfterLine n done (IfaceRule rule) (record s { ifaces = s.ifaces ++ rule ∷ [] })
+given_iface n done rule s h =
+    let step : Option Step = Some (Setup (IfaceRule rule)) in
+    let few_rules : s.folder.count + length s.rules ≤ n = h.few_rules in
+    let few : s.settings.lines ≤ n = h.few in
+    record {
+      files = files_still done step s refl h.files;
+      held = h.held;
+      rules = h.rules ∙ sym (flat_none setup_rule done step refl);
+      few_rules = omega (arith, few_rules);
+      listed = h.listed;
+      read = ap (λ (l : List (List ℕ)). lines_read setting_line 1 (draft_of defaults []) l) (flat_none conf_asked done step refl) ∙ h.read;
+      lines = h.lines ∙ ap (λ (l : List (List ℕ)). length l) (sym (flat_none conf_asked done step refl));
+      few = omega (arith, few);
+      granted = h.granted ∙ sym (flat_none access_asked done step refl);
+      seeds = flat_none seed_asked done step refl ∙ h.seeds;
+      zones = flat_none zone_asked done step refl ∙ h.zones;
+      ifaces = ap (λ (l : List iface.IfaceRule). l ++ rule ∷ []) h.ifaces ∙ sym (flat_more iface_asked done step);
     }
 
 -- a line of setup
@@ -260,6 +289,7 @@ given_added n done (Conf text) s lt asks h = in_when (AfterLine n done (Conf tex
 given_added n done (Access line) s lt asks h = given_access n done line s h
 given_added n done (Seed seed) s lt asks h = in_when (AfterLine n done (Seed seed)) (is_none s.seed) (Some (record s { seed = Some seed })) (λ b. given_seed n done seed s b h)
 given_added n done (Zone offset) s lt asks h = in_when (AfterLine n done (Zone offset)) (is_none s.zone && is_offset offset) (Some (record s { zone = Some offset })) (λ b. given_zone n done offset s (both (is_none s.zone) (is_offset offset) b) h)
+given_added n done (IfaceRule rule) s lt asks h = given_iface n done rule s h
 
 first_alone : {X : Type 0} (other : X) (o : Option X) → given_or other o ≡ first_or other (alone o)
 first_alone other None = refl

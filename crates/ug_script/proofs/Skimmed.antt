@@ -17,7 +17,7 @@ use Rattle.ug_command_io.specs.Fold.{LineRefusal, BadLine, LineOutcome, Writes, 
 use Rattle.ug_script.specs.declared.step.Step.{Step}
 use Rattle.ug_script.specs.declared.step.Step.TheVariants.{Skip, Setup, Move, Schedule, Event, Restart}
 use Rattle.ug_script.specs.Grammar.{AsksForRules, step_of_line}
-use Rattle.ug_script.specs.Setup.{SetupState, one_line_more, setup_rule, folder_asked, conf_asked, access_asked, seed_asked, zone_asked, steps_of}
+use Rattle.ug_script.specs.Setup.{SetupState, one_line_more, setup_rule, folder_asked, conf_asked, access_asked, seed_asked, zone_asked, iface_asked, steps_of}
 use Rattle.ug_script.specs.Script.{Script, fresh, takes_setup}
 use Rattle.ug_script.specs.Replay.{bad, header, line_added, quiet}
 use Rattle.ug_script.specs.Generating.{devices_moved, skimmed, skimmed_if, generate_step, generate_end, names_ports, move_asked, all_moved, devices_left, IsFirstPolicy, TellsFaultAlone}
@@ -42,17 +42,17 @@ SkimsAfter start n done text (Writes more (None, w)) = ⊥
 SkimsAfter start n done text (Refused fault p) = fault ≡ BadLine
 
 -- a step that neither sets up nor moves
-skims_still : (start : List Device) (n : ℕ) (done : List (Option Step)) (text : List ℕ) (step : Option Step) (setup : SetupState) (ds : List Device) → setup_rule step ≡ [] → folder_asked step ≡ [] → conf_asked step ≡ [] → access_asked step ≡ [] → seed_asked step ≡ [] → zone_asked step ≡ [] → move_asked step ≡ []
+skims_still : (start : List Device) (n : ℕ) (done : List (Option Step)) (text : List ℕ) (step : Option Step) (setup : SetupState) (ds : List Device) → setup_rule step ≡ [] → folder_asked step ≡ [] → conf_asked step ≡ [] → access_asked step ≡ [] → seed_asked step ≡ [] → zone_asked step ≡ [] → iface_asked step ≡ [] → move_asked step ≡ []
     → Skims start n done text setup ds → Skims start (n + 1) (done ++ step ∷ []) (text ++ []) setup ds
-skims_still start n done text step setup ds rule folder conf access seed zone move h = record {
-  given = given_still n done step setup rule folder conf access seed zone h.given;
+skims_still start n done text step setup ds rule folder conf access seed zone iface move h = record {
+  given = given_still n done step setup rule folder conf access seed zone iface h.given;
   devices = h.devices ∙ ap (λ (actions : List moves.Move). all_moved actions start) (sym (flat_none move_asked done step move));
   silent = append-nil text ∙ h.silent;
 }
 
 skims_move : (start : List Device) (n : ℕ) (done : List (Option Step)) (text : List ℕ) (action : moves.Move) (setup : SetupState) (ds : List Device) → Skims start n done text setup ds → Skims start (n + 1) (done ++ Some (Move action) ∷ []) (text ++ []) setup (moved action ds)
 skims_move start n done text action setup ds h = record {
-  given = given_still n done (Some (Move action)) setup refl refl refl refl refl refl h.given;
+  given = given_still n done (Some (Move action)) setup refl refl refl refl refl refl refl h.given;
   devices = ap (moved action) h.devices ∙ sym (moved_more (flat_map move_asked done) action start) ∙ ap (λ (actions : List moves.Move). all_moved actions start) (sym (flat_more move_asked done (Some (Move action))));
   silent = append-nil text ∙ h.silent;
 }
@@ -78,15 +78,15 @@ moves_as (move.Unplug name) w = refl
 moves_as (move.Iface change) w = refl
 
 skims_step : (start : List Device) (n : ℕ) (done : List (Option Step)) (text : List ℕ) (step : Step) (s : Script) (w : World) → n < 1048576 → AsksForRules step → Skims start n done text s.setup w.kernel.devices → SkimsAfter start (n + 1) (done ++ Some step ∷ []) text (skimmed step s w)
-skims_step start n done text Skip s w lt asks h = skims_still start n done text (Some Skip) s.setup w.kernel.devices refl refl refl refl refl refl refl h
+skims_step start n done text Skip s w lt asks h = skims_still start n done text (Some Skip) s.setup w.kernel.devices refl refl refl refl refl refl refl refl h
 skims_step start n done text (Setup line) s w lt asks h =
     skims_when start (n + 1) (done ++ Some (Setup line) ∷ []) text (takes_setup s.phase) (line_added (one_line_more line s.setup) s w) s w
     (skims_added start n done text (Some (Setup line)) (one_line_more line s.setup) s w refl h (given_added n done line s.setup lt asks h.given))
 skims_step start n done text (Move action) s w lt asks h =
     subst (Skims start (n + 1) (done ++ Some (Move action) ∷ []) (text ++ []) s.setup) (sym (moves_as action w)) (skims_move start n done text action s.setup w.kernel.devices h)
-skims_step start n done text (Schedule plan) s w lt asks h = skims_still start n done text (Some (Schedule plan)) s.setup w.kernel.devices refl refl refl refl refl refl refl h
-skims_step start n done text (Event event) s w lt asks h = skims_still start n done text (Some (Event event)) s.setup w.kernel.devices refl refl refl refl refl refl refl h
-skims_step start n done text Restart s w lt asks h = skims_still start n done text (Some Restart) s.setup w.kernel.devices refl refl refl refl refl refl refl h
+skims_step start n done text (Schedule plan) s w lt asks h = skims_still start n done text (Some (Schedule plan)) s.setup w.kernel.devices refl refl refl refl refl refl refl refl h
+skims_step start n done text (Event event) s w lt asks h = skims_still start n done text (Some (Event event)) s.setup w.kernel.devices refl refl refl refl refl refl refl refl h
+skims_step start n done text Restart s w lt asks h = skims_still start n done text (Some Restart) s.setup w.kernel.devices refl refl refl refl refl refl refl refl h
 
 skims_line : (start : List Device) (n : ℕ) (done : List (Option Step)) (text : List ℕ) (step : Option Step) (s : Script) (w : World) → n < 1048576 → ((asked : Step) → step ≡ Some asked → AsksForRules asked) → Skims start n done text s.setup w.kernel.devices → SkimsAfter start (n + 1) (done ++ step ∷ []) text (skimmed_if step s w)
 skims_line start n done text None s w lt asks h = refl

@@ -369,15 +369,3 @@ first_daemon setup o d has h =
     h.is
     ∙ ap (λ (rs : List Rule). started_at 1 (beside_of setup) (with_rules rs (policy_of setup))) (same_rules setup.rules h.rules (rules_from setup.folder.count o.disk.text) has h.loaded)
     ∙ ap (λ (p : Judging). started_at 1 (beside_of setup) p) (own_rules setup)
-
--- rules that a start takes are not refused as bad
-pub never_bad : {X : Type 0} (rules : List Rule) (read : Result (List Rule) LineRefusal) (e : LineRefusal) → read ≡ Ok rules → read ≡ Err e → X
-never_bad rules read e h g = let other : Ok rules ≡ Err e = sym h ∙ g in let none : ⊥ = cc in absurd none
-
--- nor is the folder too long
-pub too_long_folder : (setup : SetupState) (rules : List Rule) (text : List ℕ) → rules_from setup.folder.count text ≡ Ok rules → (fits_folder setup ≡ true → rules_from setup.folder.count text ≡ Err InputTooLong) → fits_folder setup ≡ false
-too_long_folder setup rules text has long = by (fits_folder setup) refl
-  where
-    by : (b : Bool) → fits_folder setup ≡ b → b ≡ false
-    by true fits = never_bad rules (rules_from setup.folder.count text) InputTooLong has (long fits)
-    by false fits = refl

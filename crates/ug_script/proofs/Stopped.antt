@@ -30,11 +30,14 @@ use Rattle.ug_core.specs.declared.daemon.Event.TheVariants.{Sweep, Order}
 use Rattle.ug_core.specs.declared.storing.Stored.{Stored}
 use Rattle.ug_core.specs.declared.storing.Stored.TheVariants as stored
 use Rattle.ug_script.specs.Laws.{IsLawfulEvent}
-use Rattle.ug_script.specs.Replay.{order_played_by, answered_from, disk_of, event_from, halted, tried_by}
+use Rattle.ug_script.specs.Replay.{order_played_by, answered_from, disk_of, event_from, event_of, halted, tried_by}
 use Rattle.ug_script.specs.Script.{Script, daemon_in, disk_in}
 use Rattle.ug_script.proofs.FirstStop.{event_runs_on, event_stops}
 use Rattle.ug_script.proofs.Halts.{halted_kernel}
 use Rattle.ug_script.proofs.OnEntries.{each_on_entries}
+use Rattle.ug_script.proofs.PassBehind.{event_ends, rules_behind}
+use Rattle.ug_script.proofs.PassFits.{event_sound}
+use Rattle.ug_script.proofs.PassRuns.{is_pass_behind}
 use Rattle.ug_script.proofs.Lawful.{HoldsOf, answers, event_sure, handled, names_once, start_of, tells_event}
 
 -- ---- a kernel that is halted
@@ -205,4 +208,7 @@ lawful_event event s w h out = record {
   stop = λ e. event_stops s.planned event (daemon_in s) w (disk_in s) out e;
   running = λ e. event_runs_on s.planned event (daemon_in s) w (disk_in s) out e;
   on_entries = λ g. each_on_entries event s w h g;
+  bus = λ b. event_sound event (daemon_in s) w (disk_of s) h b;
+  moved = (rules_behind s.setup.ifaces (event_of event s w).daemon (event_of event s w).world).moves;
+  passed = λ e. is_pass_behind s.setup.ifaces (event_of event s w).daemon (event_of event s w).world (event_ends event (daemon_in s) w (disk_of s) h);
 }

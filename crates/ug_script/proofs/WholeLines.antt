@@ -1,5 +1,5 @@
 -- What a line of a script writes is whole lines.
-use Rattle.std.proofs.Common.{◌≡◌, ℕ, Bool, true, false, cond, nat_eq, List, [], ◌∷◌, ◌++◌, Option, Some, None, Result, Ok, Err, refl, ap, ◌∙◌, flat_map, subst, append_assoc, codes, decimal}
+use Rattle.std.proofs.Common.{◌≡◌, ℕ, ◌-◌, Bool, true, false, cond, nat_eq, List, [], ◌∷◌, ◌++◌, Option, Some, None, Result, Ok, Err, refl, ap, ◌∙◌, flat_map, subst, append_assoc, codes, decimal}
 use Rattle.std.specs.Cmp.Lexicographic.{pointwise}
 use Rattle.ug_types.specs.declared.rule.Rule as types
 use Rattle.ug_audit.specs.Lines.{entry_line}
@@ -17,6 +17,16 @@ use Rattle.ug_script.specs.declared.step.Step.TheVariants as step
 use Rattle.ug_script.specs.Grammar.{step_of_line}
 use Rattle.ug_script.specs.Script.{Script, can_start, daemon_in, disk_in, fresh, takes_setup}
 use Rattle.ug_script.specs.Setup.{SetupState, one_line_more, rules_from}
+use Rattle.ug_audit.specs.Lines.{wrote_word}
+use Rattle.ug_iface.specs.declared.rules.IfaceRule.{IfaceRule}
+use Rattle.ug_iface.specs.declared.settle.IfaceEntry.{IfaceEntry}
+use Rattle.ug_iface.specs.declared.settle.IfaceEntry.TheVariants as entry
+use Rattle.ug_iface.specs.declared.settle.Passed.{Passed}
+use Rattle.ug_iface.specs.declared.settle.Passed.TheVariants as passed
+use Rattle.ug_iface.specs.Settle.{Aim}
+use Rattle.ug_core.specs.Event.{DaemonState}
+use Rattle.ug_script.specs.PassLines.{told_text, ending_text, iface_line, iface_text, pass_begins, pass_ends}
+use Rattle.ug_script.specs.Passes.{DevicePass, Pass, aims_in, device_pass, pass_behind, pass_over}
 use Rattle.ug_script.specs.Replay.{EventOutcome, Played, bad, begun_disk, came_of, event_by, event_from, finished, first_line, header, in_script, line_added, lines_text, outcome_of, outcome_text, quiet, quoted, reply_lines, restarted, script_step, stop_in, stopped_line, stopped_of, taken, taken_if, terminated}
 
 -- the text is empty or ends with a newline
@@ -63,8 +73,57 @@ stopped_whole : (setup : SetupState) (call : ℕ) (p : Played) (rules : Result (
 stopped_whole setup call p (Ok rules) = both_whole (first_line p.daemon.sweep.entries) (stopped_line call) (first_whole p.daemon.sweep.entries) (call_whole call)
 stopped_whole setup call p (Err fault) = tt
 
+-- ---- a pass
+
+-- the text ends a line, whatever it began with
+abbrev Ends : List ℕ → Type 0
+Ends text = (line : List ℕ) → rest_from line text ≡ []
+
+newline_ends : Ends (10 ∷ [])
+newline_ends line = rest_from-end line 10 [] refl ∙ rest_from-nil []
+
+ends_behind : (a b : List ℕ) → Ends b → Ends (a ++ b)
+ends_behind a b e = λ line. rest_from-append line a b ∙ e (rest_from line a)
+
+entry_ends : (e : IfaceEntry) → Ends (iface_line e)
+unfolding iface_line
+entry_ends (entry.Intent number name) = ends_behind (codes "iface-intent ") _ (ends_behind (decimal number) _ (ends_behind (codes " ") _ (ends_behind (iface_text name) (codes " off\n") (ends_behind (codes " off") (10 ∷ []) newline_ends))))
+entry_ends (entry.Wrote number name out) = ends_behind (codes "iface-wrote ") _ (ends_behind (decimal number) _ (ends_behind (codes " ") _ (ends_behind (iface_text name) _ (ends_behind (codes " off ") _ (ends_behind (wrote_word out) (codes "\n") newline_ends)))))
+entry_ends (entry.Fault number name count) = ends_behind (codes "iface-unsettled ") _ (ends_behind (iface_text name) _ (ends_behind (codes " fault ") _ (ends_behind (decimal count) (codes "\n") newline_ends)))
+entry_ends (entry.Memory number name) = ends_behind (codes "iface-unsettled ") _ (ends_behind (iface_text name) (codes " memory\n") (ends_behind (codes " memory") (10 ∷ []) newline_ends))
+
+ending_whole : (device : List ℕ) (end : Passed) → IsWhole (ending_text device end)
+unfolding ending_text
+ending_whole device passed.Done = none_whole
+ending_whole device passed.Gone = none_whole
+ending_whole device (passed.Fault count) = ends_behind (codes "iface-unsettled ") _ (ends_behind device _ (ends_behind (codes " fault ") _ (ends_behind (decimal count) (codes "\n") newline_ends))) []
+ending_whole device passed.Memory = ends_behind (codes "iface-unsettled ") _ (ends_behind device (codes " memory\n") (ends_behind (codes " memory") (10 ∷ []) newline_ends)) []
+
+begins_whole : (event : ℕ) → IsWhole (pass_begins event)
+unfolding pass_begins
+begins_whole event = ends_behind (codes "pass ") _ (ends_behind (decimal event) (codes "\n") newline_ends) []
+
+pass_ends_whole : (event : ℕ) → IsWhole (pass_ends event)
+unfolding pass_ends
+pass_ends_whole event = ends_behind (codes "pass-end ") _ (ends_behind (decimal event) (codes "\n") newline_ends) []
+
+device_whole : (device : List ℕ) (entries : List IfaceEntry) (end : Passed) → IsWhole (told_text device entries end)
+device_whole device entries end = both_whole (flat_map iface_line entries) (ending_text device end) (each_whole iface_line (λ e. entry_ends e []) entries) (ending_whole device end)
+
+aims_whole : (aims : List Aim) (w : World) → IsWhole (pass_over aims w).text
+aims_whole [] w = none_whole
+aims_whole (aim ∷ aims) w =
+    let p : DevicePass = device_pass aim w in
+    both_whole (told_text aim.device.via_port p.entries p.end) (pass_over aims p.world).text (device_whole aim.device.via_port p.entries p.end) (aims_whole aims p.world)
+
+rules_whole : (rules : List IfaceRule) (d : DaemonState) (w : World) → IsWhole (pass_behind rules d w).text
+rules_whole [] d w = none_whole
+rules_whole (rule ∷ rules) d w =
+    let p : Pass = pass_over (aims_in (rule ∷ rules) d.sweep.standings) w in
+    both_whole (pass_begins (d.event - 1)) (p.text ++ pass_ends (d.event - 1)) (begins_whole (d.event - 1)) (both_whole p.text (pass_ends (d.event - 1)) (aims_whole (aims_in (rule ∷ rules) d.sweep.standings) w) (pass_ends_whole (d.event - 1)))
+
 came_whole : (setup : SetupState) (plan : List Planned) (p : Played) → WritesWhole (came_of setup plan p)
-came_whole setup plan p = either p.disk.stopped (stopped_of setup (stop_in plan p) p (rules_from setup.folder.count p.disk.disk.text)) (finished p) (stopped_whole setup (stop_in plan p) p (rules_from setup.folder.count p.disk.disk.text)) (outcome_whole (outcome_of p.daemon))
+came_whole setup plan p = either p.disk.stopped (stopped_of setup (stop_in plan p) p (rules_from setup.folder.count p.disk.disk.text)) (finished setup.ifaces p) (stopped_whole setup (stop_in plan p) p (rules_from setup.folder.count p.disk.disk.text)) (both_whole (outcome_text (outcome_of p.daemon)) (pass_behind setup.ifaces p.daemon p.world).text (outcome_whole (outcome_of p.daemon)) (rules_whole setup.ifaces p.daemon p.world))
 
 script_whole : (s : Script) (o : LineOutcome Played) → WritesWhole o → WritesWhole (in_script s o)
 script_whole s (Writes text p) w = w

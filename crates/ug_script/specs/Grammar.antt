@@ -13,6 +13,8 @@ use Rattle.ug_acl.specs.Lines.{given_to}
 use Rattle.ug_acl.specs.Pairs.{Pair}
 use Rattle.ug_acl.specs.Texts.{access_read, pairs_given}
 use Rattle.ug_conf.specs.FolderFiles.{IsRuleFileName, is_rule_file_name}
+use Rattle.ug_iface.specs.declared.rules.IfaceRule as iface
+use Rattle.ug_iface.specs.Rules.{LineFault, iface_rule_read}
 use Rattle.ug_rule.specs.declared.fault.Fault.{Fault}
 use Rattle.ug_rule.specs.Grammar.{WellFormed}
 use Rattle.ug_rule.specs.Rules.{rule_read}
@@ -32,7 +34,7 @@ use Rattle.ug_script.specs.declared.step.AccessLine.{AccessLine}
 use Rattle.ug_script.specs.declared.step.FolderLine.{FolderLine}
 use Rattle.ug_script.specs.declared.step.Plan.TheVariants as plan
 use Rattle.ug_script.specs.declared.step.SetupLine.{SetupLine}
-use Rattle.ug_script.specs.declared.step.SetupLine.TheVariants.{Rule, Folder, Conf, Access, Seed, Zone}
+use Rattle.ug_script.specs.declared.step.SetupLine.TheVariants.{Rule, Folder, Conf, Access, Seed, Zone, IfaceRule}
 use Rattle.ug_script.specs.declared.step.Step.{Step}
 use Rattle.ug_script.specs.declared.step.Step.TheVariants as step
 use Rattle.ug_script.specs.FolderLines.{HoldsRule}
@@ -66,6 +68,10 @@ pub record IsFolderText (text : List ℕ) (f : FolderLine) : Type 0 where
   pub is : text ≡ f.name ++ 32 ∷ f.text
   pub named : IsRuleFileName f.name
   pub holds : HoldsRule f.text
+
+abbrev pub in_iface_rule : Result iface.IfaceRule LineFault → Option SetupLine
+in_iface_rule (Ok rule) = Some (IfaceRule rule)
+in_iface_rule (Err fault) = None
 
 abbrev pub in_access : Named → Result (List Pair) TextFault → Option SetupLine
 in_access who (Ok grants) = Some (Access (record { who = who; grants = grants }))
@@ -208,6 +214,7 @@ step_behind word.Conf text = Some (step.Setup (Conf text))
 step_behind word.Access text = option_map step.Setup (grant_of text)
 step_behind word.Seed text = option_map (λ seed. step.Setup (Seed seed)) (seed_of text)
 step_behind word.Zone text = option_map (λ offset. step.Setup (Zone offset)) (offset_of text)
+step_behind word.IfaceRule text = option_map step.Setup (in_iface_rule (iface_rule_read text))
 
 abbrev pub step_by : Option LineWord → List ℕ → Option Step
 step_by None text = None

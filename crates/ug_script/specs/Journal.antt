@@ -1,6 +1,6 @@
 -- What happens in a script from its first line on, and what that says of each write and of each
 -- device.
-use Rattle.std.specs.Prelude.{◌≡◌, ◌⊎◌, ℕ, ◌+◌, ◌≤◌, Bool, true, false, ◌&&◌, if◌then◌else◌, List, [], ◌∷◌, ◌++◌, length, flat_map, Option, Some, None, Ok}
+use Rattle.std.specs.Prelude.{◌≡◌, ◌⊎◌, ℕ, ◌+◌, ◌≤◌, Bool, true, false, cond, ◌&&◌, if◌then◌else◌, List, [], ◌∷◌, ◌++◌, length, flat_map, Option, Some, None, Ok}
 use Rattle.ug_types.specs.Elements.{Has}
 use Rattle.ug_kernel.specs.declared.control.Write.{Write}
 use Rattle.ug_types.specs.declared.rule.Rule as types
@@ -27,8 +27,9 @@ use Rattle.ug_script.specs.declared.step.Step.{Step}
 use Rattle.ug_script.specs.declared.step.Step.TheVariants.{Schedule, Event, Restart}
 use Rattle.ug_script.specs.Grammar.{step_of_line}
 use Rattle.ug_script.specs.Script.{Script, can_start, daemon_in, disk_in}
+use Rattle.ug_script.specs.Passes.{pass_behind}
 use Rattle.ug_script.specs.Replay.{answered_from, disk_of, event_from, event_of, outcome_of, outcome_text, script_step, stop_in, stopped_text, tried_by}
-use Rattle.ug_script.specs.Setup.{steps_of, conf_asked, folder_of, setup_rule, IsSetup, Beside, started_at, with_rules}
+use Rattle.ug_script.specs.Setup.{steps_of, conf_asked, iface_asked, folder_of, setup_rule, IsSetup, Beside, started_at, with_rules}
 
 -- an event of a daemon over a kernel and a disk that are ready for it
 abbrev pub happened_from : events.Event → DaemonState → World → DiskWorld → Happened
@@ -60,27 +61,45 @@ abbrev pub left_by : {M : Type 0} → LineOutcome M → M
 left_by (Writes text next) = next
 left_by (Refused fault next) = next
 
--- a run of the daemon that has ended: its events, and the call of the disk in which the machine
--- stopped in the last of them; None where a `restart` ended it
+-- what the pass behind an event writes, if the machine didn't stop in it
+abbrev pub pass_at : events.Event → Script → World → List ℕ
+pass_at event s w =
+    cond (event_of event s w).disk.stopped []
+    (pass_behind s.setup.ifaces (event_of event s w).daemon (event_of event s w).world).text
+
+abbrev pub passes_at : events.Event → Script → World → List (List ℕ)
+passes_at event s w =
+    if can_start s.setup s.phase && has_numbers (daemon_in s) w.faults (disk_in s).faults
+    then pass_at event s w ∷ [] else []
+
+-- a run of the daemon that has ended: its events, what the pass behind each wrote, and the call of
+-- the disk in which the machine stopped in the last of them; None where a `restart` ended it
 pub record RunEnd : Type 0 where
   pub events : List Happened
+  pub passes : List (List ℕ)
   pub stop : Option ℕ
 
--- the events of lines, in the runs of the daemon: those that have ended, and the events since the
--- last start
+-- the events of lines, in the runs of the daemon: those that have ended, and the events and passes
+-- since the last start
 pub record EventsOfRuns : Type 0 where
   pub ended : List RunEnd
   pub last : List Happened
+  pub passes : List (List ℕ)
 
 abbrev pub no_events : EventsOfRuns
-no_events = record { ended = []; last = [] }
+no_events = record { ended = []; last = []; passes = [] }
 
-abbrev pub with_events : List Happened → EventsOfRuns → EventsOfRuns
-with_events hs runs = record runs { last = runs.last ++ hs }
+abbrev pub with_events : List Happened → List (List ℕ) → EventsOfRuns → EventsOfRuns
+with_events hs passes runs =
+    record runs { last = runs.last ++ hs; passes = runs.passes ++ passes }
+
+-- the run of the last start, where it ends so
+abbrev pub ended_by : Option ℕ → EventsOfRuns → RunEnd
+ended_by stop runs = record { events = runs.last; passes = runs.passes; stop = stop }
 
 abbrev pub with_end : Option ℕ → EventsOfRuns → EventsOfRuns
 with_end stop runs =
-    record { ended = runs.ended ++ record { events = runs.last; stop = stop } ∷ []; last = [] }
+    record { ended = runs.ended ++ ended_by stop runs ∷ []; last = []; passes = [] }
 
 -- an event ends a run where the machine stopped in it
 abbrev pub with_stop : Bool → ℕ → EventsOfRuns → EventsOfRuns
@@ -96,7 +115,7 @@ abbrev pub runs_by : Option Step → Script → World → EventsOfRuns → Event
 runs_by (Some Restart) s w runs = with_end None runs
 runs_by (Some (Event event)) s w runs =
     with_stop (event_of event s w).disk.stopped (stop_of event s w)
-    (with_events (happens_at event s w) runs)
+    (with_events (happens_at event s w) (passes_at event s w) runs)
 runs_by step s w runs = runs
 
 abbrev pub runs_with : Option Script × World → List ℕ → EventsOfRuns → EventsOfRuns
@@ -120,27 +139,32 @@ journals (run ∷ runs) = journal run.events ++ journals runs
 abbrev pub journal_of : EventsOfRuns → List Entry
 journal_of runs = journals runs.ended ++ journal runs.last
 
--- what is written of events, one after another
-abbrev pub events_text : List Happened → List ℕ
-events_text [] = []
-events_text (h ∷ hs) = outcome_text (outcome_of h.after) ++ events_text hs
+-- what is written of events, one after another, and of the pass behind each
+abbrev pub events_text : List Happened → List (List ℕ) → List ℕ
+events_text [] passes = []
+events_text (h ∷ hs) [] = outcome_text (outcome_of h.after) ++ events_text hs []
+events_text (h ∷ hs) (pass ∷ passes) =
+    (outcome_text (outcome_of h.after) ++ pass) ++ events_text hs passes
 
 -- what is written of them where the machine stopped in the last
-abbrev pub text_to_stop : ℕ → List Happened → List ℕ
-text_to_stop call [] = []
-text_to_stop call (h ∷ []) = stopped_text call h.after.sweep.entries
-text_to_stop call (h ∷ g ∷ hs) = outcome_text (outcome_of h.after) ++ text_to_stop call (g ∷ hs)
+abbrev pub text_to_stop : ℕ → List Happened → List (List ℕ) → List ℕ
+text_to_stop call [] passes = []
+text_to_stop call (h ∷ []) passes = stopped_text call h.after.sweep.entries
+text_to_stop call (h ∷ g ∷ hs) [] =
+    outcome_text (outcome_of h.after) ++ text_to_stop call (g ∷ hs) []
+text_to_stop call (h ∷ g ∷ hs) (pass ∷ passes) =
+    (outcome_text (outcome_of h.after) ++ pass) ++ text_to_stop call (g ∷ hs) passes
 
-abbrev pub run_text : Option ℕ → List Happened → List ℕ
-run_text None hs = events_text hs
-run_text (Some call) hs = text_to_stop call hs
+abbrev pub run_text : Option ℕ → List Happened → List (List ℕ) → List ℕ
+run_text None hs passes = events_text hs passes
+run_text (Some call) hs passes = text_to_stop call hs passes
 
 abbrev pub runs_text : List RunEnd → List ℕ
 runs_text [] = []
-runs_text (run ∷ runs) = run_text run.stop run.events ++ runs_text runs
+runs_text (run ∷ runs) = run_text run.stop run.events run.passes ++ runs_text runs
 
 abbrev pub text_of_runs : EventsOfRuns → List ℕ
-text_of_runs runs = runs_text runs.ended ++ events_text runs.last
+text_of_runs runs = runs_text runs.ended ++ events_text runs.last runs.passes
 
 -- With what a run of the daemon begins: its rules; the text of the rule file, and the texts that a
 -- crash might leave in its place; the number of its first event; and the kernel.
@@ -251,17 +275,19 @@ AreQuiet (step ∷ steps) = (is_quiet step ≡ true) × AreQuiet steps
 
 -- Wherever lines have led: the setup lines gave access and a policy; with whatever rules, rulings,
 -- with changes among them, leave a policy that has taken just their words, and whose histories
--- stand for just their judgements; and its settings are those of each text whose lines are those of
--- the `conf` lines. The events of the lines are those of runs of the daemon: the first began with
--- the rules of the `rule` lines, and each other one with those of the rule file that the one before
--- left. What was written is the text of the entries of all. Where no move was scheduled and no call
--- was to fail, nobody is named as unsettled, no save is pending, and after an event that comes next
+-- stand for just their judgements; its settings are those of each text whose lines are those of the
+-- `conf` lines; and its rules of interfaces are those of the `iface-rule` lines, in order. The
+-- events of the lines are those of runs of the daemon: the first began with the rules of the `rule`
+-- lines, and each other one with those of the rule file that the one before left. What was written
+-- is the text of the entries of all, and of the passes. Where no move was scheduled and no call was
+-- to fail, nobody is named as unsettled, no save is pending, and after an event that comes next
 -- each live device was judged just once since the last start and stands as judged.
 pub record Recorded (first : World) (lines : List (List ℕ)) (text : List ℕ) (s : Script)
     (w : World) : Type 0 where
   pub beside : Beside
   pub policy : Judging
   pub setup : IsSetup (steps_of lines) beside policy
+  pub ifaces : s.setup.ifaces ≡ flat_map iface_asked (steps_of lines)
   pub settings : (whole : List ℕ) → lines_of whole ≡ flat_map conf_asked (steps_of lines)
       → conf_read whole ≡ Ok setup.draft.settings
   pub later : (rules : List types.Rule) (steps : List PolicyStep)

@@ -2,8 +2,11 @@
 use Rattle.std.specs.Prelude.{◌≡◌, ◌<◌, ◌≤◌, ℕ, true, false, List, [], Option, Some, None}
 use Rattle.ug_types.specs.Elements.{AllDistinct}
 use Rattle.ug_kernel.specs.Defaults.{HasOnEntries}
-use Rattle.ug_kernel.specs.Kernel.{IsKernel, Kernel}
+use Rattle.ug_kernel.specs.Kernel.{IsKernel, Kernel, Moves}
 use Rattle.ug_kernel.specs.Tree.{Prog, Return, Ask, Room}
+use Rattle.ug_iface.specs.Bus.{IsSoundBus}
+use Rattle.ug_iface.specs.declared.rules.IfaceRule.{IfaceRule}
+use Rattle.ug_sysfs.specs.Serving.{bus_in}
 use Rattle.ug_sysfs.specs.World.{World, Gives, scripted_answer, event_begun, over}
 use Rattle.ug_table.specs.Laws.{Stand}
 use Rattle.ug_table.specs.Parts.{unsettled_names}
@@ -24,7 +27,8 @@ use Rattle.ug_store.specs.Scripted.{DiskWorld, plan_at, stops_by}
 use Rattle.ug_store.specs.declared.mishap.Planned.{Planned}
 use Rattle.ug_command_io.specs.Fold.{Going, plays}
 use Rattle.ug_script.specs.Script.{Script, daemon_in, disk_in}
-use Rattle.ug_script.specs.Replay.{answered_of, disk_of, event_of, halted, script_step, stop_in, tried_by}
+use Rattle.ug_script.specs.Passes.{IsPassBehind, Pass, pass_behind}
+use Rattle.ug_script.specs.Replay.{Played, answered_of, disk_of, event_of, halted, script_step, stop_in, tried_by}
 
 abbrev pub faults_of : World → ℕ
 faults_of w = w.faults
@@ -90,6 +94,15 @@ AtEachCall holds event s w =
     (halted (answered_of event s w).disk (answered_of event s w).world)
     × holds (over (event_of event s w).world).kernel
 
+-- what stands behind an event
+abbrev pub behind_event : List IfaceRule → Played → Pass
+behind_event rules p = pass_behind rules p.daemon p.world
+
+-- is its pass
+abbrev pub HasPass : List IfaceRule → Played → Type 0
+HasPass rules p =
+    IsPassBehind rules p.daemon p.world (behind_event rules p).text (behind_event rules p).world
+
 -- An event, if one comes next. Its order is refused and changes nothing but that a save may have
 -- failed, or was given by one who may and does that alone which it asks for, once its change is
 -- saved. The sweep behind it is fair and leaves each device settled or named. The calls of the
@@ -99,7 +112,9 @@ AtEachCall holds event s w =
 -- refuses none. Where the machine stops, no device is written to in this event. The machine stops
 -- in the first call of the disk for which lines stop it, which is the one that `stopped` tells, and
 -- it does where there is one. A device that was born while its controller's default was off is on
--- only after an On entry, behind each call, if so it was before.
+-- only after an On entry, behind each call, if so it was before. Devices and interfaces stay sound;
+-- and where the machine doesn't stop, the pass behind the event is one call of `settle_ifaces` for
+-- each standing that it goes over. In a pass devices only come and go.
 pub record IsLawfulEvent (event : Event) (s : Script) (w : World) : Type 0 where
   pub answers : AnswersEvent event w.kernel (order_ready event s) (answered_of event s w).became
       (answered_of event s w).world.kernel (answered_of event s w).daemon
@@ -119,20 +134,31 @@ pub record IsLawfulEvent (event : Event) (s : Script) (w : World) : Type 0 where
   pub running : (event_of event s w).disk.stopped ≡ false
       → HasNoStop s.planned (event_of event s w).disk.calls
   pub on_entries : HasOnEntries w.kernel → AtEachCall HasOnEntries event s w
+  pub bus : IsSoundBus (bus_in w) → IsSoundBus (bus_in (event_of event s w).world)
+  pub moved : Moves (event_of event s w).world.kernel
+      (behind_event s.setup.ifaces (event_of event s w)).world.kernel
+  pub passed : (event_of event s w).disk.stopped ≡ false
+      → HasPass s.setup.ifaces (event_of event s w)
+
+-- no failure was counted, and devices and interfaces are sound
+abbrev pub IsFaultless : World → Type 0
+IsFaultless w = (w.faults ≡ 0) × IsSoundBus (bus_in w)
 
 -- The kernel is sound, and a device that was born while its controller's default was off is on only
 -- after an On entry, if it was so in the first world; and each standing of the daemon, or of the
 -- one that an event would start, is of one of its devices; and so is an event, if one comes next.
--- The disk is told, and a crash may leave the rule file as it is. And where the first world had no
--- fault, the numbers leave room for one, so that the line of an event is never bad.
+-- The disk is told, and a crash may leave the rule file as it is. And where the first world was
+-- without faults, the numbers leave room for one, so that the line of an event is never bad. Where
+-- devices and interfaces were sound at first, they are.
 pub record IsLawful (first : World) (s : Script) (w : World) : Type 0 where
   pub sound : IsKernel w.kernel
   pub on_entries : HasOnEntries first.kernel → HasOnEntries w.kernel
+  pub bus : IsSoundBus (bus_in first) → IsSoundBus (bus_in w)
   pub stand : Stand w.kernel (daemon_in s).sweep.standings (daemon_in s).sweep.next
   pub events : (event : Event) → IsLawfulEvent event s w
   pub told : (disk_in s).ran_out ≡ false
   pub possible : IsImage (disk_in s).disk.left (disk_in s).disk.text
-  pub numbers : first.faults ≡ 0 → has_numbers (daemon_in s) w.faults (disk_in s).faults ≡ true
+  pub numbers : IsFaultless first → has_numbers (daemon_in s) w.faults (disk_in s).faults ≡ true
 
 -- wherever lines lead from a world without a daemon
 abbrev pub StaysLawful : World → Type 0

@@ -22,3 +22,5 @@ pub mod Schedules
 pub mod Births
 pub mod Against
 pub mod Roomless
+pub mod PassLines
+pub mod Passes

@@ -10,6 +10,8 @@ use Rattle.ug_types.specs.declared.rule.Iface.{Iface}
 use Rattle.ug_lex.specs.Grammar.{Spells}
 use Rattle.ug_words.specs.WordGrammar.{IsInterface}
 use Rattle.ug_iface.specs.declared.name.IfaceName.{IfaceName}
+use Rattle.ug_iface.specs.declared.rules.IfaceRule.{IfaceRule}
+use Rattle.ug_iface.specs.Rules.{IsIfaceRule}
 use Rattle.ug_rule.specs.Grammar.{Says}
 use Rattle.ug_store.specs.declared.mishap.Mishap.{Mishap}
 use Rattle.ug_store.specs.declared.mishap.Mishap.TheVariants.{NoEffect, Effect}
@@ -248,6 +250,11 @@ pub record IsZone (line : List ℕ) (offset : ℤ) : Type 0 where
   pub few_minutes : minutes ≤ 59
   pub says : offset ≡ with_sign ahead (hours * 3600 + minutes * 60)
 
+-- `iface-rule off IFACE QUERY`
+abbrev pub IsIfaceRuleLine : List ℕ → IfaceRule → Type 0
+IsIfaceRuleLine line rule =
+    (text : List ℕ) × (line ≡ codes "iface-rule " ++ text) × IsIfaceRule text rule
+
 abbrev pub IsSetupLine : List ℕ → SetupLine → Type 0
 IsSetupLine line (setup.Rule rule) = IsRuleLine line rule
 IsSetupLine line (setup.Folder f) = IsFolderLine line f
@@ -255,6 +262,7 @@ IsSetupLine line (setup.Conf text) = line ≡ codes "conf " ++ text
 IsSetupLine line (setup.Access a) = IsAccessLine line a
 IsSetupLine line (setup.Seed seed) = IsSeed line seed
 IsSetupLine line (setup.Zone offset) = IsZone line offset
+IsSetupLine line (setup.IfaceRule rule) = IsIfaceRuleLine line rule
 
 -- ---- all lines
 

@@ -12,7 +12,8 @@ setup_word_of text =
     if pointwise nat_eq text (codes "conf") then Some word.Conf else
     if pointwise nat_eq text (codes "access") then Some word.Access else
     if pointwise nat_eq text (codes "seed") then Some word.Seed else
-    if pointwise nat_eq text (codes "zone") then Some word.Zone else None
+    if pointwise nat_eq text (codes "zone") then Some word.Zone else
+    if pointwise nat_eq text (codes "iface-rule") then Some word.IfaceRule else None
 
 -- those of lines for a call of the next event, and of lines that stand before all others
 unfoldable pub plan_word_of : List ℕ → Option LineWord

@@ -39,6 +39,8 @@ use Rattle.ug_script.specs.declared.step.Step.{Step}
 use Rattle.ug_script.specs.declared.step.Step.TheVariants as step
 use Rattle.ug_script.specs.declared.step.StepFault.{StepFault}
 use Rattle.ug_script.specs.declared.step.StepFault.TheVariants.{Bad, Memory}
+use Rattle.ug_iface.specs.declared.rules.IfaceRule.{IfaceRule}
+use Rattle.ug_script.specs.Passes.{pass_behind}
 use Rattle.ug_script.specs.Grammar.{step_of_line}
 use Rattle.ug_script.specs.Script.{Script, Started, takes_setup, with_setup_closed, daemon_in, disk_in, can_start, fresh, phase_of}
 use Rattle.ug_script.specs.Setup.{SetupState, beside_of, one_line_more, after_reading, policy_of, rules_from, started_at, with_rules}
@@ -218,13 +220,22 @@ answered_of event s w = answered_from event (daemon_in s) w (disk_of s)
 abbrev pub event_of : Event → Script → World → Played
 event_of event s w = event_from event (daemon_in s) w (disk_of s)
 
--- The daemon that it leaves, and the world and the disk behind it. What a crash might have left of
--- the rule file within the event is forgotten.
-abbrev pub left_played : Played → Played
-left_played p = record p { world = over p.world; disk = forgetting p.disk }
+-- The daemon that it leaves, and the world behind its pass over interfaces and the disk behind it.
+-- What a crash might have left of the rule file within the event is forgotten.
+abbrev pub left_played : List IfaceRule → Played → Played
+left_played rules p =
+    record p {
+      world = over (pass_behind rules p.daemon p.world).world;
+      disk = forgetting p.disk;
+    }
 
-abbrev pub finished : Played → LineOutcome Played
-finished p = Writes (outcome_text (outcome_of p.daemon)) (left_played p)
+-- its text, and that of the pass
+abbrev pub finished_text : List IfaceRule → Played → List ℕ
+finished_text rules p =
+    outcome_text (outcome_of p.daemon) ++ (pass_behind rules p.daemon p.world).text
+
+abbrev pub finished : List IfaceRule → Played → LineOutcome Played
+finished rules p = Writes (finished_text rules p) (left_played rules p)
 
 -- the first of so many calls in which the machine is to stop, else that one
 abbrev pub first_stop : List Planned → ℕ → ℕ → ℕ
@@ -270,7 +281,7 @@ abbrev pub came_of : SetupState → List Planned → Played → LineOutcome Play
 came_of setup plan p =
     cond p.disk.stopped (stopped_of setup (stop_in plan p) p
     (rules_from setup.folder.count p.disk.disk.text))
-    (finished p)
+    (finished setup.ifaces p)
 
 -- unless the numbers have run out
 abbrev pub event_by : SetupState → Event → List Planned → DaemonState → World → DiskWorld

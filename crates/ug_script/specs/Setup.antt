@@ -11,6 +11,7 @@ use Rattle.ug_kernel.specs.declared.control.Write.{Write}
 use Rattle.ug_types.specs.declared.rule.Rule as types
 use Rattle.ug_acl.specs.Acls.{Addition, addition}
 use Rattle.ug_acl.specs.Pairs.{all_pairs}
+use Rattle.ug_iface.specs.declared.rules.IfaceRule as iface
 use Rattle.ug_conf.specs.Faults.{SettingFault}
 use Rattle.ug_conf.specs.Settings.{defaults}
 use Rattle.ug_conf.specs.Draft.{Draft, draft_of, setting_line_read}
@@ -32,7 +33,7 @@ use Rattle.ug_store.specs.Scripted.{DiskWorld, past_within, world_at_first}
 use Rattle.ug_script.specs.declared.step.SetupLine.{SetupLine}
 use Rattle.ug_script.specs.declared.step.AccessLine.{AccessLine}
 use Rattle.ug_script.specs.declared.step.FolderLine.{FolderLine}
-use Rattle.ug_script.specs.declared.step.SetupLine.TheVariants.{Rule, Folder, Conf, Access, Seed, Zone}
+use Rattle.ug_script.specs.declared.step.SetupLine.TheVariants.{Rule, Folder, Conf, Access, Seed, Zone, IfaceRule}
 use Rattle.ug_script.specs.declared.step.Step.{Step}
 use Rattle.ug_script.specs.declared.step.Step.TheVariants.{Setup}
 use Rattle.ug_script.specs.declared.step.StepFault.{StepFault}
@@ -42,7 +43,7 @@ use Rattle.ug_script.specs.Grammar.{step_of_line}
 use Rattle.ug_script.specs.Words.{is_entry}
 
 -- the files of the folder of rules, the rules in order, the settings so far, what was granted in
--- order, and the seed and the zone, where they were given
+-- order, the seed and the zone, where they were given, and the rules of interfaces in order
 pub record SetupState : Type 0 where
   pub folder : ScriptFolder
   pub rules : List types.Rule
@@ -50,6 +51,7 @@ pub record SetupState : Type 0 where
   pub access : List AccessLine
   pub seed : Option (List ℕ)
   pub zone : Option ℤ
+  pub ifaces : List iface.IfaceRule
 
 abbrev pub no_setup : SetupState
 no_setup =
@@ -61,6 +63,7 @@ no_setup =
       seed =
           None;
       zone = None;
+      ifaces = [];
     }
 
 -- less than a day
@@ -100,6 +103,7 @@ one_line_more (Access line) s = Some (record s { access = s.access ++ line ∷ [
 one_line_more (Seed seed) s = if is_none s.seed then Some (record s { seed = Some seed }) else None
 one_line_more (Zone offset) s =
     if is_none s.zone && is_offset offset then Some (record s { zone = Some offset }) else None
+one_line_more (IfaceRule rule) s = Some (record s { ifaces = s.ifaces ++ rule ∷ [] })
 
 -- what a line leaves; a line that may not stand there changes nothing
 abbrev pub Adds : Option SetupState → Result (Unit {0}) StepFault → SetupState → SetupState → Type 0
@@ -263,6 +267,11 @@ seed_asked step = []
 abbrev pub zone_asked : Option Step → List ℤ
 zone_asked (Some (Setup (Zone offset))) = offset ∷ []
 zone_asked step = []
+
+-- and the rules of interfaces
+abbrev pub iface_asked : Option Step → List iface.IfaceRule
+iface_asked (Some (Setup (IfaceRule rule))) = rule ∷ []
+iface_asked step = []
 
 abbrev pub first_or : {X : Type 0} → X → List X → X
 first_or other [] = other

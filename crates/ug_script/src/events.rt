@@ -1,11 +1,13 @@
 // Events of a script.
-ghost use Rattle.std.specs.Prelude.{◌≡◌, ◌≤◌, ◌++◌, ◌∷◌, [], true, false, cond, IfOk, OnOk, None, Some};
+ghost use Rattle.std.specs.Prelude.{◌≡◌, ◌≤◌, ◌++◌, ◌∷◌, [], true, false, cond, IfOk, List, OnOk, None, Some};
 ghost use Rattle.ug_types.specs.Ends.{Rose};
 ghost use Rattle.ug_command_io.specs.Runs.{Closes, Steps};
 ghost use Rattle.ug_core.specs.Event.{daemon_of, has_numbers};
 ghost use Rattle.ug_core.specs.Stops.{IsReadable};
 ghost use Rattle.ug_simulation.specs.Play.{tells_memory};
+ghost use Rattle.ug_iface.specs.declared.rules.IfaceRule.{IfaceRule};
 ghost use Rattle.ug_script.specs.Journal.{happened_from};
+ghost use Rattle.ug_script.specs.Passes.{pass_behind};
 ghost use Rattle.ug_script.specs.RuleFiles.{IsStillOn};
 ghost use Rattle.ug_store.specs.Scripted.{coming_up, plan_at, stops_by};
 ghost use Rattle.ug_sysfs.specs.World.{World, over};
@@ -15,6 +17,7 @@ ghost use Rattle.ug_script.specs.Script.{IsStartedBy};
 ghost use Rattle.ug_script.specs.Setup.{StartsOn, after_reading, rules_from};
 
 use crate::halting::Halting;
+use crate::passes::pass_behind;
 use crate::session::Session;
 use crate::setup::Setup;
 use crate::start::restart_daemon;
@@ -84,28 +87,47 @@ fn handle(alloc: Global, session: &mut Session, event: &Event, kernel: &mut SimK
     );
 }
 
-fn put_outcome<K: Sink>(alloc: Global, report: &Report, out: &mut K) -> Ran
+/// The event's text, and behind it that of the pass.
+fn whole_text(alloc: Global, report: &Report, passed: &[u8]) -> Result<Vec<u8>, NoMemory>
+    ensures { IfOk result (λ text. text.items
+        ≡ replay.outcome_text (record {
+          entries = report.now.entries.entries;
+          reply = report.now.reply;
+        }) ++ passed.now) }
+{
+    let mut text = outcome_text(alloc, report)?;
+    text.extend_from_slice(passed)?;
+    Ok(text)
+}
+
+fn put_outcome<K: Sink>(alloc: Global, report: &Report, passed: &[u8], out: &mut K) -> Ran
     ensures ran { Closes (Some (replay.outcome_text (record {
       entries = report.now.entries.entries;
       reply = report.now.reply;
-    }))) (K.held out.old) (K.held out.new) result }
+    }) ++ passed.now)) (K.held out.old) (K.held out.new) result }
     ensures taken { (¬ (result ≡ Ran.Bad)) × (¬ (result ≡ Ran.TooLong)) }
     ensures counted { K.faults out.old ≤ K.faults out.new }
     ensures cause { result ≡ Ran.SinkFailed → Rose (K.faults out.old) (K.faults out.new) }
 {
-    match outcome_text(alloc, report) {
+    match whole_text(alloc, report, passed) {
         Ok(text) => put(out, text.as_slice()),
         Err(_) => Ran::Memory,
     }
 }
 
-/// What a crash might have left of the rule file is forgotten, and the event's text is written.
-fn write_event<K: Sink>(alloc: Global, session: &mut Session, out: &mut K) -> Ran
+/// What a crash might have left of the rule file is forgotten, and the event's text is written, with that of its pass.
+fn write_event<K: Sink>(alloc: Global, session: &mut Session, passed: &[u8], out: &mut K) -> Ran
     requires { session.old.daemon.report.entries.entries
         ≡ (daemon_of session.old.daemon).sweep.entries }
-    ensures ran { (w : World) → Steps (replay.finished
+    ensures ran { (rules : List IfaceRule) (w : World)
+        → passed.now ≡ (pass_behind rules (daemon_of session.old.daemon) w).text
+        → Steps (replay.finished rules
         (record { daemon = daemon_of session.old.daemon; world = w; disk = session.old.disk }))
-        (record { daemon = daemon_of session.new.daemon; world = over w; disk = session.new.disk })
+        (record {
+          daemon = daemon_of session.new.daemon;
+          world = over (pass_behind rules (daemon_of session.old.daemon) w).world;
+          disk = session.new.disk;
+        })
         (K.held out.old) (K.held out.new) result }
     ensures taken { (¬ (result ≡ Ran.Bad)) × (¬ (result ≡ Ran.TooLong)) }
     ensures counted { K.faults out.old ≤ K.faults out.new }
@@ -113,7 +135,47 @@ fn write_event<K: Sink>(alloc: Global, session: &mut Session, out: &mut K) -> Ra
     ensures before { session.new.before ≡ session.old.before }
 {
     match session.disk.forget() {
-        Ok(()) => put_outcome(alloc, session.daemon.report(), out),
+        Ok(()) => put_outcome(alloc, session.daemon.report(), passed, out),
+        Err(_) => Ran::Memory,
+    }
+}
+
+/// The pass behind an event that was handled, and the text of both.
+#[tactic(auto, using(crate::proofs::EventSteps::memory_steps))]
+fn finish_event<K: Sink>(
+    alloc: Global,
+    setup: &Setup,
+    session: &mut Session,
+    kernel: &mut SimKernel,
+    out: &mut K,
+) -> Ran
+    requires { session.old.daemon.report.entries.entries
+        ≡ (daemon_of session.old.daemon).sweep.entries }
+    ensures ran { Steps (replay.finished setup.now.ifaces
+        (record {
+          daemon = daemon_of session.old.daemon;
+          world = kernel.old;
+          disk = session.old.disk;
+        }))
+        (record {
+          daemon = daemon_of session.new.daemon;
+          world = kernel.new;
+          disk = session.new.disk;
+        })
+        (K.held out.old) (K.held out.new) result }
+    ensures taken { (¬ (result ≡ Ran.Bad)) × (¬ (result ≡ Ran.TooLong)) }
+    ensures counted { K.faults out.old ≤ K.faults out.new }
+    ensures cause { result ≡ Ran.SinkFailed → Rose (K.faults out.old) (K.faults out.new) }
+    ensures before { session.new.before ≡ session.old.before }
+{
+    match pass_behind(alloc, &session.daemon, setup.ifaces.as_slice(), kernel) {
+        Ok(passed) => {
+            if kernel.ran_out() {
+                return Ran::Memory;
+            }
+            kernel.end_event();
+            write_event(alloc, session, passed.as_slice(), out)
+        }
         Err(_) => Ran::Memory,
     }
 }
@@ -250,12 +312,12 @@ fn play_event<K: Sink>(
     if kernel.ran_out() || session.disk.ran_out() || tells_memory(noted) {
         return Ran::Memory;
     }
-    kernel.end_event();
     if session.disk.stopped() {
+        kernel.end_event();
         let call = first_stop(plan, session.disk.calls());
         return stop_event(alloc, setup, session, call, out);
     }
-    write_event(alloc, session, out)
+    finish_event(alloc, setup, session, kernel, out)
 }
 
 /// An event and its text.

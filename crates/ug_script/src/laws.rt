@@ -122,8 +122,8 @@ pub fn births_law()
     ensures { (w : World) → w.moves ≡ [] → IsSound w.kernel.devices → StaysBorn w }
 {}
 
-/// From a sound kernel each event of a script is fair and leaves each device settled or named, and the journal of all events
-/// explains each write. Where the rules of each line can be read again from their texts, each run of the daemon begins with those that were
+/// From a sound kernel each event of a script is fair and leaves each device settled or named, the pass behind it is one call of
+/// `settle_ifaces` for each device that it goes over, and the journal of all events explains each write. Where the rules of each line can be read again from their texts, each run of the daemon begins with those that were
 /// in force, or with these after just one order in progress or in doubt.
 pub fn script_law()
     ensures lawful { (w : World) → w.ran_out ≡ false → IsKernel w.kernel → StaysLawful w }

@@ -13,6 +13,8 @@ mod laws;
 mod line_word;
 mod move_lines;
 mod parse;
+mod pass_lines;
+mod passes;
 mod plan_lines;
 mod plugs;
 mod progress;

@@ -23,6 +23,7 @@ pub enum LineWord {
     Access,
     Seed,
     Zone,
+    IfaceRule,
 }
 
 /// The word of a line that stands before all others.
@@ -47,6 +48,9 @@ fn setup_word(text: &[u8]) -> Option<LineWord>
     }
     if text == b"zone".as_slice() {
         return Some(LineWord::Zone);
+    }
+    if text == b"iface-rule".as_slice() {
+        return Some(LineWord::IfaceRule);
     }
     None
 }

@@ -8,7 +8,7 @@ use crate::iface_lines::{iface_name, new_iface};
 use crate::line_word::{LineWord, line_word};
 use crate::plan_lines::{disk_fail, failing, scheduled, stop};
 use crate::plugs::device;
-use crate::setup_lines::{offset, read_access, read_folder_line, read_rule, seed};
+use crate::setup_lines::{offset, read_access, read_folder_line, read_iface_rule, read_rule, seed};
 use crate::step::{Plan, SetupLine, Step, StepFault};
 use crate::words::{moment, name, space};
 use std::alloc::Global;
@@ -42,12 +42,14 @@ fn step_behind(alloc: Global, word: LineWord, text: &[u8]) -> Result<Step, StepF
         LineWord::Access => Ok(Step::Setup(read_access(alloc, text)?)),
         LineWord::Seed => Ok(Step::Setup(SetupLine::Seed(seed(text).ok_or(bad)?))),
         LineWord::Zone => Ok(Step::Setup(SetupLine::Zone(offset(text).ok_or(bad)?))),
+        LineWord::IfaceRule => Ok(Step::Setup(read_iface_rule(alloc, text)?)),
     }
 }
 
 /// Reads a line that is not the first. An empty line and a comment are skipped. `plug`, `unplug`, `iface` and `uniface` tell what the
 /// kernel does by itself; `before`, `after`, `fail`, `disk fail` and `stop` speak of a call of the next event; `sweep` and `order` are events; `restart`
-/// begins another run of the daemon; `rule`, `folder`, `conf`, `access`, `seed` and `zone` stand before all others.
+/// begins another run of the daemon; `rule`, `folder`, `conf`, `access`, `seed`, `zone` and `iface-rule` stand
+/// before all others.
 #[tactic(auto, unfolding(crate::specs::Grammar::step_of_line))]
 pub fn parse_line(alloc: Global, line: &[u8]) -> Result<Step, StepFault>
     ensures { Parses (step_of_line line.now) result }

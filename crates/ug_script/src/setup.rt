@@ -13,11 +13,12 @@ use crate::words::is_entry;
 use std::alloc::Global;
 use std::marker::Model;
 use ug_conf::{LineFault, SettingsReader};
+use ug_iface::IfaceRule;
 use ug_policy::MAX_RULES;
 use ug_types::{NoMemory, Rule};
 
 /// The rules in order, of which the text is kept, the files of the folder before them, the settings so far, what was granted in
-/// order, and the seed and the zone, where they were given.
+/// order, the seed and the zone, where they were given, and the rules of interfaces in order.
 #[derive(Drop)]
 pub struct Setup {
     pub folder: FolderLines,
@@ -26,6 +27,7 @@ pub struct Setup {
     pub access: Vec<AccessLine>,
     pub seed: Option<[u8; 32]>,
     pub zone: Option<i32>,
+    pub ifaces: Vec<IfaceRule>,
 }
 
 impl Model for Setup {
@@ -41,6 +43,7 @@ impl Model for Setup {
       access = s.access.items;
       seed = s.seed;
       zone = s.zone;
+      ifaces = s.ifaces.items;
     } };
 
     ghost invariant = { λ s. record {
@@ -67,6 +70,7 @@ impl Setup {
             access: Vec::new(alloc),
             seed: None,
             zone: None,
+            ifaces: Vec::new(alloc),
         })
     }
 
@@ -94,6 +98,7 @@ impl Setup {
                 self.zone = Some(offset);
                 Ok(())
             }
+            SetupLine::IfaceRule(rule) => self.add_iface_rule(rule),
         }
     }
 
@@ -148,6 +153,16 @@ impl Setup {
             result self.old self.new }
     {
         match self.access.push(line) {
+            Ok(()) => Ok(()),
+            Err(_) => Err(StepFault::Memory),
+        }
+    }
+
+    fn add_iface_rule(&mut self, rule: IfaceRule) -> Result<(), StepFault>
+        ensures { Adds (Some (record self.old { ifaces = self.old.ifaces ++ rule ∷ [] }))
+            result self.old self.new }
+    {
+        match self.ifaces.push(rule) {
             Ok(()) => Ok(()),
             Err(_) => Err(StepFault::Memory),
         }

@@ -1,8 +1,10 @@
-// Lines that stand before all others: rules, also those of the folder, settings, access, a seed and a time zone.
+// Lines that stand before all others: rules, also those of the folder and of interfaces, settings, access, a seed and a time
+// zone.
 ghost use Rattle.std.specs.Prelude.{◌≡◌, ◌≤◌, ◌&&◌, Some};
 ghost use Rattle.ug_acl.specs.Texts.{access_read};
+ghost use Rattle.ug_iface.specs.Rules.{iface_rule_read};
 ghost use Rattle.ug_rule.specs.Rules.{rule_read};
-ghost use Rattle.ug_script.specs.Grammar.{folder_line_of, grant_of, granting, in_access, in_folder, in_rule, named_line};
+ghost use Rattle.ug_script.specs.Grammar.{folder_line_of, grant_of, granting, in_access, in_folder, in_iface_rule, in_rule, named_line};
 ghost use Rattle.ug_script.specs.Words as words;
 ghost use Rattle.ug_script.specs.Words.{Parses, offset_of, seed_of, signed_by, with_minutes};
 
@@ -11,6 +13,7 @@ use crate::words::{is_entry, is_one_line, space};
 use std::alloc::Global;
 use ug_acl::parse_access;
 use ug_conf::is_rule_file_name;
+use ug_iface::parse_iface_rule;
 use ug_rule::{RuleFault, parse_rule};
 use ug_types::{FileFault, Principal, Text};
 
@@ -20,6 +23,17 @@ pub fn read_rule(alloc: Global, text: &[u8]) -> Result<SetupLine, StepFault>
 {
     match parse_rule(alloc, text) {
         Ok(rule) => Ok(SetupLine::Rule(rule)),
+        Err(RuleFault::Bad { .. }) => Err(StepFault::Bad),
+        Err(RuleFault::Memory) => Err(StepFault::Memory),
+    }
+}
+
+/// What stands behind `iface-rule`.
+pub fn read_iface_rule(alloc: Global, text: &[u8]) -> Result<SetupLine, StepFault>
+    ensures { Parses (in_iface_rule (iface_rule_read text.now)) result }
+{
+    match parse_iface_rule(alloc, text) {
+        Ok(rule) => Ok(SetupLine::IfaceRule(rule)),
         Err(RuleFault::Bad { .. }) => Err(StepFault::Bad),
         Err(RuleFault::Memory) => Err(StepFault::Memory),
     }

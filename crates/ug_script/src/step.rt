@@ -1,6 +1,7 @@
 // What a line of a script asks for.
 use ug_acl::Grants;
 use ug_core::Event;
+use ug_iface::IfaceRule;
 use ug_store::Planned;
 use ug_sysfs::{Failing, Move, Scheduled};
 use ug_types::{NoMemory, Principal, Rule, Text};
@@ -34,6 +35,8 @@ pub enum SetupLine {
     Seed([u8; 32]),
     /// How many seconds local clocks are ahead of UTC.
     Zone(i32),
+    /// Interfaces that are switched off.
+    IfaceRule(IfaceRule),
 }
 
 /// What is to come at a call of the next event.

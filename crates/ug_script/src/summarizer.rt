@@ -3,7 +3,8 @@ ghost use Rattle.std.specs.Prelude.{◌≡◌, ◌⊎◌, ℕ, List, Some, None,
 ghost use Rattle.ug_types.specs.Ends.{Rose};
 ghost use Rattle.ug_command_io.specs.Statuses.{AnswersLines, status_of};
 ghost use Rattle.ug_command_io.specs.declared.results.Ended.{Ended};
-ghost use Rattle.ug_kernel.specs.Kernel.{IsKernel};
+ghost use Rattle.ug_iface.specs.Bus.{IsSoundBus};
+ghost use Rattle.ug_sysfs.specs.Serving.{bus_in};
 ghost use Rattle.ug_lines.specs.Lines.{lines_of};
 ghost use Rattle.ug_script.specs.Against.{LacksNumbers, RefusesScript, SpeaksAgainst};
 ghost use Rattle.ug_script.specs.LinesRead.{LineReads};
@@ -98,7 +99,7 @@ pub fn summarize<S: Source, K: Sink>(
     ensures told { (all base : List ℕ) → S.left input.old ≡ Some all → K.held out.old ≡ Some base
         → TellsSummary kernel.old all base (K.held out.new) result }
     ensures why { (all : List ℕ) → S.left input.old ≡ Some all
-        → kernel.old.ran_out ≡ false → IsKernel kernel.old.kernel → kernel.old.faults ≡ 0
+        → kernel.old.ran_out ≡ false → IsSoundBus (bus_in kernel.old) → kernel.old.faults ≡ 0
         → result ≡ 2 → RefusesScript kernel.old (lines_of all) }
     ensures ended { (ended : Ended) × (result ≡ status_of ended) }
     ensures read { result ≡ 4 → Rose (S.faults input.old) (S.faults input.new) }

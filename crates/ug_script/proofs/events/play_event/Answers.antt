@@ -16,7 +16,7 @@ returns-clause-ran g c =
     let p : Played = record { daemon = daemon_of c.handle.new.session.daemon; world = c.handle.new.kernel; disk = c.handle.new.session.disk } in
     let x : Played = event_from c.args.event.now (daemon_of c.args.session.now.daemon) c.args.kernel.now c.args.session.now.disk in
     let same : p ≡ x = event_fixed c.args.event.now (daemon_of c.args.session.now.daemon) c.args.kernel.now c.args.session.now.disk p.daemon p.world p.disk c.handle.ensures.played (search rules) (search rules) (search rules) in
-    came_ended c.args.setup.now c.args.plan.now p x (daemon_of c.write_event.new.session.daemon) c.end_event.new.self c.write_event.new.session.disk (g.K.Sink.held c.args.out.now) (g.K.Sink.held c.write_event.new.out) c.write_event.result same (sym c.stopped.ensures ∙ c.if-stopped.false) c.end_event.ensures (c.write_event.ensures.ran p.world)
+    came_ended c.args.setup.now c.args.plan.now p x (daemon_of c.finish_event.new.session.daemon) c.finish_event.new.kernel c.finish_event.new.session.disk (g.K.Sink.held c.args.out.now) (g.K.Sink.held c.finish_event.new.out) c.finish_event.result same (sym c.stopped.ensures ∙ c.if-stopped.false) c.finish_event.ensures.ran
 
 pub returns-then-stopped-clause-readable : goal.returns-then-stopped-clause-readable
 returns-then-stopped-clause-readable g c done = c.handle.ensures.readable (search rules) (search rules) (search rules)

@@ -1,5 +1,4 @@
-use Rattle.std.proofs.Common.{◌≡◌, ℕ, List, [], ◌∷◌, ◌++◌, Ok, Err, ap, subst, ◌∙◌}
-use Rattle.ug_conf.specs.declared.folder_file.FolderFile.{FolderFile}
+use Rattle.std.proofs.Common.{ℕ, List, [], ◌∷◌, ◌++◌, Ok, Err, ap, subst, ◌∙◌}
 use Rattle.ug_script.specs.FolderLines.{IsPlaceOf, files_of}
 use Rattle.ug_script.specs.declared.folder_lines.FileText.{FileText}
 use Rattle.ug_script.proofs.Folders.{appended, err_then, inserted, ok_then, unchanged}

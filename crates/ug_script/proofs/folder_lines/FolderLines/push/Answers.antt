@@ -1,4 +1,4 @@
-use Rattle.std.proofs.Common.{◌≡◌, ℕ, ◌+◌, List, sym, ap, subst, arith}
+use Rattle.std.proofs.Common.{◌≡◌, ◌+◌, List, sym, ap, subst, arith}
 use Rattle.ug_conf.specs.declared.folder_file.FolderFile.{FolderFile}
 use Rattle.ug_script.specs.FolderLines.{HasLines, ScriptFolder, files_of}
 use Rattle.ug_script.proofs.Folders.{lines_more}
