@@ -28,7 +28,8 @@ use Rattle.ug_sysfs.specs.Listing.{all_listed, all_of, distinct_of}
 -- what holds of the effect of a call
 pub record ReadyIface (c : IfaceCall) (a : IfaceAnswer c) (k l : Bus) : Type 0 where
   pub does : IfaceDoes c a k l
-  pub says : (x y : Bus) → IsSoundBus x → IsSoundBus k → MovesBus x k → MovesBus l y → IfaceSays c a x y
+  pub says : (x y : Bus) → IsSoundBus x → IsSoundBus k → MovesBus x k → MovesBus l y
+      → IfaceSays c a x y
   pub sound : IsSoundBus k → IsSoundBus l
 
 grown : (b c : Bus) → MovesBus b c → BusGrows b c
