@@ -326,7 +326,11 @@ def refused(guard, what, status, *words):
     check("%s: standard error says so" % what, all(word in told for word in words), told)
 
 
-def trial_folder_refusals(guard, folder, settings):
+def list_rules(o):
+    return subprocess.run([o.program, "list-rules"], capture_output=True, text=True).stdout
+
+
+def refuse_folder(o, guard, folder, settings):
     """A refused folder of rules: its file, the line and the place."""
     text, rules_d = settings.read_text(), folder / "rules.d"
     rules_d.mkdir()
@@ -340,12 +344,14 @@ def trial_folder_refusals(guard, folder, settings):
     (rules_d / "20-b.conf").unlink()
     guard.start()
     guard.await_line("end ")
-    check("rules of the folder come first", guard.ask("list-rules").split("\n")[0] == "1: allow id 1050:0012 # folder", guard.ask("list-rules"))
+    listed = list_rules(o)
+    check("rules of the folder come first", listed.startswith("1: allow id 1050:0012 # folder\n2: "), listed)
     guard.end()
     shutil.rmtree(rules_d)
     guard.start()
     guard.await_line("end ")
-    check("an absent folder of rules is empty", guard.ask("list-rules").split("\n")[0] == "1: allow", guard.ask("list-rules"))
+    listed = list_rules(o)
+    check("an absent folder of rules is empty", listed == "1: allow\n", listed)
     guard.end()
     settings.write_text(text)
 
@@ -372,7 +378,7 @@ def trial_refusals(o, machine, folder):
     os.chown(rules, 65534, -1)
     refused(guard, "rules of another owner", 9, str(rules), "owner is 65534")
     os.chown(rules, 0, -1)
-    trial_folder_refusals(guard, folder, settings)
+    refuse_folder(o, guard, folder, settings)
     (folder / "access/joe~").write_text("")
     refused(guard, "an odd access file", 3, "%s/joe~" % (folder / "access"), "none of a user or a group")
     (folder / "access/joe~").unlink()
