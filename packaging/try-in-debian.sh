@@ -332,7 +332,7 @@ END
 check 'zsh: the commands, and the options of each, are those of --help' 'zsh -f /tmp/options.zsh'
 completes "usbguard daemon --" '--conf'
 completes "usbguard daemon --conf /etc/usbguard/u" '/etc/usbguard/usbguard-daemon.conf'
-completes "usbguard check-rules '<' /etc/usbguard/r" '/etc/usbguard/rules.conf'
+completes "usbguard check-rules '<' /etc/usbguard/rules.c" '/etc/usbguard/rules.conf'
 completes "usbguard replay ''" ''
 completes "usbguard list-rules --socket = /run/usbguard/r" '/run/usbguard/root.socket'
 completes "usbguard watch --socket /run/usbguard/r" '/run/usbguard/root.socket'
@@ -343,7 +343,8 @@ completes "usbguard add-user joe --devices = modify,l" 'modify,list modify,liste
 completes "usbguard add-user joe --policy ''" 'modify list ALL'
 completes "usbguard-script -" '-c -d -m -o -r -u -w'
 completes "usbguard-script -w ''" 'hash parent-hash'
-completes "usbguard-script -r /etc/usbguard/r" '/etc/usbguard/rules.conf'
+completes "usbguard-script -r /etc/usbguard/rules.c" '/etc/usbguard/rules.conf'
+completes "usbguard-script -r /etc/usbguard/rules.d" '/etc/usbguard/rules.d'
 completes "usbguard-script -d /sys/bus/usb/d" '/sys/bus/usb/devices'
 check 'bash-completion loads both by itself' \
     'source /usr/share/bash-completion/bash_completion
