@@ -4,7 +4,7 @@ use std::rt::Files;
 use std::{fs, str};
 
 /// What a look found: how many events the kernel has announced, where its file tells that.
-#[derive(Clone, Copy, Debug, PartialEq, Eq, Drop)]
+#[derive(Clone, Copy, PartialEq, Eq, Drop)]
 enum Look {
     Announced(u64),
     Missing,

@@ -50,7 +50,6 @@ fn end_line<W: Write>(writer: &mut W) -> Put
 }
 
 // Writes a line and a newline, and flushes them.
-#[tactic(auto, using(crate::proofs::Written::line_ended, crate::proofs::Written::line_cut))]
 fn write_line<W: Write>(writer: &mut W, line: &[u8]) -> Noted
     ensures { TakesEntryLine (W.contents writer.old) (W.contents writer.new) line.now result }
 {

@@ -6,7 +6,8 @@ ghost use Rattle.ug_host.specs.Names.{AreFewNames, AreNamesIfThere};
 
 use crate::file::{FileFault, plain};
 use std::alloc::Global;
-use std::fs;
+use std::fs::{self, DirEntry, ReadDir};
+use std::io;
 use std::rt::Files;
 use ug_conf::FolderRead;
 use ug_types::{List, Text};
@@ -33,6 +34,32 @@ fn add_name(names: &mut List<Text>, name: Text) -> Result<(), FileFault>
     Ok(())
 }
 
+fn add_entry<R: Files + Drop>(
+    alloc: Global,
+    names: &mut List<Text>,
+    entry: io::Result<DirEntry<R>>,
+) -> Result<(), FileFault>
+    requires { AreFewNames names.old }
+    ensures { OnOk result (AreFewNames names.new) }
+{
+    let entry = plain(entry)?;
+    let name = Text::of(alloc, entry.file_name().as_bytes())?;
+    add_name(names, name)
+}
+
+fn add_entries<R: Files + AllocGlobal + Clone + Drop>(
+    alloc: Global,
+    entries: ReadDir<R>,
+) -> Result<List<Text>, FileFault>
+    ensures { IfOk result AreFewNames }
+{
+    let mut names = List::new(alloc);
+    for entry in entries {
+        add_entry(alloc, &mut names, entry)?;
+    }
+    Ok(names)
+}
+
 fn read_names<R: Files + AllocGlobal + Clone + Drop>(
     rt: &R,
     alloc: Global,
@@ -40,18 +67,11 @@ fn read_names<R: Files + AllocGlobal + Clone + Drop>(
 ) -> Result<Option<List<Text>>, FileFault>
     ensures { IfOk result AreNamesIfThere }
 {
-    let entries = match plain(fs::read_dir(rt, folder)) {
-        Ok(entries) => entries,
-        Err(FileFault::Missing) => return Ok(None),
-        Err(fault) => return Err(fault),
-    };
-    let mut names = List::new(alloc);
-    for entry in entries {
-        let entry = plain(entry)?;
-        let name = Text::of(alloc, entry.file_name().as_bytes())?;
-        add_name(&mut names, name)?;
+    match plain(fs::read_dir(rt, folder)) {
+        Ok(entries) => Ok(Some(add_entries(alloc, entries)?)),
+        Err(FileFault::Missing) => Ok(None),
+        Err(fault) => Err(fault),
     }
-    Ok(Some(names))
 }
 
 /// All names in a folder.

@@ -13,7 +13,7 @@ use ug_types::{NoMemory, NodeName, Text};
 const NO_DEVICE: i32 = 19;
 
 /// Why a file couldn't be had.
-#[derive(Clone, Copy, Debug, PartialEq, Eq, Drop)]
+#[derive(Clone, Copy, Drop)]
 pub enum FileFault {
     /// There is no such file, or its device is gone.
     Missing,
@@ -63,20 +63,6 @@ impl From<NoMemory> for FileFault {
 pub enum Content {
     Whole(Text),
     TooLong,
-}
-
-fn add_word(path: &mut String, word: &str) -> Result<(), AllocError> {
-    path.push('/')?;
-    path.push_str(word)
-}
-
-/// A path: a folder, and the words behind it, each with a slash before it.
-pub fn join(alloc: Global, folder: &str, words: &[&str]) -> Result<String, FileFault> {
-    let mut path = String::from_str(alloc, folder)?;
-    for word in words {
-        add_word(&mut path, word)?;
-    }
-    Ok(path)
 }
 
 /// A device's name as a word of a path. It is ASCII.

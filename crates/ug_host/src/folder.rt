@@ -2,8 +2,7 @@
 ghost use Rattle.ug_kernel.specs.Few.{HasFew, AreDistinct};
 
 use crate::file::{
-    Content, FileFault, join, open_to_write, read_file, read_first, read_number, word_of,
-    write_byte,
+    Content, FileFault, open_to_write, read_file, read_first, read_number, word_of, write_byte,
 };
 use crate::names::list_devices;
 use crate::port::read_connect_type;
@@ -42,7 +41,8 @@ impl<R: Files + AllocGlobal + Clone + Drop> Folder<R> {
 
     // The path of a file of the device that bears the name.
     fn path_of(&self, alloc: Global, name: &NodeName, file: &str) -> Result<String, FileFault> {
-        join(alloc, self.root.as_str(), &[word_of(name)?, file])
+        let word = word_of(name)?;
+        Ok([self.root.as_str(), word, file].join(alloc, "/")?)
     }
 
     // Opens the file of a control.

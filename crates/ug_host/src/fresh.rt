@@ -87,10 +87,8 @@ where
 }
 
 fn places_of(alloc: Global, target: String) -> Result<Places, FileFault> {
-    let mut path = String::from_str(alloc, target.as_str())?;
-    path.push_str(ENDING)?;
-    let mut folder = String::from_str(alloc, folder_of(target.as_str()))?;
-    folder.push('.')?;
+    let path = [target.as_str(), ENDING].concat(alloc)?;
+    let folder = [folder_of(target.as_str()), "."].concat(alloc)?;
     Ok(Places {
         path,
         folder,

@@ -29,9 +29,7 @@ fn whole_path(alloc: Global, folder: &str, target: &str) -> Result<String, Alloc
     if target.starts_with('/') {
         return String::from_str(alloc, target);
     }
-    let mut whole = String::from_str(alloc, folder)?;
-    whole.push_str(target)?;
-    Ok(whole)
+    [folder, target].concat(alloc)
 }
 
 /// Where the link at a path leads, or None where no link is there.

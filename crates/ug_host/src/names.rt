@@ -6,23 +6,32 @@ ghost use Rattle.ug_types.specs.Names.{sweep_cmp};
 ghost use Rattle.ug_kernel.specs.Few.{HasFew, AreDistinct};
 
 use crate::file::FileFault;
-use std::fs;
+use std::fs::{self, DirEntry};
+use std::io;
 use std::rt::Files;
 use ug_kernel::{Listing, MAX_DEVICES};
 use ug_types::{List, NodeName, sort_names};
 
-/// The entries of the folder that are names of devices. Others are passed over, as interfaces, which have a colon.
+/// The name of a device that an entry has, or None of another entry, as an interface, which has a colon.
+fn device_of<R: Files + Drop>(
+    entry: io::Result<DirEntry<R>>,
+) -> Result<Option<NodeName>, FileFault> {
+    let entry = entry?;
+    Ok(NodeName::parse(entry.file_name().as_bytes()).ok())
+}
+
+/// The entries of the folder that are names of devices.
 fn read_names<R: Files + AllocGlobal + Clone + Drop>(
     rt: &R,
     folder: &str,
 ) -> Result<Vec<NodeName>, FileFault> {
+    let entries = fs::read_dir(rt, folder)?;
     let mut names = Vec::new(rt.alloc());
-    for entry in fs::read_dir(rt, folder)? {
-        let entry = entry?;
-        if let Ok(name) = NodeName::parse(entry.file_name().as_bytes()) {
-            if names.push(name).is_err() {
-                return Err(FileFault::Memory);
-            }
+    for entry in entries {
+        if let Some(name) = device_of(entry)?
+            && names.push(name).is_err()
+        {
+            return Err(FileFault::Memory);
         }
     }
     Ok(names)

@@ -1,7 +1,8 @@
 // The connect type of the port at which a device hangs: sysfs-bus-usb, `portX/connect_type`.
-use crate::file::{Content, FileFault, join, read_file, word_of};
+use crate::file::{Content, FileFault, read_file, word_of};
 use std::alloc::{AllocError, Global};
-use std::fs;
+use std::fs::{self, DirEntry};
+use std::io;
 use std::rt::Files;
 use ug_types::NodeName;
 
@@ -39,41 +40,6 @@ fn is_of_hub(device: &str, hub: &str) -> bool {
     }
 }
 
-/// The hub's interface that has its ports.
-fn find_interface<R: Files + AllocGlobal + Clone + Drop>(
-    rt: &R,
-    folder: &str,
-    hub: &str,
-) -> Result<Option<String>, FileFault> {
-    for entry in fs::read_dir(rt, folder)? {
-        let entry = entry?;
-        if is_hub_interface(entry.file_name(), hub) {
-            return Ok(Some(String::from_str(rt.alloc(), entry.file_name())?));
-        }
-    }
-    Ok(None)
-}
-
-/// The same, or None where the hub has no folder.
-fn interface_of<R: Files + AllocGlobal + Clone + Drop>(
-    rt: &R,
-    folder: &str,
-    hub: &str,
-) -> Result<Option<String>, FileFault> {
-    match find_interface(rt, folder, hub) {
-        Err(FileFault::Missing) => Ok(None),
-        found => found,
-    }
-}
-
-/// The name of a port's folder.
-fn name_of_port(alloc: Global, hub: &str, port: &str) -> Result<String, AllocError> {
-    let mut name = String::from_str(alloc, hub)?;
-    name.push_str("-port")?;
-    name.push_str(port)?;
-    Ok(name)
-}
-
 /// The path of the file at the hub's port, below an interface in the hub's folder.
 fn path_below(
     alloc: Global,
@@ -81,25 +47,39 @@ fn path_below(
     interface: &str,
     hub: &str,
     port: &str,
-) -> Result<String, FileFault> {
-    let name = name_of_port(alloc, hub, port)?;
-    join(alloc, folder, &[interface, name.as_str(), "connect_type"])
+) -> Result<String, AllocError> {
+    [folder, "/", interface, "/", hub, "-port", port, "/connect_type"].concat(alloc)
 }
 
-/// The path of the file at the hub's port, where the hub, whose folder that is, has an interface with ports.
+/// The same, where an entry of the hub's folder is the interface that has its ports.
+fn path_by<R: Files + Drop>(
+    alloc: Global,
+    entry: io::Result<DirEntry<R>>,
+    folder: &str,
+    hub: &str,
+    port: &str,
+) -> Result<Option<String>, FileFault> {
+    let entry = entry?;
+    if !is_hub_interface(entry.file_name(), hub) {
+        return Ok(None);
+    }
+    let path = path_below(alloc, folder, entry.file_name(), hub, port)?;
+    Ok(Some(path))
+}
+
+/// The path of the file at the hub's port, in the folder of the hub. It is missing where the hub has no folder, or no interface there.
 fn path_in<R: Files + AllocGlobal + Clone + Drop>(
     rt: &R,
     folder: &str,
     hub: &str,
     port: &str,
-) -> Result<Option<String>, FileFault> {
-    match interface_of(rt, folder, hub)? {
-        Some(interface) => {
-            let path = path_below(rt.alloc(), folder, interface.as_str(), hub, port)?;
-            Ok(Some(path))
+) -> Result<String, FileFault> {
+    for entry in fs::read_dir(rt, folder)? {
+        if let Some(path) = path_by(rt.alloc(), entry, folder, hub, port)? {
+            return Ok(path);
         }
-        None => Ok(None),
     }
+    Err(FileFault::Missing)
 }
 
 /// The same, of the hub in that folder of devices.
@@ -108,8 +88,8 @@ fn path_at_hub<R: Files + AllocGlobal + Clone + Drop>(
     root: &str,
     hub: &str,
     port: &str,
-) -> Result<Option<String>, FileFault> {
-    let folder = join(rt.alloc(), root, &[hub])?;
+) -> Result<String, FileFault> {
+    let folder = [root, hub].join(rt.alloc(), "/")?;
     path_in(rt, folder.as_str(), hub, port)
 }
 
@@ -124,9 +104,18 @@ fn read_at_hub<R: Files + AllocGlobal + Clone + Drop>(
     let Some(parent) = name.parent() else {
         return Err(FileFault::Missing);
     };
-    let Some(path) = path_at_hub(rt, root, word_of(&parent)?, port_of(word))? else {
-        return Err(FileFault::Missing);
-    };
+    let path = path_at_hub(rt, root, word_of(&parent)?, port_of(word))?;
+    read_file(rt, alloc, path.as_str(), LIMIT)
+}
+
+/// Reads the connect type by the device's own link to its port.
+fn read_at_link<R: Files>(
+    rt: &R,
+    alloc: Global,
+    root: &str,
+    word: &str,
+) -> Result<Content, FileFault> {
+    let path = [root, word, "port/connect_type"].join(alloc, "/")?;
     read_file(rt, alloc, path.as_str(), LIMIT)
 }
 
@@ -140,9 +129,7 @@ pub fn read_connect_type<R: Files + AllocGlobal + Clone + Drop>(
 ) -> Result<Content, FileFault> {
     let word = word_of(name)?;
     match read_at_hub(rt, alloc, root, name, word) {
-        Err(FileFault::Missing) => {}
-        read => return read,
+        Err(FileFault::Missing) => read_at_link(rt, alloc, root, word),
+        read => read,
     }
-    let path = join(alloc, root, &[word, "port", "connect_type"])?;
-    read_file(rt, alloc, path.as_str(), LIMIT)
 }

@@ -16,6 +16,13 @@ use std::rt::Files;
 use ug_store::{DiskAnswer, Loaded, RuleDisk};
 use ug_types::{NoMemory, Text};
 
+/// A new file, and its text, which is to take the rule file's place.
+#[derive(Drop)]
+struct Coming<F> {
+    file: Fresh<F>,
+    text: Text,
+}
+
 /// A rule file of this machine. A save writes a new file beside it, which has its owner and mode, and then takes its place; a link in
 /// the rule file's place is followed, and stays. What it answers is told by the machine alone.
 ///
@@ -26,12 +33,10 @@ use ug_types::{NoMemory, Text};
 pub struct RuleFile<R: Files> {
     rt: R,
     path: Text,
-    fresh: Option<Fresh<R::File>>,
+    coming: Option<Coming<R::File>>,
     /// The text that the file had when it was last known, and the one that a save since then tried to write.
     known: Text,
     tried: Option<Text>,
-    /// The text that is to take the file's place.
-    coming: Option<Text>,
     /// The last text of which a person was told.
     told: Option<Text>,
     faults: u64,
@@ -48,10 +53,9 @@ where
         RuleFile {
             rt,
             path: Text::new(alloc),
-            fresh: None,
+            coming: None,
             known: Text::new(alloc),
             tried: None,
-            coming: None,
             told: None,
             faults: 0,
         }
@@ -146,17 +150,27 @@ where
         }
     }
 
-    // Tells a person what became of the file, and gives what it has, unless that was told before.
-    fn find_untold(&self, alloc: Global) -> Result<Option<Text>, FileFault> {
-        let path = text_of(self.path.bytes())?;
-        let Some(Content::Whole(found)) = read_at(&self.rt, alloc, path)? else {
-            return Ok(None);
-        };
+    // Tells a person that the file at the path has that text, and gives it, unless it was told before.
+    fn tell_found(
+        &self,
+        alloc: Global,
+        path: &str,
+        found: Text,
+    ) -> Result<Option<Text>, FileFault> {
         if self.was_told(&found) {
             return Ok(None);
         }
         tell_changed(alloc, path)?;
         Ok(Some(found))
+    }
+
+    // Tells a person what became of the file, and gives what it has, unless that was told before.
+    fn find_untold(&self, alloc: Global) -> Result<Option<Text>, FileFault> {
+        let path = text_of(self.path.bytes())?;
+        match read_at(&self.rt, alloc, path)? {
+            Some(Content::Whole(found)) => self.tell_found(alloc, path, found),
+            _ => Ok(None),
+        }
     }
 
     // Tells a person that the file has another text, once for each.
@@ -170,20 +184,33 @@ where
         Ok(())
     }
 
+    // Fails where the file may not be overwritten, and tells that.
+    fn check_known_or_tell(&mut self, alloc: Global) -> Result<(), FileFault>
+        ensures faults { self.new.faults ≡ self.old.faults }
+        ensures path { self.new.path ≡ self.old.path }
+    {
+        if self.is_known()? {
+            return Ok(());
+        }
+        self.tell_other(alloc)?;
+        Err(FileFault::Failed)
+    }
+
+    // A new file of that text.
+    fn make_new(&self, alloc: Global, text: &[u8]) -> Result<Coming<R::File>, FileFault> {
+        let path = text_of(self.path.bytes())?;
+        let kept = Text::of(alloc, text)?;
+        let file = make(&self.rt, alloc, path, text)?;
+        Ok(Coming { file, text: kept })
+    }
+
     fn write(&mut self, alloc: Global, text: &[u8]) -> Result<(), FileFault>
         ensures faults { self.new.faults ≡ self.old.faults }
         ensures path { self.new.path ≡ self.old.path }
     {
-        self.fresh = None;
         self.coming = None;
-        if !self.is_known()? {
-            self.tell_other(alloc)?;
-            return Err(FileFault::Failed);
-        }
-        let path = text_of(self.path.bytes())?;
-        let coming = Text::of(alloc, text)?;
-        self.fresh = Some(make(&self.rt, alloc, path, text)?);
-        self.coming = Some(coming);
+        self.check_known_or_tell(alloc)?;
+        self.coming = Some(self.make_new(alloc, text)?);
         Ok(())
     }
 
@@ -197,17 +224,17 @@ where
     }
 
     // Puts the new file in the other's place, if that has the known text still. From then on the file has the new text, or may have it.
-    fn put(&mut self, fresh: Fresh<R::File>, coming: Text) -> Result<(), FileFault>
+    fn put(&mut self, coming: Coming<R::File>) -> Result<(), FileFault>
         ensures faults { self.new.faults ≡ self.old.faults }
         ensures path { self.new.path ≡ self.old.path }
     {
         self.check_known()?;
-        let swapped = fresh.swap(&self.rt);
+        let swapped = coming.file.swap(&self.rt);
         if swapped.is_ok() {
-            self.known = coming;
+            self.known = coming.text;
             self.tried = None;
         } else {
-            self.tried = Some(coming);
+            self.tried = Some(coming.text);
         }
         swapped
     }
@@ -217,9 +244,9 @@ where
         ensures faults { self.new.faults ≡ self.old.faults }
         ensures path { self.new.path ≡ self.old.path }
     {
-        match (self.fresh.take(), self.coming.take()) {
-            (Some(fresh), Some(coming)) => self.put(fresh, coming),
-            _ => Err(FileFault::Missing),
+        match self.coming.take() {
+            Some(coming) => self.put(coming),
+            None => Err(FileFault::Missing),
         }
     }
 }
@@ -284,7 +311,7 @@ where
 
     fn aim(&mut self, alloc: Global, path: &[u8]) -> Result<(), NoMemory> {
         self.path = Text::of(alloc, path)?;
-        self.fresh = None;
+        self.coming = None;
         Ok(())
     }
 
@@ -302,8 +329,8 @@ where
     }
 
     fn sync_new(&mut self) -> DiskAnswer {
-        let answer = answer_without_memory(match &self.fresh {
-            Some(fresh) => fresh.sync(),
+        let answer = answer_without_memory(match &self.coming {
+            Some(coming) => coming.file.sync(),
             None => Err(FileFault::Missing),
         });
         self.count(is_failed(answer));

@@ -2,7 +2,7 @@
 use crate::at_once::tell;
 use crate::file::{FileFault, plain};
 use crate::linked::{folder_of, resolve};
-use std::alloc::{AllocError, Global};
+use std::alloc::Global;
 use std::fs::{self, Metadata, OpenFile};
 use std::io::{self, ErrorKind};
 use std::os::unix::fs::MetadataExt;
@@ -43,19 +43,13 @@ pub fn tell_failed(alloc: Global, what: &str, path: &str, error: &io::Error) {
     }
 }
 
-// The path of the folder itself, of which the text has the slash at its end, or is empty where the folder is the working one.
-fn folder_itself(alloc: Global, folder: &str) -> Result<String, AllocError> {
-    let mut path = String::from_str(alloc, folder)?;
-    path.push('.')?;
-    Ok(path)
-}
-
+// The text has a slash at its end, or is empty where the folder is the working one.
 fn metadata_of_folder<R: Files>(
     rt: &R,
     alloc: Global,
     folder: &str,
 ) -> Result<Metadata, FileFault> {
-    let path = folder_itself(alloc, folder)?;
+    let path = [folder, "."].concat(alloc)?;
     plain(fs::metadata(rt, path.as_str()))
 }
 

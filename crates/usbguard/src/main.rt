@@ -7,6 +7,7 @@ mod link_words;
 mod open_hubs;
 mod serve;
 mod shown;
+mod texts;
 mod told;
 mod usage;
 mod waiting;
@@ -16,10 +17,11 @@ use crate::about::tell_about;
 use crate::last_line::{LastLine, tell_line};
 use crate::link_words::tell_link;
 use crate::serve::serve;
+use crate::texts::{TextsFault, read_texts, words_of};
 use crate::usage::{tell, tell_unreadable};
 use crate::waiting::tell_waiting;
 use std::process::ExitCode;
-use std::{env, io};
+use std::io;
 use ug_host::{SocketLink, fill_standard_files};
 use ug_sysfs::SimKernel;
 use ug_tool::{run_replay, run_tool};
@@ -33,53 +35,47 @@ fn end_with<K: Sink>(out: &mut K, line: &[u8], status: u8) -> ExitCode {
     }
 }
 
-fn main(rt: HostRuntime) -> ExitCode {
-    fill_standard_files();
-    let alloc = rt.alloc();
-    let mut lines = LastLine::new(alloc, io::writer(&rt));
-    let mut out = WriterSink::new(&mut lines);
-    let texts = match env::args(&rt) {
-        Ok(texts) => texts,
-        Err(e) if e.kind() == io::ErrorKind::OutOfMemory => {
-            return end_with(&mut out, b"no memory\n", 6);
-        }
-        Err(_) => {
-            tell_unreadable(&rt);
-            return end_with(&mut out, b"bad words\n", 1);
-        }
-    };
-    let mut kept = Vec::new(alloc);
-    for text in texts.skip(1) {
-        if kept.push(text).is_err() {
-            return end_with(&mut out, b"no memory\n", 6);
-        }
-    }
-    let mut words = Vec::new(alloc);
-    for text in kept.iter() {
-        if words.push(text.as_str()).is_err() {
-            return end_with(&mut out, b"no memory\n", 6);
-        }
-    }
-    if let Some(status) = tell_about(&rt, &words) {
-        return ExitCode::from(status);
-    }
-    tell_waiting(&rt, &words);
+// Runs the command of these words, and gives its status.
+fn run<K: Sink>(rt: HostRuntime, words: &[&str], out: &mut K) -> u8 {
     let mut input = ReaderSource::new(rt.reader());
-    let status = match words.as_slice() {
+    match words {
         ["daemon", behind @ ..] => serve(rt, behind),
         ["replay", ..] => {
-            let mut kernel = SimKernel::new(alloc);
-            run_replay(alloc, &words, &mut input, &mut out, &mut kernel)
+            let mut kernel = SimKernel::new(rt.alloc());
+            run_replay(rt.alloc(), words, &mut input, out, &mut kernel)
         }
         _ => {
             let mut link = SocketLink::new(rt);
-            let status = run_tool(alloc, &words, &mut input, &mut out, &mut link);
+            let status = run_tool(rt.alloc(), words, &mut input, out, &mut link);
             if status == 8 {
                 tell_link(&rt, &link);
             }
             status
         }
+    }
+}
+
+fn main(rt: HostRuntime) -> ExitCode {
+    fill_standard_files();
+    let alloc = rt.alloc();
+    let mut lines = LastLine::new(alloc, io::writer(&rt));
+    let mut out = WriterSink::new(&mut lines);
+    let texts = match read_texts(&rt) {
+        Ok(texts) => texts,
+        Err(TextsFault::Memory) => return end_with(&mut out, b"no memory\n", 6),
+        Err(TextsFault::Unreadable) => {
+            tell_unreadable(&rt);
+            return end_with(&mut out, b"bad words\n", 1);
+        }
     };
+    let Some(words) = words_of(alloc, texts.as_slice()) else {
+        return end_with(&mut out, b"no memory\n", 6);
+    };
+    if let Some(status) = tell_about(&rt, &words) {
+        return ExitCode::from(status);
+    }
+    tell_waiting(&rt, &words);
+    let status = run(rt, &words, &mut out);
     tell_line(&rt, lines.text());
     tell(&rt, &words, status);
     ExitCode::from(status)
