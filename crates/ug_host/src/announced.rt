@@ -4,10 +4,14 @@ use std::rt::Files;
 use std::{fs, str};
 
 /// What a look found: how many events the kernel has announced, where its file tells that.
-#[derive(Clone, Copy, PartialEq, Eq, Drop)]
+#[derive(Clone, Copy, PartialEq, Eq)]
 enum Look {
     Announced(u64),
     Missing,
+}
+
+fn number_in(text: &[u8]) -> Option<u64> {
+    str::from_utf8(text).ok()?.trim().parse::<u64>().ok()
 }
 
 /// A file in which the kernel counts the events that it announces, such as `/sys/kernel/uevent_seqnum` (sysfs-kernel-uevent_seqnum),
@@ -30,11 +34,14 @@ impl<R: Files> Announced<R> {
     }
 
     fn read(&self) -> Option<u64> {
-        let mut file = fs::open(&self.rt, self.path.as_str()).ok()?;
+        let Ok(mut file) = fs::open(&self.rt, self.path.as_str()) else {
+            return None;
+        };
         let mut piece = [0u8; 24];
-        let count = file.read(&mut piece).ok()?;
-        let word = str::from_utf8(&piece[..count]).ok()?;
-        word.trim().parse::<u64>().ok()
+        match file.read(&mut piece) {
+            Ok(count) => number_in(&piece[..count]),
+            Err(_) => None,
+        }
     }
 
     fn look(&self) -> Look {

@@ -13,7 +13,7 @@ use ug_types::{NoMemory, NodeName, Text};
 const NO_DEVICE: i32 = 19;
 
 /// Why a file couldn't be had.
-#[derive(Clone, Copy, Drop)]
+#[derive(Clone, Copy)]
 pub enum FileFault {
     /// There is no such file, or its device is gone.
     Missing,

@@ -68,11 +68,15 @@ impl<R: Files + AllocGlobal + Clone + Drop> Folder<R> {
         alloc: Global,
         name: &NodeName,
         control: Control,
-        devnum_path: &str,
-    ) -> Result<(R::File, u32), FileFault> {
+        devnum_path: String,
+    ) -> Result<OpenControl<R::File>, FileFault> {
         let file = self.open_file(alloc, name, control)?;
-        let devnum = read_number(&self.rt, devnum_path)?;
-        Ok((file, devnum))
+        let devnum = read_number(&self.rt, devnum_path.as_str())?;
+        Ok(OpenControl {
+            file,
+            devnum_path,
+            devnum,
+        })
     }
 
     fn open(
@@ -82,23 +86,16 @@ impl<R: Files + AllocGlobal + Clone + Drop> Folder<R> {
         control: Control,
     ) -> Result<OpenControl<R::File>, FileFault> {
         let devnum_path = self.path_of(alloc, name, "devnum")?;
-        let (file, devnum) = self.open_numbered(alloc, name, control, devnum_path.as_str())?;
-        Ok(OpenControl {
-            file,
-            devnum_path,
-            devnum,
-        })
+        self.open_numbered(alloc, name, control, devnum_path)
     }
 
     fn hold(&mut self, file: OpenControl<R::File>) -> Opened {
         let number = self.next;
-        match self.open.insert(number, file) {
-            Ok(_) => {
-                self.next = number.saturating_add(1);
-                Opened::Token(Held(number))
-            }
-            Err(_) => Opened::Memory,
+        if self.open.insert(number, file).is_err() {
+            return Opened::Memory;
         }
+        self.next = number.saturating_add(1);
+        Opened::Token(Held(number))
     }
 
     fn read_text(

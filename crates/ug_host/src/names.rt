@@ -12,12 +12,18 @@ use std::rt::Files;
 use ug_kernel::{Listing, MAX_DEVICES};
 use ug_types::{List, NodeName, sort_names};
 
-/// The name of a device that an entry has, or None of another entry, as an interface, which has a colon.
-fn device_of<R: Files + Drop>(
+/// A name more, where the entry has that of a device. Others are passed over, as interfaces, which have a colon.
+fn add_device<R: Files + Drop>(
+    names: &mut Vec<NodeName>,
     entry: io::Result<DirEntry<R>>,
-) -> Result<Option<NodeName>, FileFault> {
+) -> Result<(), FileFault> {
     let entry = entry?;
-    Ok(NodeName::parse(entry.file_name().as_bytes()).ok())
+    if let Ok(name) = NodeName::parse(entry.file_name().as_bytes()) {
+        if names.push(name).is_err() {
+            return Err(FileFault::Memory);
+        }
+    }
+    Ok(())
 }
 
 /// The entries of the folder that are names of devices.
@@ -28,11 +34,7 @@ fn read_names<R: Files + AllocGlobal + Clone + Drop>(
     let entries = fs::read_dir(rt, folder)?;
     let mut names = Vec::new(rt.alloc());
     for entry in entries {
-        if let Some(name) = device_of(entry)?
-            && names.push(name).is_err()
-        {
-            return Err(FileFault::Memory);
-        }
+        add_device(&mut names, entry)?;
     }
     Ok(names)
 }

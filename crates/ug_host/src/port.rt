@@ -48,7 +48,17 @@ fn path_below(
     hub: &str,
     port: &str,
 ) -> Result<String, AllocError> {
-    [folder, "/", interface, "/", hub, "-port", port, "/connect_type"].concat(alloc)
+    [
+        folder,
+        "/",
+        interface,
+        "/",
+        hub,
+        "-port",
+        port,
+        "/connect_type",
+    ]
+    .concat(alloc)
 }
 
 /// The same, where an entry of the hub's folder is the interface that has its ports.
@@ -108,17 +118,6 @@ fn read_at_hub<R: Files + AllocGlobal + Clone + Drop>(
     read_file(rt, alloc, path.as_str(), LIMIT)
 }
 
-/// Reads the connect type by the device's own link to its port.
-fn read_at_link<R: Files>(
-    rt: &R,
-    alloc: Global,
-    root: &str,
-    word: &str,
-) -> Result<Content, FileFault> {
-    let path = [root, word, "port/connect_type"].join(alloc, "/")?;
-    read_file(rt, alloc, path.as_str(), LIMIT)
-}
-
 /// Reads the connect type of a device. It is there before the device in the folder of the hub's port; the device's own link
 /// to that folder comes later, and serves only where the hub has no such folder. A root hub has none.
 pub fn read_connect_type<R: Files + AllocGlobal + Clone + Drop>(
@@ -129,7 +128,9 @@ pub fn read_connect_type<R: Files + AllocGlobal + Clone + Drop>(
 ) -> Result<Content, FileFault> {
     let word = word_of(name)?;
     match read_at_hub(rt, alloc, root, name, word) {
-        Err(FileFault::Missing) => read_at_link(rt, alloc, root, word),
-        read => read,
+        Err(FileFault::Missing) => {}
+        read => return read,
     }
+    let path = [root, word, "port/connect_type"].join(alloc, "/")?;
+    read_file(rt, alloc, path.as_str(), LIMIT)
 }

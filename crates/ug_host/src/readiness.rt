@@ -11,7 +11,7 @@ const PATH: usize = 2;
 const MOST: usize = 108;
 
 /// The address of a manager's socket, to which a message is still to be sent.
-#[derive(Clone, Copy, Drop)]
+#[derive(Clone, Copy)]
 pub struct Readiness {
     address: [u8; _SS_SIZE],
     len: u32,

@@ -12,18 +12,17 @@ fn is_version(word: &str) -> bool {
     word == "--version" || word == "-V"
 }
 
+fn tell_usage(rt: &HostRuntime, command: Option<&str>) -> std::io::Result<()> {
+    let text = usage_text(rt.alloc(), command)?;
+    println!(rt; "{text}")
+}
+
 // The text that is asked for, or none.
 fn about(rt: &HostRuntime, words: &[&str]) -> std::io::Result<bool> {
     match words {
         [word] if is_version(word) => println!(rt; "usbguard {VERSION}")?,
-        [word] if is_help(word) => {
-            let text = usage_text(rt.alloc(), None)?;
-            println!(rt; "{text}")?
-        }
-        [command, word] if is_help(word) && is_known(command) => {
-            let text = usage_text(rt.alloc(), Some(command))?;
-            println!(rt; "{text}")?
-        }
+        [word] if is_help(word) => tell_usage(rt, None)?,
+        [command, word] if is_help(word) && is_known(command) => tell_usage(rt, Some(command))?,
         _ => return Ok(false),
     }
     Ok(true)

@@ -32,25 +32,25 @@ fn outcome(reached: Reached) -> &'static str {
     }
 }
 
+// A socket that is there, with what stands in front of the first.
+fn tell_socket(rt: &HostRuntime, name: &str, is_first: bool) -> std::io::Result<()> {
+    if is_first {
+        eprintln!(rt;
+            "usbguard: these sockets are there. Yours bears your name, or a colon and a group's:"
+        )?;
+    }
+    eprintln!(rt; "  --socket={SOCKETS}/{name}")
+}
+
 // The sockets that are there, and how to name one.
 fn tell_sockets(rt: &HostRuntime) -> std::io::Result<()> {
     let mut any = false;
     for entry in fs::read_dir(rt, SOCKETS)? {
         let entry = entry?;
-        let name = entry.file_name();
-        let Ok(name) = str::from_utf8(name.as_bytes()) else {
-            continue;
-        };
-        if !name.ends_with(".socket") {
-            continue;
-        }
-        if !any {
-            eprintln!(rt;
-                "usbguard: these sockets are there. Yours bears your name, or a colon and a group's:"
-            )?;
+        if entry.file_name().ends_with(".socket") {
+            tell_socket(rt, entry.file_name(), !any)?;
             any = true;
         }
-        eprintln!(rt; "  --socket={SOCKETS}/{name}")?;
     }
     if !any {
         eprintln!(rt;

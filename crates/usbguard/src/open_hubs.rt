@@ -23,19 +23,27 @@ fn switches_on(text: &[u8]) -> bool {
     }
 }
 
+// Whether the device of that name in the folder is a root hub that switches on what comes to it.
+fn is_open(rt: &HostRuntime, devices: &str, name: &str) -> Option<bool> {
+    if !name.starts_with("usb") {
+        return Some(false);
+    }
+    let path = [devices, "/", name, "/authorized_default"]
+        .concat(rt.alloc())
+        .ok()?;
+    match read_text(rt, path.as_str()) {
+        Some(text) => Some(switches_on(text.as_slice())),
+        None => Some(false),
+    }
+}
+
 // How many root hubs of the folder of devices switch on what comes to them.
 fn count_open(rt: &HostRuntime, devices: &str) -> Option<u64> {
     let mut count = 0u64;
     for entry in fs::read_dir(rt, devices).ok()? {
         let entry = entry.ok()?;
-        let name = entry.file_name();
-        if name.starts_with("usb") {
-            let path = format!(in rt.alloc(); "{devices}/{name}/authorized_default").ok()?;
-            if let Some(text) = read_text(rt, path.as_str())
-                && switches_on(text.as_slice())
-            {
-                count = count.saturating_add(1);
-            }
+        if is_open(rt, devices, entry.file_name())? {
+            count = count.saturating_add(1);
         }
     }
     Some(count)
@@ -47,16 +55,21 @@ fn settings_at(rt: &HostRuntime, path: &Text) -> Option<Settings> {
     parse_conf(rt.alloc(), text.as_slice()).ok()
 }
 
+// Whether the settings of a daemon with these words are good ones, and leave the default of each root hub as it is.
+fn leave_defaults(rt: &HostRuntime, words: &[&str]) -> bool {
+    let Ok(path) = read_daemon_words(rt.alloc(), words) else {
+        return false;
+    };
+    match settings_at(rt, &path) {
+        Some(settings) => leaves_defaults(&settings),
+        None => false,
+    }
+}
+
 /// Tells on standard error how many root hubs switch on what comes to them, where the settings of a daemon with these words leave them so.
 /// It is called before the start, which reads the settings anew. Where they aren't good ones nothing is told.
 pub fn tell_open_hubs(rt: &HostRuntime, words: &[&str], devices: &str) {
-    let Ok(path) = read_daemon_words(rt.alloc(), words) else {
-        return;
-    };
-    let Some(settings) = settings_at(rt, &path) else {
-        return;
-    };
-    if !leaves_defaults(&settings) {
+    if !leave_defaults(rt, words) {
         return;
     }
     if let Some(count) = count_open(rt, devices)

@@ -1,4 +1,5 @@
 // A line of a file, with a mark below the place of its fault.
+use std::alloc::Global;
 use std::io::Read;
 use std::rt::Files;
 use std::{fs, str};
@@ -64,17 +65,27 @@ pub fn read_text(rt: &HostRuntime, path: &str) -> Option<Vec<u8>> {
     Some(text)
 }
 
+fn put_blanks(shown: &mut String, count: usize) -> Option<()> {
+    for _ in 0..count {
+        shown.push(' ').ok()?;
+    }
+    Some(())
+}
+
+/// A part of a line, and a caret below it, before which so many characters stand.
+fn marked(alloc: Global, part: &str, count: usize) -> Option<String> {
+    let mut shown = String::from_str(alloc, "    ").ok()?;
+    put_plain(&mut shown, part)?;
+    shown.push_str("\n    ").ok()?;
+    put_blanks(&mut shown, count)?;
+    shown.push_str("^\n").ok()?;
+    Some(shown)
+}
+
 /// The line of a file in which a fault stands, and a caret below its place: two lines, each with its end. None where they can't be had.
 pub fn show_line(rt: &HostRuntime, path: &str, spot: Spot) -> Option<String> {
     let text = read_text(rt, path)?;
     let line = str::from_utf8(line_of(text.as_slice(), spot)?).ok()?;
     let (part, count) = around(line, usize::try_from(spot.place).ok()?)?;
-    let mut shown = String::from_str(rt.alloc(), "    ").ok()?;
-    put_plain(&mut shown, part)?;
-    shown.push_str("\n    ").ok()?;
-    for _ in 0..count {
-        shown.push(' ').ok()?;
-    }
-    shown.push_str("^\n").ok()?;
-    Some(shown)
+    marked(rt.alloc(), part, count)
 }

@@ -125,21 +125,27 @@ pub fn is_known(word: &str) -> bool {
 
 // How the command is used.
 fn text_of_one(alloc: Global, usage: &Usage) -> Result<String, AllocError> {
-    let mut text = String::from_str(alloc, "usage: ")?;
-    text.push_str(usage.line)?;
-    text.push('\n')?;
-    text.push_str(usage.hint)?;
-    text.push_str("\nThe manual page usbguard(1) says what it does.")?;
-    Ok(text)
+    [
+        "usage: ",
+        usage.line,
+        "\n",
+        usage.hint,
+        "\nThe manual page usbguard(1) says what it does.",
+    ]
+    .concat(alloc)
+}
+
+fn add_line(text: &mut String, line: &str) -> Result<(), AllocError> {
+    text.push_str("  ")?;
+    text.push_str(line)?;
+    text.push('\n')
 }
 
 // How each command is used.
 fn text_of_all(alloc: Global) -> Result<String, AllocError> {
     let mut text = String::from_str(alloc, "usage:\n")?;
     for usage in USAGES.iter() {
-        text.push_str("  ")?;
-        text.push_str(usage.line)?;
-        text.push('\n')?;
+        add_line(&mut text, usage.line)?;
     }
     text.push_str("The manual page usbguard(1) says what each does.")?;
     Ok(text)

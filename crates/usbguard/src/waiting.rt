@@ -27,15 +27,20 @@ fn input_of(command: &Command) -> Option<(&'static str, &'static str)> {
     }
 }
 
+// The same of the command of these words.
+fn input_for(rt: &HostRuntime, words: &[&str]) -> Option<(&'static str, &'static str)> {
+    match read_command(rt.alloc(), words) {
+        Ok(command) => input_of(&command),
+        Err(_) => None,
+    }
+}
+
 /// Tells on standard error what a command waits for, where its standard input is a terminal.
 pub fn tell_waiting(rt: &HostRuntime, words: &[&str]) {
     if !rt.stdin().is_terminal() {
         return;
     }
-    let Ok(command) = read_command(rt.alloc(), words) else {
-        return;
-    };
-    if let Some((input, usual)) = input_of(&command) {
+    if let Some((input, usual)) = input_for(rt, words) {
         let _told = eprintln!(rt;
             "usbguard: reading {input} from the terminal, up to Ctrl-D on a line of its own. The usual way is: {usual}"
         );
