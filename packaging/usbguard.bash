@@ -120,7 +120,7 @@ _usbguard_script() {
     -c | -m | -r) _usbguard_files "$word" ;;
     -d) _usbguard_files "$word" -d ;;
     -w) _usbguard_words "$word" hash parent-hash ;;
-    *) _usbguard_words "$word" -c -d -m -o -r -u -w ;;
+    *) _usbguard_words "$word" -c -d -k -m -o -r -u -w ;;
     esac
 }
 

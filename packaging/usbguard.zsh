@@ -66,6 +66,7 @@ _usbguard() {
         _arguments -s \
             '-c[a file of settings]:settings:_files' \
             '-d[the folder of devices]:folder:_files -/' \
+            '-k[write a hint line for each uevent of USB]' \
             '-m[write the rules with other hashes]:hashes:_files' \
             "-o[write the rules with this machine's hashes of root hubs]" \
             '*-r[a file of rules, or the folder of RuleFolder]:rules:_files' \

@@ -75,6 +75,7 @@ fault_read words = if same_word (nth words 0) (codes "memory") then fault.Memory
 abbrev event_read : List (List ℕ) → Entry
 event_read words =
     if same_word (nth words 2) (codes "sweep") then entry.Event (nth_number words 1) (record { 0 = nth_number words 3 }) else
+    if same_word (nth words 2) (codes "hint") then entry.Hint (nth_number words 1) (record { 0 = nth_number words 3 }) else
     entry.Order (nth_number words 1) (record { 0 = nth_number words 3 }) (principal_read (nth words 4))
 
 abbrev unsettled_read : List (List ℕ) → Entry
@@ -92,6 +93,7 @@ entry_read words =
     if same_word (nth words 0) (codes "wrote") then entry.Wrote (nth_number words 1) (nth words 2) (write_read (nth words 3)) (wrote_read (nth words 4)) else
     if same_word (nth words 0) (codes "gone") then entry.Gone (nth_number words 1) (nth words 2) else
     if same_word (nth words 0) (codes "unsettled") then unsettled_read words else
+    if same_word (nth words 0) (codes "hint") then entry.HintRefused (nth_number words 2) (nth_number words 3) else
     if same_word (nth words 0) (codes "rules") then entry.Rules (change_read (nth words 1)) (nth_number words 2) else
     if same_word (nth words 0) (codes "parameter") then entry.Parameter (parameter_read (nth words 1) (nth words 2)) else
     if same_word (nth words 0) (codes "reply") then reply_read words else
@@ -187,6 +189,9 @@ entry_back (entry.Event number moment) h =
 entry_back (entry.Order number moment who) h =
     read_as (codes "event") (decimal number ∷ codes "order" ∷ decimal moment.0 ∷ principal_text who ∷ []) (entry.Order number moment who) (refl, refl) (number_graphic number h.0, (refl, (number_graphic moment.0 h.1, (principal_graphic who h.2, tt))))
     (λ i. entry.Order (number_back number h.0 i) (record { 0 = number_back moment.0 h.1 i }) (principal_back who h.2 i))
+entry_back (entry.Hint number moment) h =
+    read_as (codes "event") (decimal number ∷ codes "hint" ∷ decimal moment.0 ∷ []) (entry.Hint number moment) (refl, refl) (number_graphic number h.0, (refl, (number_graphic moment.0 h.1, tt)))
+    (λ i. entry.Hint (number_back number h.0 i) (record { 0 = number_back moment.0 h.1 i }))
 entry_back (entry.Save became) h = save_back became
 entry_back (entry.Judged number name held verdict why) h =
     read_as (codes "judged") (decimal number ∷ name ∷ target_word verdict ∷ cause_words why) (entry.Judged number name (record { 0 = 0 }) verdict why) (refl, refl) (number_graphic number h.0, (node_graphic name h.1, ((target_back verdict).0, (cause_back why h.2).0)))
@@ -204,6 +209,10 @@ entry_back (entry.Unsettled name why) h =
     read_as (codes "unsettled") (name ∷ fault_words why) (entry.Unsettled name why) (refl, refl) (node_graphic name h.0, (fault_back why h.1).0) (unsettled_back name why h.0 h.1)
 entry_back (entry.UnsettledAll why) h =
     read_as (codes "unsettled") (codes "*" ∷ fault_words why) (entry.UnsettledAll why) (refl, refl) (refl, (fault_back why h).0) (ap entry.UnsettledAll (fault_back why h).1)
+entry_back (entry.HintRefused kind place) h =
+    let k = byte_number kind h.0 in
+    read_as (codes "hint") (codes "refused" ∷ decimal kind ∷ decimal place ∷ []) (entry.HintRefused kind place) (refl, refl) (refl, (number_graphic kind k, (number_graphic place h.1, tt)))
+    (λ i. entry.HintRefused (number_back kind k i) (number_back place h.1 i))
 entry_back (entry.Rules done id) h =
     read_as (codes "rules") (change_word done ∷ decimal id ∷ []) (entry.Rules done id) (refl, refl) ((change_back done).0, (number_graphic id h, tt))
     (λ i. entry.Rules ((change_back done).1 i) (number_back id h i))

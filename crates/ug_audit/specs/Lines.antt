@@ -66,6 +66,8 @@ entry_line (entry.Event number moment) =
 entry_line (entry.Order number moment who) =
     and_words (codes "event")
     (decimal number ∷ codes "order" ∷ decimal moment.0 ∷ principal_text who ∷ [])
+entry_line (entry.Hint number moment) =
+    and_words (codes "event") (decimal number ∷ codes "hint" ∷ decimal moment.0 ∷ [])
 entry_line (entry.Save became) = and_words (codes "save") (saved_word became ∷ [])
 entry_line (entry.Judged number name held verdict why) =
     and_words (codes "judged") (decimal number ∷ name ∷ target_word verdict ∷ cause_words why)
@@ -76,6 +78,8 @@ entry_line (entry.Wrote number name bytes outcome) =
 entry_line (entry.Gone number name) = and_words (codes "gone") (decimal number ∷ name ∷ [])
 entry_line (entry.Unsettled name why) = and_words (codes "unsettled") (name ∷ fault_words why)
 entry_line (entry.UnsettledAll why) = and_words (codes "unsettled") (codes "*" ∷ fault_words why)
+entry_line (entry.HintRefused kind place) =
+    and_words (codes "hint") (codes "refused" ∷ decimal kind ∷ decimal place ∷ [])
 entry_line (entry.Rules done id) = and_words (codes "rules") (change_word done ∷ decimal id ∷ [])
 entry_line (entry.Parameter set) =
     and_words (codes "parameter") (parameter_name (parameter_set set) ∷ value_word set ∷ [])

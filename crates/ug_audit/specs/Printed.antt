@@ -29,6 +29,7 @@ abbrev pub IsEntry : Entry → Type 0
 IsEntry (entry.Event number moment) = (number < 2 ^ 64) × (moment.0 < 2 ^ 64)
 IsEntry (entry.Order number moment who) =
     (number < 2 ^ 64) × (moment.0 < 2 ^ 64) × IsTrue (is_name who.name)
+IsEntry (entry.Hint number moment) = (number < 2 ^ 64) × (moment.0 < 2 ^ 64)
 IsEntry (entry.Save became) = Unit {0}
 IsEntry (entry.Judged number name held verdict why) =
     (number < 2 ^ 64) × IsNodeName name × IsCause why
@@ -37,6 +38,7 @@ IsEntry (entry.Wrote number name what outcome) = (number < 2 ^ 64) × IsNodeName
 IsEntry (entry.Gone number name) = (number < 2 ^ 64) × IsNodeName name
 IsEntry (entry.Unsettled name why) = IsNodeName name × IsUnsettling why
 IsEntry (entry.UnsettledAll why) = IsUnsettling why
+IsEntry (entry.HintRefused kind place) = (kind < 256) × (place < 2 ^ 64)
 IsEntry (entry.Rules done id) = id < 2 ^ 64
 IsEntry (entry.Parameter set) = Unit {0}
 IsEntry (entry.Reply (Ok done)) = Unit {0}

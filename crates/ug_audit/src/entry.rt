@@ -33,6 +33,11 @@ pub enum Entry {
         moment: Moment,
         who: Principal,
     },
+    /// An event with recorded uevents of the kernel begins.
+    Hint {
+        number: u64,
+        moment: Moment,
+    },
     /// After a save. The count of faults isn't printed.
     Save(Saved),
     /// A verdict was set. The held file isn't printed.
@@ -69,6 +74,11 @@ pub enum Entry {
     /// The listing failed, or memory was short for it.
     UnsettledAll {
         fault: Fault,
+    },
+    /// A message of the event's uevents was refused: what is wrong with it, and which of its strings it is.
+    HintRefused {
+        kind: u8,
+        place: u64,
     },
     /// The rules changed.
     Rules {

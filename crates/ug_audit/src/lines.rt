@@ -160,6 +160,17 @@ fn line_of_order(number: u64, moment: Moment, who: &Principal) -> Line
     line
 }
 
+fn line_of_hint(number: u64, moment: Moment) -> Line
+    ensures { result ≡ and_words (codes "event")
+        (decimal number ∷ codes "hint" ∷ decimal moment.0 ∷ []) }
+{
+    let mut line = Line::of(b"event");
+    line.push_number(number);
+    line.push_word(b"hint");
+    line.push_number(moment.0);
+    line
+}
+
 /// A line that is two words.
 fn of_words(first: &[u8], second: &[u8]) -> Line
     requires first { length first.now ≤ 10 }
@@ -218,6 +229,17 @@ fn line_of_all_unsettled(fault: Fault) -> Line
     line
 }
 
+fn line_of_refused_hint(kind: u8, place: u64) -> Line
+    ensures { result ≡ and_words (codes "hint")
+        (codes "refused" ∷ decimal kind ∷ decimal place ∷ []) }
+{
+    let mut line = Line::of(b"hint");
+    line.push_word(b"refused");
+    line.push_number(kind as u64);
+    line.push_number(place);
+    line
+}
+
 fn line_of_change(change: RuleChange, id: u64) -> Line
     ensures { result ≡ and_words (codes "rules") (change_word change ∷ decimal id ∷ []) }
 {
@@ -268,6 +290,7 @@ pub fn line_of(entry: &Entry) -> Line
             moment,
             who,
         } => line_of_order(*number, *moment, who),
+        Entry::Hint { number, moment } => line_of_hint(*number, *moment),
         Entry::Save(saved) => of_words(b"save", word_of_save(*saved)),
         Entry::Judged {
             number,
@@ -290,6 +313,7 @@ pub fn line_of(entry: &Entry) -> Line
         Entry::Gone { number, name } => of_device(b"gone", *number, name),
         Entry::Unsettled { name, fault } => line_of_unsettled(name, *fault),
         Entry::UnsettledAll { fault } => line_of_all_unsettled(*fault),
+        Entry::HintRefused { kind, place } => line_of_refused_hint(*kind, *place),
         Entry::Rules { change, id } => line_of_change(*change, *id),
         Entry::Parameter(parameter) => line_of_parameter(*parameter),
         Entry::Reply(Ok(())) => of_words(b"reply", b"ok"),

@@ -206,6 +206,14 @@ fn entry(words: &[&str]) -> Option<Entry> {
             number: number(id)?,
             moment: Moment(number(moment)?),
         }),
+        ["event", id, "hint", moment] => Some(Entry::Hint {
+            number: number(id)?,
+            moment: Moment(number(moment)?),
+        }),
+        ["hint", "refused", kind, place] => Some(Entry::HintRefused {
+            kind: byte(kind)?,
+            place: number(place)?,
+        }),
         ["unsettled", "*", rest @ ..] => Some(Entry::UnsettledAll {
             fault: fault(rest)?,
         }),

@@ -1,6 +1,7 @@
 pub mod Calls
 pub mod Ending
 pub mod Front
+pub mod NoticeWords
 pub mod NoticeLines
 pub mod OneAnswer
 pub mod Received

@@ -46,10 +46,10 @@ use Rattle.ug_table.specs.declared.standing.Settled.{Settled}
 use Rattle.ug_table.specs.declared.standing.Settled.TheVariants as settled
 use Rattle.ug_table.specs.declared.standing.Standing.{Standing}
 use Rattle.ug_table.proofs.Devices.{stand_stays}
-use Rattle.ug_table.proofs.OnePart.{told_more}
+use Rattle.ug_table.proofs.NameEntries.{told_more}
 use Rattle.ug_table.proofs.Once.{names_more}
 use Rattle.ug_table.proofs.Ordered.{EndsOrder, numbered_now, order_marks, order_one, order_part, order_short, ordering_ways}
-use Rattle.ug_table.proofs.Standings.{numbered_has}
+use Rattle.ug_table.proofs.NamedStandings.{numbered_has}
 use Rattle.ug_table.proofs.Steps.{in_order as kept_order}
 use Rattle.ug_core.specs.Answering.{acting, answer_of, asking, deed_after, keeping, reply_to, replying}
 use Rattle.ug_core.specs.Changes.{change_entry, change_lines_of}
@@ -61,12 +61,13 @@ use Rattle.ug_core.specs.Storing.{noted_store, refused_by, stored_with, with_cha
 use Rattle.ug_core.specs.declared.changes.Change.{Change}
 use Rattle.ug_core.specs.declared.changes.Change.TheVariants.{Rules, Set}
 use Rattle.ug_core.specs.declared.daemon.Event.{Event}
-use Rattle.ug_core.specs.declared.daemon.Event.TheVariants.{Sweep, Order}
+use Rattle.ug_core.specs.declared.daemon.Event.TheVariants.{Sweep, Order, Hint}
 use Rattle.ug_core.specs.declared.storing.Stored.{Stored}
 use Rattle.ug_core.specs.declared.storing.Stored.TheVariants as stored
 use Rattle.ug_core.proofs.Came.{At_first, At_last, At_once, At_probe, By_probe, Came, GoesFrom, No_call, Sets, SetsVerdict, came_so, stores_as}
 use Rattle.ug_core.proofs.Values.{quiet_values, runs_values, same_values, values_then}
 use Rattle.ug_core.proofs.Asked.{Probed}
+use Rattle.ug_core.proofs.Pieces.{met_standings, met_told}
 
 -- ---- what a verdict leaves
 
@@ -273,12 +274,16 @@ module _ {S : Type 0} (gives : S → (call : Call) → Answer call → S → Typ
 pub ready_failures : (event : Event) (tried : Option Saved) (d : DaemonState) → failures_told (ready event tried d).sweep.entries ≡ []
 ready_failures (Sweep moment) None d = refl
 ready_failures (Sweep moment) (Some saved) d = refl
+ready_failures (Hint moment piece) None d = refl
+ready_failures (Hint moment piece) (Some saved) d = refl
 ready_failures (Order moment who line) None d = refl
 ready_failures (Order moment who line) (Some saved) d = refl
 
 pub ready_names : (event : Event) (tried : Option Saved) (d : DaemonState) → unsettled_names (ready event tried d).sweep.entries ≡ []
 ready_names (Sweep moment) None d = refl
 ready_names (Sweep moment) (Some saved) d = refl
+ready_names (Hint moment piece) None d = refl
+ready_names (Hint moment piece) (Some saved) d = refl
 ready_names (Order moment who line) None d = refl
 ready_names (Order moment who line) (Some saved) d = refl
 
@@ -290,6 +295,9 @@ answering_made gives calls faults counting keeps (Sweep moment) s o d became t p
   told = ap (λ (x : DaemonState). failures_told x.sweep.entries) h.3 ∙ quiet;
   nameless = ap (λ (x : DaemonState). unsettled_names x.sweep.entries) h.3 ∙ nameless;
 }
+answering_made gives calls faults counting keeps (Hint moment piece) s o d became t p a none order quiet nameless h =
+    let silent = met_told piece d a h.3 quiet nameless in
+    record { made = []; along = h.0; goes = (refl, h.3); told = silent.0; nameless = silent.1 }
 answering_made gives calls faults counting keeps (Order moment who line) s o d became t p a none order quiet nameless h = order_made gives calls faults counting moment who line s d h.choice.change became t a none order (quiet, nameless) (came_so gives who line d became s h.behind t a h.choice h.asks (stores_as keeps o d h.choice.change became p h.stores) h.acts)
 
 -- ---- in the words of devices
@@ -413,6 +421,7 @@ module _ (who : Named) (line : List ℕ) (k : Kernel) (d : DaemonState) (change 
 
 pub answering_told : {S T : Type 0} (gives : S → (call : Call) → Answer call → S → Type 0) (told : S → Option Kernel) → ((s : S) (call : Call) (answer : Answer call) (t : S) (l : Kernel) → gives s call answer t → told t ≡ Some l → Follows call answer (told s) l) → (keeps : T → (call : DiskCall) → DiskTold call → T → Type 0) (event : Event) (s : S) (o : T) (d : DaemonState) (became : Stored) (t : S) (p : T) (a : DaemonState) → RunsAnswer gives keeps event s o d became t p a → AnswersInEvent told event s d became t a
 answering_told gives told did keeps (Sweep moment) s o d became t p a h = λ l e. (l, subst (λ (v : _). told v ≡ Some l) h.0 e, λ sound stand. (refl, h.2, h.3))
+answering_told gives told did keeps (Hint moment piece) s o d became t p a h = λ l e. (l, subst (λ (v : _). told v ≡ Some l) h.0 e, λ sound stand. (refl, h.2, h.3))
 answering_told gives told did keeps (Order moment who line) s o d became t p a h = λ l e.
     let stores = stores_as keeps o d h.choice.change became p h.stores in
     let now : DaemonState = stored_with became h.choice.change d in
@@ -429,6 +438,7 @@ answering_told gives told did keeps (Order moment who line) s o d became t p a h
 -- values change by the writes of an order alone
 pub answered_values : (event : Event) (k : Kernel) (d : DaemonState) (became : Stored) (l : Kernel) (a : DaemonState) → AnswersEvent event k d became l a → LogsValues k l
 answered_values (Sweep moment) k d became l a h = same_values k l h.0
+answered_values (Hint moment piece) k d became l a h = same_values k l h.0
 answered_values (Order moment who line) k d became l a (inl h) = quiet_values k l h.quiet
 answered_values (Order moment who line) k d became l a (inr (inl h)) = same_values k l h.0
 answered_values (Order moment who line) k d became l a (inr (inr h)) = h.values
@@ -450,6 +460,7 @@ refused_standings d a became r is = let x = store_standings became d in (ap (λ 
 
 pub answered_stands : (event : Event) (k : Kernel) (d : DaemonState) (became : Stored) (l : Kernel) (a : DaemonState) → IsKernel k → Stand k d.sweep.standings d.sweep.next → AnswersEvent event k d became l a → IsKernel l × Stand l a.sweep.standings a.sweep.next
 answered_stands (Sweep moment) k d became l a sound stand h = (subst (λ (v : Kernel). IsKernel v) (sym h.0) sound, subst (λ (v : Kernel). Stand v a.sweep.standings a.sweep.next) (sym h.0) (subst (λ (x : DaemonState). Stand k x.sweep.standings x.sweep.next) (sym h.2) stand))
+answered_stands (Hint moment piece) k d became l a sound stand h = (subst (λ (v : Kernel). IsKernel v) (sym h.0) sound, subst (λ (v : Kernel). Stand v a.sweep.standings a.sweep.next) (sym h.0) (stands_still k d a (met_standings piece d a h.2) stand))
 answered_stands (Order moment who line) k d became l a sound stand (inl h) = (h.sound, stands_still l d a (refused_standings d a became h.refused h.state) (stand_stays k l d.sweep.standings d.sweep.next (quiet_grows k l h.quiet) stand))
 answered_stands (Order moment who line) k d became l a sound stand (inr (inl h)) =
     (subst (λ (v : Kernel). IsKernel v) (sym h.0) sound, subst (λ (v : Kernel). Stand v a.sweep.standings a.sweep.next) (sym h.0) (stands_still k d a (once_standings d a became h.1.outcome h.1.state) stand))

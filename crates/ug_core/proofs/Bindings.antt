@@ -1,4 +1,4 @@
--- From the shapes of a sweep to the calls by which it bound what it judged.
+-- From the shapes of the last stage to the calls by which it bound what it judged.
 use Rattle.std.proofs.Common.{◌≡◌, ℕ, suc, ◌+◌, ◌≤◌, Bool, true, false, cond, is_none, length, List, [], ◌∷◌, ◌++◌, Option, Some, None, inl, inr, refl, sym, ◌∙◌, ap, subst, arith, append_assoc}
 use Rattle.ug_types.specs.Elements.{Has}
 use Rattle.ug_types.proofs.Elements.{has_cases}
@@ -23,7 +23,7 @@ use Rattle.ug_kernel.specs.Calls.{Call, Names, Open, Read, Ask_alive, Put, Close
 use Rattle.ug_kernel.specs.Kernel.{Kernel, IsKernel}
 use Rattle.ug_kernel.specs.Tree.{Runs, calls}
 use Rattle.ug_kernel.proofs.Quiet.{WritesNothing, moves_quiet, quiet_trans}
-use Rattle.ug_kernel.proofs.Ways.{Unwritten, Way, Ways, along_quiet, along_split, ways_last, ways_run}
+use Rattle.ug_kernel.proofs.Ways.{Unwritten, Way, Ways, along_quiet, along_split, ways_last, ways_more, ways_run}
 use Rattle.ug_node.specs.Bind.{binding_of}
 use Rattle.ug_node.specs.declared.files.OwnFiles.{OwnFiles}
 use Rattle.ug_node.specs.declared.files.Stop.{Stop}
@@ -39,16 +39,16 @@ use Rattle.ug_table.specs.Allowed.{allowed_records}
 use Rattle.ug_table.specs.Parent.{binding_by, binding_for, judged_bound, parent_standing}
 use Rattle.ug_table.specs.Parts.{numbers_given}
 use Rattle.ug_table.specs.Standings.{farewells, lists}
-use Rattle.ug_table.specs.State.{State, Terms}
-use Rattle.ug_table.specs.Sweep.{sweeping}
+use Rattle.ug_table.specs.State.{State, Terms, terms_for}
+use Rattle.ug_table.specs.Sweep.{settling_all, sweeping}
 use Rattle.ug_table.specs.declared.standing.Settled.{Settled}
 use Rattle.ug_table.specs.declared.standing.Standing.{Standing}
 use Rattle.ug_table.proofs.Above.{above_has, way_under}
-use Rattle.ug_table.proofs.Chains.{Chain, Over, First, Goes, Listed, Unlisted, Comes, goes_entries, sweeping_by}
+use Rattle.ug_table.proofs.Chains.{Chain, Over, First, Goes, Listed, Unlisted, Comes, Linked, chain_entries, goes_entries, settling_chain, sweeping_by}
 use Rattle.ug_table.proofs.OnePart.{flat_given, given_count}
 use Rattle.ug_table.proofs.Shapes.{Flat, IsGiven, Judged_so, told_at}
 use Rattle.ug_core.specs.Bindings.{AllOnlyAsk, BindsJudged, Binds, BoundAmong, OnlyAsks}
-use Rattle.ug_core.specs.Event.{DaemonState, ended, handling}
+use Rattle.ug_core.specs.Event.{DaemonState, ended, handling, settling_due}
 use Rattle.ug_core.proofs.Values.{along_values, called_values, values_then}
 use Rattle.ug_core.specs.Policy.{Judging, by_choice, cause_for, choice_for, found_for, kept, policy_answer, policy_later, verdict_of}
 
@@ -258,26 +258,46 @@ goes_got {w = w} number other held verdict cause (Listed found failed ok shut ma
 goes_got number other held verdict cause (Unlisted list failed room why ok made es v by c) (inl is) = let none : ⊥ = cc in absurd none
 goes_got number other held verdict cause (Unlisted list failed room why ok made es v by c) (inr h) = got_behind (made_with Names (told_at list failed) ∷ []) (chain_got number other held verdict cause c h)
 
--- a sweep, with the last entry
+-- what the last stage judged
+record AllGot (w : State Judging) (ms : List Made) (v : State Judging) : Type 0 where
+  rest : List Entry
+  entries : v.entries ≡ w.entries ++ rest
+  each : (number : ℕ) (name : List ℕ) (held : Held) (verdict : Target) (cause : Cause) → Tells rest number name held verdict cause → Got ms name held verdict cause
+
+due_got : (due : Option (List (List ℕ))) (w : State Judging) → Ways (settling_due due w) (λ ok ms v. AllGot w ms v)
+due_got None w =
+    ways_more (Comes policy_answer policy_later w) (λ ok ms v. AllGot w ms v) (sweeping policy_answer policy_later w)
+    (λ ok ms v c. record { rest = c.0; entries = goes_entries c.1; each = λ number name held verdict cause a. goes_got number name held verdict cause c.1 a })
+    (sweeping_by policy_answer policy_later w)
+due_got (Some names) w =
+    ways_more (Linked policy_answer policy_later true (terms_for w) names w) (λ ok ms v. AllGot w ms v) (settling_all policy_answer policy_later names (terms_for w) w)
+    (λ ok ms v c. record { rest = c.0; entries = chain_entries c.1; each = λ number name held verdict cause a. chain_got number name held verdict cause c.1 a })
+    (settling_chain policy_answer policy_later names (terms_for w) w)
+
+-- with the last entry
 record SweepGot (d : DaemonState) (ms : List Made) (e : DaemonState) : Type 0 where
   rest : List Entry
   entries : e.sweep.entries ≡ d.sweep.entries ++ rest
   each : (number : ℕ) (name : List ℕ) (held : Held) (verdict : Target) (cause : Cause) → Tells rest number name held verdict cause → Got ms name held verdict cause
 
-comes_sweeps : (d : DaemonState) (ok : Bool) (ms : List Made) (v : State Judging) → Comes policy_answer policy_later d.sweep ok ms v → SweepGot d ms (record d { sweep = record v { entries = v.entries ++ Entry.End d.event ∷ [] }; event = d.event + 1 })
-comes_sweeps d ok ms v c = record {
-  rest = c.0 ++ Entry.End d.event ∷ [];
-  entries = ap (λ (x : List Entry). x ++ Entry.End d.event ∷ []) (goes_entries c.1) ∙ append_assoc d.sweep.entries c.0 (Entry.End d.event ∷ []);
-  each = λ number name held verdict cause a. elim (has_cases c.0 (Entry.End d.event ∷ []) (Entry.Judged number name held verdict cause) a) [
-    | inl h ↦ goes_got number name held verdict cause c.1 h
+with_end : DaemonState → State Judging → DaemonState
+with_end d v = record d { sweep = record v { entries = v.entries ++ Entry.End d.event ∷ [] }; due = None; event = d.event + 1 }
+
+ends_got : (d : DaemonState) (ms : List Made) (v : State Judging) → AllGot d.sweep ms v → SweepGot d ms (with_end d v)
+unfolding with_end
+ends_got d ms v c = record {
+  rest = c.rest ++ Entry.End d.event ∷ [];
+  entries = ap (λ (x : List Entry). x ++ Entry.End d.event ∷ []) c.entries ∙ append_assoc d.sweep.entries c.rest (Entry.End d.event ∷ []);
+  each = λ number name held verdict cause a. elim (has_cases c.rest (Entry.End d.event ∷ []) (Entry.Judged number name held verdict cause) a) [
+    | inl h ↦ c.each number name held verdict cause h
     | inr (inl is) ↦ let none : ⊥ = cc in absurd none
     | inr (inr h) ↦ absurd h
   ];
 }
 
 handling_sweeps : (d : DaemonState) → Ways (handling d) (λ ok ms e. SweepGot d ms e)
-unfolding handling
-handling_sweeps d = ways_last (Comes policy_answer policy_later d.sweep) (λ ok ms e. SweepGot d ms e) (sweeping policy_answer policy_later d.sweep) (ended d) (λ v. record d { sweep = record v { entries = v.entries ++ Entry.End d.event ∷ [] }; event = d.event + 1 }) (λ v. refl) (sweeping_by policy_answer policy_later d.sweep) (λ ok ms v c. comes_sweeps d ok ms v c)
+unfolding handling with_end
+handling_sweeps d = ways_last (λ ok ms v. AllGot d.sweep ms v) (λ ok ms e. SweepGot d ms e) (settling_due d.due d.sweep) (ended d) (with_end d) (λ v. refl) (due_got d.due d.sweep) (λ ok ms v c. ends_got d ms v c)
 
 -- kernels along calls
 

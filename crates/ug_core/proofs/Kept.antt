@@ -31,7 +31,7 @@ use Rattle.ug_proto.specs.declared.request.Request.{Request}
 use Rattle.ug_core.specs.Event.{DaemonState, if_text, if_pending, trying, ready}
 use Rattle.ug_core.specs.Laws.{TellsSweep, AnswersAtOnce, IsInForce, No_record, No_room, Outcome, RefusesBehind, RunsAnswer, StoreRefuses, TellsEvent, Unstored, Without_memory, change_of, if_watching}
 use Rattle.ug_core.specs.declared.daemon.Event.{Event}
-use Rattle.ug_core.specs.declared.daemon.Event.TheVariants.{Sweep, Order}
+use Rattle.ug_core.specs.declared.daemon.Event.TheVariants.{Sweep, Order, Hint}
 use Rattle.ug_core.specs.Durable.{IsKept, KeepsFile, if_written, unsure_behind, unsure_with, as_list, text_of_change, text_of_request, texts_of}
 use Rattle.ug_core.specs.Chain.{Happened, StaysOnDisk, Chain, IsKeptThroughout, unsure_past}
 use Rattle.ug_core.proofs.Plain.{SameRules}
@@ -62,6 +62,7 @@ use Rattle.ug_core.specs.declared.storing.Stored.{Stored}
 use Rattle.ug_core.specs.declared.storing.Stored.TheVariants as stored
 use Rattle.ug_core.proofs.Answered.{now_standings}
 use Rattle.ug_core.proofs.Asked.{Asked, Chosen, Chosen_first, Found, FoundSo, Not_found, Refused_first, Refused_so, Set_so, Told_change, Told_lines, Told_watch, asked_of}
+use Rattle.ug_core.proofs.Pieces.{met_judge}
 use Rattle.ug_core.proofs.Came.{StoresAs, At_first, At_last, At_once, At_probe, Came, Sets, SetsVerdict, came_so, stores_as}
 
 -- ---- between events
@@ -457,6 +458,17 @@ answer_stage gives (Sweep moment) s d m became t n a h = record {
   done = λ is. let bad : stored.NotNeeded ≡ stored.Done = sym h.2 ∙ is in let none : ⊥ = cc in absurd none;
   failed = λ count is. let bad : stored.NotNeeded ≡ stored.Failed count = sym h.2 ∙ is in let none : ⊥ = cc in absurd none;
 }
+answer_stage gives (Hint moment piece) s d m became t n a h =
+    let judge = met_judge piece d a h.3 in
+    record {
+      since = [];
+      past = ap (λ (x : Disk). x.past) h.1 ∙ sym (append-nil m.past);
+      each = λ images has. absurd has;
+      left = λ unsure k. subst (λ (j : Judging). IsKept j.rules (unsure_behind became [] unsure) n.left) (sym judge) (subst (λ (b : Stored). IsKept d.sweep.judge.rules (unsure_behind b [] unsure) n.left) (sym h.2) (subst (λ (x : Disk). IsKept d.sweep.judge.rules unsure x.left) (sym h.1) k));
+      same = λ unsaved. ap (λ (j : Judging). permanent_text j.rules) judge;
+      done = λ is. let bad : stored.NotNeeded ≡ stored.Done = sym h.2 ∙ is in let none : ⊥ = cc in absurd none;
+      failed = λ count is. let bad : stored.NotNeeded ≡ stored.Failed count = sym h.2 ∙ is in let none : ⊥ = cc in absurd none;
+    }
 answer_stage gives (Order moment who line) s d m became t n a h =
     let stores = stores_as disk_calls m d h.choice.change became n h.stores in
     let came = came_so gives who line d became s h.behind t a h.choice h.asks stores h.acts in
@@ -468,11 +480,13 @@ answer_stage gives (Order moment who line) s d m became t n a h =
 
 answer_possible : {S : Type 0} (gives : S → (call : Call) → Answer call → S → Type 0) (event : Event) (s : S) (d : DaemonState) (m : Disk) (became : Stored) (t : S) (n : Disk) (a : DaemonState) → RunsAnswer gives disk_calls event s m d became t n a → IsImage m.left m.text → IsImage n.left n.text
 answer_possible gives (Sweep moment) s d m became t n a h is = subst (λ (x : Disk). IsImage x.left x.text) (sym h.1) is
+answer_possible gives (Hint moment piece) s d m became t n a h is = subst (λ (x : Disk). IsImage x.left x.text) (sym h.1) is
 answer_possible gives (Order moment who line) s d m became t n a h is = possible_runs (storing d h.choice.change) m became n h.stores is
 
 -- an order's stage on a disk, where that is told
 told_answer : {S T : Type 0} (gives : S → (call : Call) → Answer call → S → Type 0) (keeps : T → (call : DiskCall) → DiskTold call → T → Type 0) (told : T → Option Disk) (did : (s : T) (call : DiskCall) (a : DiskTold call) (t : T) (n : Disk) → keeps s call a t → told t ≡ Some n → FollowsOnDisk call a (told s) n) (event : Event) (s : S) (o : T) (d : DaemonState) (became : Stored) (t : S) (p : T) (a : DaemonState) (n : Disk) → RunsAnswer gives keeps event s o d became t p a → told p ≡ Some n → (m : Disk) × (told o ≡ Some m) × RunsAnswer gives disk_calls event s m d became t n a
 told_answer gives keeps told did (Sweep moment) s o d became t p a n h is = (n, subst (λ (x : _). told x ≡ Some n) h.1 is, (h.0, refl, h.2, h.3))
+told_answer gives keeps told did (Hint moment piece) s o d became t p a n h is = (n, subst (λ (x : _). told x ≡ Some n) h.1 is, (h.0, refl, h.2, h.3))
 told_answer gives keeps told did (Order moment who line) s o d became t p a n h is =
     let x = told_disk keeps told did (storing d h.choice.change) o became p n h.stores is in
     (x.0, x.1, record { choice = h.choice; behind = h.behind; asks = h.asks; stores = x.2; acts = h.acts })
@@ -512,6 +526,7 @@ text_anytime (Some change) p c = by_change change
 
 ready_texts : (event : Event) (tried : Option Saved) (d : DaemonState) → texts_of event (ready event tried d) ≡ texts_of event d
 ready_texts (Sweep moment) tried d = refl
+ready_texts (Hint moment piece) tried d = refl
 ready_texts (Order moment who line) tried d = by_read (request_read line)
   where
     by_read : (read : Result Request ℕ) → text_of_request who (ready (Order moment who line) tried d) read ≡ text_of_request who d read
@@ -555,12 +570,11 @@ kept_event gives keeps told did event s o d tried q became m p a e added runs an
 -- where an event tells its calls
 pub file_kept : {S T : Type 0} (gives : S → (call : Call) → Answer call → S → Type 0) {calls faults : S → ℕ} (keeps : T → (call : DiskCall) → DiskTold call → T → Type 0) (told : T → Option Disk) (did : (s : T) (call : DiskCall) (a : DiskTold call) (t : T) (n : Disk) → keeps s call a t → told t ≡ Some n → FollowsOnDisk call a (told s) n) (event : Event) (s : S) (o : T) (d : DaemonState) (tried : Option Saved) (q : T) (became : Stored) (m : S) (p : T) (a : DaemonState) (t : S) (e : DaemonState) → RunsDisk keeps o (trying d) tried q → RunsAnswer gives keeps event s q (ready event tried d) became m p a → TellsEvent gives calls faults event s (ready event tried d) became m a t e → SameRules a.sweep.judge e.sweep → KeepsFile told event tried became o d p e
 file_kept gives keeps told did event s o d tried q became m p a t e runs answers tells rules =
-    kept_event gives keeps told did event s o d tried q became m p a e ((tells.goes.head ++ tells.goes.rest) ++ entry.End a.event ∷ []) runs answers
-    (ap (λ (v : State Judging). v.entries) tells.entries ∙ ap (λ (es : List Entry). es ++ entry.End a.event ∷ []) tells.goes.entries ∙ append_assoc a.sweep.entries (tells.goes.head ++ tells.goes.rest) (entry.End a.event ∷ []))
+    kept_event gives keeps told did event s o d tried q became m p a e (tells.goes.rest ++ entry.End a.event ∷ []) runs answers
+    (ap (λ (v : State Judging). v.entries) tells.entries ∙ ap (λ (es : List Entry). es ++ entry.End a.event ∷ []) tells.goes.entries ∙ append_assoc a.sweep.entries tells.goes.rest (entry.End a.event ∷ []))
     rules
 
--- where a sweep does
+-- where its last stage does
 pub sweep_adds : {S : Type 0} (gives : S → (call : Call) → Answer call → S → Type 0) (calls faults : S → ℕ) (s : S) (a : DaemonState) (t : S) (e : DaemonState) → TellsSweep gives calls faults s a t e → (added : List Entry) × (e.sweep.entries ≡ a.sweep.entries ++ added)
 sweep_adds gives calls faults s a t e h =
-    let both : List Entry = h.tells.goes.head ++ h.tells.goes.rest in
-    (both ++ entry.End a.event ∷ [], ap (λ (v : State Judging). v.entries) h.entries ∙ ap (λ (es : List Entry). es ++ entry.End a.event ∷ []) h.tells.goes.entries ∙ append_assoc a.sweep.entries both (entry.End a.event ∷ []))
+    (h.goes.rest ++ entry.End a.event ∷ [], ap (λ (v : State Judging). v.entries) h.entries ∙ ap (λ (es : List Entry). es ++ entry.End a.event ∷ []) h.goes.entries ∙ append_assoc a.sweep.entries h.goes.rest (entry.End a.event ∷ []))

@@ -4,6 +4,7 @@ pub mod Answered
 pub mod Bindings
 pub mod Values
 pub mod Handled
+pub mod Pieces
 pub mod Failures
 pub mod Verdicts
 pub mod InForce

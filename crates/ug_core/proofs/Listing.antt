@@ -33,7 +33,7 @@ use Rattle.ug_print.specs.declared.rule_texts.RulesTextFault.TheVariants as prin
 use Rattle.ug_ruleset.specs.RuleFile.{IsSaveable, ReadsBack, permanent_rules, permanent_text}
 use Rattle.ug_core.proofs.Numbering.{holds_more, start_length}
 use Rattle.ug_core.proofs.Readable.{list_reads_back, list_saves, start_permanent}
-use Rattle.ug_core.specs.Starting.{AreOfFolder, BadFile, HasRulesOf, HasTooMany, HoldsJust, IsFolderListed, IsListOf, AreAllListed, ListsFolder, ListsText, Marked, StartsWith, TakesFolder, entries_from, fault_in_folder, fault_of_file, fault_of_printing, file_before, folder_read, listed, listing_line, marked_rules, marked_in, marked_of, one_listed, rules_before, rules_of_folder, start_rules}
+use Rattle.ug_core.specs.Starting.{AreOfFolder, BadFile, HasRulesOf, HasTooMany, HoldsJust, IsFolderListed, IsListOf, AreAllListed, ListsFolder, ListsText, Marked, StartsWith, TakesFolder, fault_in_folder, fault_of_file, fault_of_printing, file_before, folder_read, listed, listing_line, marked_rules, marked_in, marked_of, one_listed, rules_before, rules_of_folder, start_rules}
 use Rattle.ug_core.specs.declared.start_fault.StartFault.{StartFault}
 use Rattle.ug_core.specs.declared.start_fault.StartFault.TheVariants as fault
 

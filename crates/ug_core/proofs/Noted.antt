@@ -51,6 +51,7 @@ notes_none {d = d} report same =
       number = ap (λ (r : Report). r.event) report;
       next = ap (λ (x : DaemonState). x.sweep.next) same;
       next_event = ap (λ (x : DaemonState). x.event) same;
+      due = ap (λ (x : DaemonState). x.due) same;
       standings = omega (arith, few);
     }
 
@@ -65,5 +66,6 @@ notes_then h k = record {
   number = k.number ∙ h.number;
   next = k.next ∙ h.next;
   next_event = k.next_event ∙ h.next_event;
+  due = k.due ∙ h.due;
   standings = omega (arith, h.standings, k.standings);
 }

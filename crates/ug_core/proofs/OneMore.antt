@@ -1,5 +1,5 @@
 -- One event more of a run.
-use Rattle.std.proofs.Common.{◌≡◌, ℕ, Bool, true, false, not, ◌||◌, List, [], ◌∷◌, ◌++◌, Option, Some, None, Result, Ok, ◌⊎◌, inl, inr, refl, sym, ◌∙◌, ap, subst, append_assoc, append-nil, cond}
+use Rattle.std.proofs.Common.{◌≡◌, ℕ, Bool, true, false, not, is_none, ◌&&◌, ◌||◌, List, [], ◌∷◌, ◌++◌, Option, Some, None, Result, Ok, Err, ◌⊎◌, inl, inr, refl, sym, ◌∙◌, ap, subst, append_assoc, append-nil, cond}
 use Rattle.ug_core.proofs.Kept.{asked_anytime}
 use Rattle.std.specs.List.{list_any}
 use Rattle.ug_types.specs.Elements.{Has}
@@ -13,6 +13,7 @@ use Rattle.ug_kernel.specs.Quiet.{Quiet}
 use Rattle.ug_kernel.proofs.Quiet.{quiet_refl}
 use Rattle.ug_audit.specs.declared.entry.Entry.{Entry}
 use Rattle.ug_audit.specs.declared.entry.Entry.TheVariants as entry
+use Rattle.ug_audit.specs.declared.entry.Fault.TheVariants as fault
 use Rattle.ug_proto.specs.Privileges.{needs}
 use Rattle.ug_proto.specs.Requests.{request_read}
 use Rattle.ug_proto.specs.declared.reply.Reply.{Reply}
@@ -22,10 +23,10 @@ use Rattle.ug_proto.specs.declared.request.Request.TheVariants as request
 use Rattle.ug_table.specs.Orders.{with_verdict, with_order, verdict_entry, just_ordered}
 use Rattle.ug_table.specs.Parts.{AllBear, numbers_given, writes_in}
 use Rattle.ug_table.specs.Standings.{numbered}
-use Rattle.ug_table.specs.State.{State, terms_of, with_kept}
-use Rattle.ug_table.specs.Laws.{swept_before}
+use Rattle.ug_table.specs.State.{State, terms_for, terms_of, with_kept}
+use Rattle.ug_table.specs.Laws.{AreDefaulted, IsFair, swept_before}
 use Rattle.ug_table.specs.declared.standing.Standing.{Standing}
-use Rattle.ug_table.proofs.Standings.{numbered_has}
+use Rattle.ug_table.proofs.NamedStandings.{numbered_has}
 use Rattle.ug_core.specs.Answering.{answer_of, reply_to, answered_with, replying}
 use Rattle.ug_core.specs.Storing.{noted_store, with_change, with_changes}
 use Rattle.ug_core.specs.Changes.{CanChange, change_asked, change_entry, changed_by, change_lines_of}
@@ -35,11 +36,14 @@ use Rattle.ug_core.specs.declared.changes.Change.TheVariants.{Rules, Set}
 use Rattle.ug_core.specs.Policy.{Judging, policy_answer, policy_later}
 use Rattle.ug_core.specs.Event.{DaemonState, first_entry, moment_of, saved_entries}
 use Rattle.ug_core.specs.declared.daemon.Event.{Event}
-use Rattle.ug_core.specs.declared.daemon.Event.TheVariants.{Sweep, Order}
+use Rattle.ug_core.specs.declared.daemon.Event.TheVariants.{Sweep, Order, Hint as Hinted}
+use Rattle.ug_uevent.specs.declared.hint.Hint.{Hint}
+use Rattle.ug_uevent.specs.Faults.{SaidFault}
+use Rattle.ug_core.specs.Hinting.{MeetsPiece, names_due, refusals}
 use Rattle.ug_core.specs.InForce.{Decision, decision_of, decisions_in, unordered}
-use Rattle.ug_core.specs.Laws.{AnswersAtOnce, AnswersEvent, Bad_rule, Before_folder, By_facts, CarriesOut, Changes, ComesTo, Denied, Devices, Full, Handled, IsInForce, List_rules, No_device, No_memory, No_parameter, No_place, No_record, No_room, No_rule, No_setting, No_value, Of_folder, Outcome, ProbeRefuses, RefusedBehind, RefusedByProbe, Refuses, RefusesBehind, RefusesOrder, StoreRefuses, Unread, Unstored, Value, Watches, WhyRefused, Without_memory, change_of, if_watching}
+use Rattle.ug_core.specs.Laws.{AnswersAtOnce, AnswersEvent, Bad_rule, Before_folder, By_facts, CarriesOut, Changes, ComesTo, Denied, Devices, Full, Handled, IsInForce, List_rules, No_device, No_memory, No_parameter, No_place, No_record, No_room, No_rule, No_setting, No_value, Of_folder, Outcome, ProbeRefuses, RefusedBehind, RefusedByProbe, Refuses, RefusesBehind, RefusesOrder, SettlesDue, StoreRefuses, Unread, Unstored, Value, Watches, WhyRefused, Without_memory, change_of, if_watching, tried_in}
 use Rattle.ug_core.specs.Rulings.{Ruling, Told, Was_changed, at_moment}
-use Rattle.ug_core.specs.Chain.{Happened, ready_of, changes_asked, decided, journal, told_if, told_of, was_done, tells_unlisted, has_listed, IsPlaced, WasAsked, WasOrdered}
+use Rattle.ug_core.specs.Chain.{Happened, ready_of, changes_asked, decided, journal, told_if, told_of, was_done, tells_unlisted, lists_all, has_listed, IsPlaced, WasAsked, WasOrdered}
 use Rattle.ug_core.proofs.InForce.{unordered_append, decisions_append, decisions_more, has_decision}
 use Rattle.ug_core.proofs.Walk.{IsAt}
 use Rattle.std.proofs.lemmas.Option.{same_Some}
@@ -68,18 +72,36 @@ first_decisions number (Sweep moment) None = refl
 first_decisions number (Sweep moment) (Some saved) = refl
 first_decisions number (Order moment who line) None = refl
 first_decisions number (Order moment who line) (Some saved) = refl
+first_decisions number (Hinted moment piece) None = refl
+first_decisions number (Hinted moment piece) (Some saved) = refl
 
 first_writes : (number : ℕ) (event : Event) (tried : Option Saved) → writes_in (first_entry number event ∷ saved_entries tried) ≡ []
 first_writes number (Sweep moment) None = refl
 first_writes number (Sweep moment) (Some saved) = refl
 first_writes number (Order moment who line) None = refl
 first_writes number (Order moment who line) (Some saved) = refl
+first_writes number (Hinted moment piece) None = refl
+first_writes number (Hinted moment piece) (Some saved) = refl
 
 first_listings : (number : ℕ) (event : Event) (tried : Option Saved) → list_any tells_unlisted (first_entry number event ∷ saved_entries tried) ≡ false
 first_listings number (Sweep moment) None = refl
 first_listings number (Sweep moment) (Some saved) = refl
 first_listings number (Order moment who line) None = refl
 first_listings number (Order moment who line) (Some saved) = refl
+first_listings number (Hinted moment piece) None = refl
+first_listings number (Hinted moment piece) (Some saved) = refl
+
+-- nor do those of refused uevents
+
+refused_decisions : (answers : List (Result Hint SaidFault)) → decisions_in (refusals answers) ≡ []
+refused_decisions [] = refl
+refused_decisions (Ok hint ∷ answers) = refused_decisions answers
+refused_decisions (Err bad ∷ answers) = refused_decisions answers
+
+refused_writes : (answers : List (Result Hint SaidFault)) → writes_in (refusals answers) ≡ []
+refused_writes [] = refl
+refused_writes (Ok hint ∷ answers) = refused_writes answers
+refused_writes (Err bad ∷ answers) = refused_writes answers
 
 entry_unlisted : (change : Change) (next : ℕ) → list_any tells_unlisted (change_entry change next ∷ []) ≡ false
 entry_unlisted (Rules (Insert after rule mark)) next = refl
@@ -101,13 +123,32 @@ any_front (e ∷ es) fs none = by_first (tells_unlisted e) none (any_front es fs
     by_first true h rest = let no_one : ⊥ = cc in absurd no_one
     by_first false h rest = rest h
 
--- what holds where the sweep begins
+-- ---- the last stage
+
+abbrev fair_due : (due : Option (List (List ℕ))) (k : Kernel) (w : State Judging) (l : Kernel) (v : State Judging) → SettlesDue due k w l v → IsFair policy_answer policy_later (terms_for w) (tried_in due) k w l v
+fair_due None k w l v s = s.fair
+fair_due (Some names) k w l v s = s.0.fair
+
+defaults_due : (due : Option (List (List ℕ))) (k : Kernel) (w : State Judging) (l : Kernel) (v : State Judging) → SettlesDue due k w l v → AreDefaulted w.hub k w.standings → AreDefaulted w.hub l v.standings
+defaults_due None k w l v s = s.defaults
+defaults_due (Some names) k w l v s = s.0.defaults
+
+-- it lists where no names are due and it doesn't tell otherwise
+listed_due : (due : Option (List (List ℕ))) (k : Kernel) (w : State Judging) (l : Kernel) (v : State Judging) (s : SettlesDue due k w l v) → v.listed ≡ ((is_none due && not (list_any tells_unlisted (fair_due due k w l v s).rest)) || w.listed)
+listed_due None k w l v s = listed_after s.fair.rest w.listed v.listed s.listed
+listed_due (Some names) k w l v s = s.1
+
+only_if_none : (due : Option (List (List ℕ))) (a b : Bool) → (due ≡ None → a ≡ b) → (is_none due && not a) ≡ (is_none due && not b)
+only_if_none None a b same = ap (λ (x : Bool). not x) (same refl)
+only_if_none (Some names) a b same = refl
+
+-- what holds where the last stage begins
 record Behind (policy : Judging) (first : Kernel) (hs : List Happened) (h : Happened) : Type 0 where
   so : SoFar policy first h.kernel_answered (hs ++ h ∷ []) (told_of hs ++ told_if (was_done h.answered.reply) (changes_asked (ready_of h) h.event)) (journal hs ++ h.answered.sweep.entries) h.answered.sweep
   at : at_moment (moment_of h.event) h.answered.sweep.judge ≡ h.answered.sweep.judge
   listed : h.answered.sweep.listed ≡ h.before.sweep.listed
   hub : h.answered.sweep.hub ≡ h.before.sweep.hub
-  silent : list_any tells_unlisted h.answered.sweep.entries ≡ false
+  silent : h.answered.due ≡ None → list_any tells_unlisted h.answered.sweep.entries ≡ false
   ordered : unordered (decisions_in h.answered.sweep.entries) ≡ []
 
 told_none : (done : Bool) → told_if done None ≡ []
@@ -182,7 +223,7 @@ module _ (policy : Judging) (first : Kernel) (hs : List Happened) (h : Happened)
     at = x.at;
     listed = x.listed;
     hub = x.hub;
-    silent = x.silent;
+    silent = λ none. x.silent;
     ordered = ap (λ (ds : List Decision). unordered ds) x.plain;
   }
 
@@ -359,7 +400,7 @@ module _ (policy : Judging) (first : Kernel) (hs : List Happened) (h : Happened)
         } in
         let set = ordered_so policy first c.middle all tl (journal hs ++ w.entries) w c.number c.verdict who c.standing here was amid.so in
         let none : decisions_in fair.rest ≡ [] = subst (λ (es : List Entry). decisions_in es ≡ []) rest (given_none c.rest c.given) in
-        let unfair = fair_so policy first all tl ((journal hs ++ w.entries) ++ told ∷ []) (moment_of h.event) false c.middle h.kernel_answered (just_ordered c.number c.verdict who c.standing w) kept_in amid.at refl (λ were. law.defaults w.hub amid.so.defaulted) fair (λ r p. no_ruling w.standings fair.rest r none p) set in
+        let unfair = fair_so swept_before policy first all tl ((journal hs ++ w.entries) ++ told ∷ []) (moment_of h.event) false c.middle h.kernel_answered (just_ordered c.number c.verdict who c.standing w) kept_in amid.at refl (λ were. law.defaults w.hub amid.so.defaulted) fair (λ r p. no_ruling w.standings fair.rest r none p) set in
         let written = subst (λ (ds : List Decision). SoFar policy first h.kernel_answered all (tl ++ decided (unordered ds)) (((journal hs ++ w.entries) ++ told ∷ []) ++ fair.rest) kept_in) none unfair in
         let same : ((journal hs ++ w.entries) ++ told ∷ []) ++ fair.rest ≡ journal hs ++ kept_in.entries = append_assoc (journal hs ++ w.entries) (told ∷ []) fair.rest ∙ append_assoc (journal hs) w.entries (told ∷ fair.rest) ∙ ap (λ (es : List Entry). journal hs ++ es) (sym (fair.entries ∙ append_assoc w.entries (told ∷ []) fair.rest)) in
         let its_decisions : decisions_in c.kept.entries ≡ decision_of y ∷ [] = ap (λ (es : List Entry). decisions_in es) its_entries ∙ decisions_append w.entries (told ∷ c.rest) ∙ ap (λ (ds : List Decision). ds ++ (decision_of y ∷ decisions_in c.rest)) amid.plain ∙ ap (λ (ds : List Decision). decision_of y ∷ ds) (given_none c.rest c.given) in
@@ -376,7 +417,7 @@ module _ (policy : Judging) (first : Kernel) (hs : List Happened) (h : Happened)
           at = subst (λ (v : State Judging). at_moment (moment_of h.event) v.judge ≡ v.judge) (sym whole) amid.at;
           listed = ap (λ (v : State Judging). v.listed) whole ∙ amid.listed;
           hub = ap (λ (v : State Judging). v.hub) whole ∙ amid.hub;
-          silent = ap (λ (v : State Judging). list_any tells_unlisted v.entries) whole ∙ any_append c.kept.entries (e ∷ []) refl ∙ ap (λ (es : List Entry). list_any tells_unlisted es) its_entries ∙ any_front w.entries (told ∷ c.rest) amid.silent ∙ rest_listings c.standing.name c.rest c.bears;
+          silent = λ none. ap (λ (v : State Judging). list_any tells_unlisted v.entries) whole ∙ any_append c.kept.entries (e ∷ []) refl ∙ ap (λ (es : List Entry). list_any tells_unlisted es) its_entries ∙ any_front w.entries (told ∷ c.rest) amid.silent ∙ rest_listings c.standing.name c.rest c.bears;
           ordered = ap (λ (v : State Judging). unordered (decisions_in v.entries)) whole ∙ ap (λ (ds : List Decision). unordered ds) (decisions_more c.kept.entries (e ∷ []) refl ∙ its_decisions);
         }
       where
@@ -385,7 +426,7 @@ module _ (policy : Judging) (first : Kernel) (hs : List Happened) (h : Happened)
         given_none (entry.Judged number name held verdict why ∷ es) g = let none : ⊥ = cc in absurd none
         given_none (e ∷ es) g = given_none es g
 
-        no_ruling : (ss : List Standing) (es : List Entry) (r : Ruling) → decisions_in es ≡ [] → IsAt false (moment_of h.event) c.middle h.kernel_answered (with_order c.number c.verdict who ss) es r → IsPlaced all h.kernel_answered r
+        no_ruling : (ss : List Standing) (es : List Entry) (r : Ruling) → decisions_in es ≡ [] → IsAt swept_before false (moment_of h.event) c.middle h.kernel_answered (with_order c.number c.verdict who ss) es r → IsPlaced all h.kernel_answered r
         no_ruling ss es r none p =
             let there : Has (decisions_in es) (record { number = r.number; name = r.name; held = r.held; verdict = p.verdict; cause = p.cause }) = has_decision es r.number r.name r.held p.verdict p.cause (subst (λ (x : List Entry). Has x (entry.Judged r.number r.name r.held p.verdict p.cause)) (sym p.at) (has_right p.front (entry.Judged r.number r.name r.held p.verdict p.cause ∷ p.back) (entry.Judged r.number r.name r.held p.verdict p.cause) (inl refl))) in
             absurd (subst (λ (ds : List Decision). Has ds (record { number = r.number; name = r.name; held = r.held; verdict = p.verdict; cause = p.cause })) none there)
@@ -396,11 +437,37 @@ module _ (policy : Judging) (first : Kernel) (hs : List Happened) (h : Happened)
         reply_done lines (settled.Fault failed) = refl
         reply_done lines settled.Memory = refl
 
+  -- ---- a piece of uevents was met
+
+  module _ (moment : Moment) (piece : List ℕ) (is : h.event ≡ Hinted moment piece) (still : h.kernel_answered ≡ h.kernel) (ready : Amid h.kernel (told_of hs) (ready_of h)) where
+    -- entries more, and names are due
+    due_so : (es : List Entry) (names : List (List ℕ)) → decisions_in es ≡ [] → writes_in es ≡ [] → h.answered.sweep ≡ record (ready_of h).sweep { entries = (ready_of h).sweep.entries ++ es } → h.answered.due ≡ Some names → Behind policy first hs h
+    due_so es names none unwritten same due =
+        let d : DaemonState = ready_of h in
+        let w : State Judging = record d.sweep { entries = d.sweep.entries ++ es } in
+        let told : told_if (was_done h.answered.reply) (changes_asked d h.event) ≡ [] = ap (λ (o : Option Change). told_if (was_done h.answered.reply) o) (ap (λ (e : Event). changes_asked d e) is) ∙ told_none (was_done h.answered.reply) in
+        let here : Amid h.kernel_answered (told_of hs ++ []) d = untold h.kernel_answered d (subst (λ (k : Kernel). Amid k (told_of hs) d) (sym still) ready) in
+        let so : SoFar policy first h.kernel_answered all (told_of hs ++ []) (journal hs ++ w.entries) w = subst (λ (l : List Entry). SoFar policy first h.kernel_answered all (told_of hs ++ []) l w) (append_assoc (journal hs) d.sweep.entries es) (noted_so policy first h.kernel_answered all (told_of hs ++ []) (journal hs ++ d.sweep.entries) es d.sweep w none unwritten refl refl refl (λ m. refl) here.so) in
+        record {
+          so = subst (λ (l : List Told). SoFar policy first h.kernel_answered all (told_of hs ++ l) (journal hs ++ h.answered.sweep.entries) h.answered.sweep) (sym told)
+              (subst (λ (v : State Judging). SoFar policy first h.kernel_answered all (told_of hs ++ []) (journal hs ++ v.entries) v) (sym same) so);
+          at = subst (λ (v : State Judging). at_moment (moment_of h.event) v.judge ≡ v.judge) (sym same) ready.at;
+          listed = ap (λ (v : State Judging). v.listed) same ∙ ready.listed;
+          hub = ap (λ (v : State Judging). v.hub) same ∙ ready.hub;
+          silent = λ nothing. let bad : None ≡ Some names = sym nothing ∙ due in let no_one : ⊥ = cc in absurd no_one;
+          ordered = ap (λ (v : State Judging). unordered (decisions_in v.entries)) same ∙ ap (λ (ds : List Decision). unordered ds) (decisions_more d.sweep.entries es none ∙ ready.plain);
+        }
+
+    hinted_so : MeetsPiece piece (ready_of h) h.answered → Behind policy first hs h
+    hinted_so (inl t) = due_so (refusals t.answers) (names_due (ready_of h).sweep.listed t.names) (refused_decisions t.answers) (refused_writes t.answers) (ap (λ (v : DaemonState). v.sweep) t.state) (ap (λ (v : DaemonState). v.due) t.state)
+    hinted_so (inr e) = due_so (entry.UnsettledAll fault.Memory ∷ []) [] refl refl (ap (λ (v : DaemonState). v.sweep) e) (ap (λ (v : DaemonState). v.due) e)
+
   behind_event : (event : Event) → h.event ≡ event → Amid h.kernel (told_of hs) (ready_of h) → AnswersEvent event h.kernel (ready_of h) h.became h.kernel_answered h.answered → Behind policy first hs h
   behind_event (Sweep moment) is x a =
       behind_of []
       (ap (λ (o : Option Change). told_if (was_done h.answered.reply) o) (ap (λ (e : Event). changes_asked (ready_of h) e) is) ∙ told_none (was_done h.answered.reply))
       (untold h.kernel_answered h.answered (subst (λ (v : DaemonState). Amid h.kernel_answered (told_of hs) v) (sym a.2) (subst (λ (k : Kernel). Amid k (told_of hs) (ready_of h)) (sym a.0) x)))
+  behind_event (Hinted moment piece) is x a = hinted_so moment piece is a.0 x a.2
   behind_event (Order moment who line) is x (inl r) = refused_so moment who line is x r
   behind_event (Order moment who line) is x (inr (inl t)) = once_so moment who line is x t.0 t.1
   behind_event (Order moment who line) is x (inr (inr c)) = verdict_so moment who line is x c
@@ -414,7 +481,7 @@ module _ (policy : Judging) (first : Kernel) (hs : List Happened) (h : Happened)
       let b = behind_event h.event refl amid answers in
       let a : State Judging = h.answered.sweep in
       let v : State Judging = law.swept in
-      let fair = law.law.fair in
+      let fair = fair_due h.answered.due h.kernel_answered a h.kernel_after v law.law in
       let y : Entry = entry.End h.answered.event in
       let kept_hub : v.hub ≡ a.hub = sym (ap (λ (z : State Judging). z.hub) law.entries) ∙ law.hub in
       let entries : h.after.sweep.entries ≡ a.entries ++ (fair.rest ++ y ∷ []) = ap (λ (z : State Judging). z.entries) law.entries ∙ ap (λ (es : List Entry). es ++ y ∷ []) fair.entries ∙ append_assoc a.entries fair.rest (y ∷ []) in
@@ -436,14 +503,14 @@ module _ (policy : Judging) (first : Kernel) (hs : List Happened) (h : Happened)
       ∙ ap (λ (l : List Told). told_of hs ++ (first_told ++ l)) (ap (λ (ds : List Decision). decided ds) (sym inside))
       ∙ ap (λ (o : Option Reply). told_of hs ++ (told_if (was_done o) (changes_asked (ready_of h) h.event) ++ decided (unordered (decisions_in h.after.sweep.entries)))) (sym law.reply)
       ∙ sym (told_append hs h) in
-      let swept = fair_so policy first (hs ++ h ∷ []) (told_of hs ++ first_told) (journal hs ++ a.entries) (moment_of h.event) (not a.listed) h.kernel_answered h.kernel_after a v b.at kept_hub law.law.defaults fair (λ r p. placed_new hs h fair.rest r (answered_values h.event h.kernel (ready_of h) h.became h.kernel_answered h.answered answers) entries (b.listed ∙ listed) p) b.so in
+      let swept = fair_so (tried_in h.answered.due) policy first (hs ++ h ∷ []) (told_of hs ++ first_told) (journal hs ++ a.entries) (moment_of h.event) (not a.listed) h.kernel_answered h.kernel_after a v b.at kept_hub (defaults_due h.answered.due h.kernel_answered a h.kernel_after v law.law) fair (λ r p. placed_new hs h fair.rest r (answered_values h.event h.kernel (ready_of h) h.became h.kernel_answered h.answered answers) entries (b.listed ∙ listed) p) b.so in
       let last = noted_so policy first h.kernel_after (hs ++ h ∷ []) ((told_of hs ++ first_told) ++ ruled_told) ((journal hs ++ a.entries) ++ fair.rest) (y ∷ []) v h.after.sweep refl refl (ap (λ (z : State Judging). z.standings) law.entries) (ap (λ (z : State Judging). z.next) law.entries) (ap (λ (z : State Judging). z.hub) law.entries) (λ m. ap (λ (z : State Judging). at_moment m z.judge) law.entries) swept in (
         subst (λ (l : List Told). SoFar policy first h.kernel_after (hs ++ h ∷ []) l (journal (hs ++ h ∷ [])) h.after.sweep) told
             (subst (λ (es : List Entry). SoFar policy first h.kernel_after (hs ++ h ∷ []) ((told_of hs ++ first_told) ++ ruled_told) es h.after.sweep) whole last),
         ap (λ (z : State Judging). z.listed) law.entries
-            ∙ listed_after fair.rest a.listed v.listed law.law.listed
-            ∙ ap (λ (t : Bool). not t || a.listed) (sym (ap (λ (es : List Entry). list_any tells_unlisted es) entries ∙ any_front a.entries (fair.rest ++ y ∷ []) b.silent ∙ any_append fair.rest (y ∷ []) refl))
-            ∙ ap (λ (t : Bool). not (list_any tells_unlisted h.after.sweep.entries) || t) (b.listed ∙ listed)
+            ∙ listed_due h.answered.due h.kernel_answered a h.kernel_after v law.law
+            ∙ ap (λ (t : Bool). t || a.listed) (only_if_none h.answered.due (list_any tells_unlisted fair.rest) (list_any tells_unlisted h.after.sweep.entries) (λ none. sym (ap (λ (es : List Entry). list_any tells_unlisted es) entries ∙ any_front a.entries (fair.rest ++ y ∷ []) (b.silent none) ∙ any_append fair.rest (y ∷ []) refl)))
+            ∙ ap (λ (t : Bool). lists_all h || t) (b.listed ∙ listed)
             ∙ sym (listed_append hs h),
         law.hub ∙ b.hub,
       )

@@ -1,4 +1,4 @@
--- A sweep keeps the rules as they were given, and what is written to the defaults, whatever is answered.
+-- The last stage keeps the rules as they were given, and what is written to the defaults, whatever is answered.
 use Rattle.std.proofs.Common.{◌≡◌, ℕ, ◌+◌, Bool, true, false, is_none, List, [], ◌∷◌, ◌++◌, Option, Some, None, refl, sym, ◌∙◌, subst}
 use Rattle.ug_types.specs.Names.{parent_of}
 use Rattle.ug_types.specs.Sweep.{in_sweep_order}
@@ -27,7 +27,7 @@ use Rattle.ug_table.specs.Sweep.{settling_all, resettling_all, closing_unlisted,
 use Rattle.ug_table.specs.declared.standing.Known.{Known}
 use Rattle.ug_table.specs.declared.standing.Settled.{Settled}
 use Rattle.ug_ruleset.specs.RuleFile.{as_given}
-use Rattle.ug_core.specs.Event.{DaemonState, ended, handling}
+use Rattle.ug_core.specs.Event.{DaemonState, ended, handling, settling_due}
 use Rattle.ug_core.specs.Policy.{Judging, policy_answer, policy_later}
 use Rattle.ug_core.proofs.Verdicts.{rules_stay}
 
@@ -130,19 +130,23 @@ sweep_so : (w : State Judging) → EndsSo (Stays w) (sweeping policy_answer poli
 unfolding sweeping
 sweep_so w = λ t. list_so w w t.answer (failure_of t) (refl, refl)
 
-pub sweep_keeps_hub : {S : Type 0} (gives : S → (call : Call) → Answer call → S → Type 0) (s : S) (w v : State Judging) (t : S) → Runs gives s (sweeping policy_answer policy_later w) v t → v.hub ≡ w.hub
-sweep_keeps_hub gives s w v t h = (ends_run gives (Stays w) (sweeping policy_answer policy_later w) s v t (sweep_so w) h).1
+due_so : (due : Option (List (List ℕ))) (w : State Judging) → EndsSo (Stays w) (settling_due due w)
+due_so None w = sweep_so w
+due_so (Some names) w = all_so w names (terms_for w) w (refl, refl)
+
+pub due_keeps_hub : {S : Type 0} (gives : S → (call : Call) → Answer call → S → Type 0) (due : Option (List (List ℕ))) (s : S) (w v : State Judging) (t : S) → Runs gives s (settling_due due w) v t → v.hub ≡ w.hub
+due_keeps_hub gives due s w v t h = (ends_run gives (Stays w) (settling_due due w) s v t (due_so due w) h).1
 
 handle_so : (d : DaemonState) → EndsSo (λ (e : DaemonState). SameRules d.sweep.judge e.sweep) (handling d)
 unfolding handling
-handle_so d = ends_then (Stays d.sweep) (λ (e : DaemonState). SameRules d.sweep.judge e.sweep) (sweeping policy_answer policy_later d.sweep) (ended d) (sweep_so d.sweep) (λ v h. h.0)
+handle_so d = ends_then (Stays d.sweep) (λ (e : DaemonState). SameRules d.sweep.judge e.sweep) (settling_due d.due d.sweep) (ended d) (due_so d.due d.sweep) (λ v h. h.0)
 
 pub event_keeps_rules : {S : Type 0} (gives : S → (call : Call) → Answer call → S → Type 0) (s : S) (d e : DaemonState) (t : S) → Runs gives s (handling d) e t → SameRules d.sweep.judge e.sweep
 event_keeps_rules gives s d e t h = ends_run gives (λ (x : DaemonState). SameRules d.sweep.judge x.sweep) (handling d) s e t (handle_so d) h
 
 pending_so : (d : DaemonState) → EndsSo (λ (e : DaemonState). e.pending ≡ d.pending) (handling d)
 unfolding handling
-pending_so d = ends_after (λ (e : DaemonState). e.pending ≡ d.pending) (sweeping policy_answer policy_later d.sweep) (ended d) (λ v. refl)
+pending_so d = ends_after (λ (e : DaemonState). e.pending ≡ d.pending) (settling_due d.due d.sweep) (ended d) (λ v. refl)
 
 pub event_keeps_pending : {S : Type 0} (gives : S → (call : Call) → Answer call → S → Type 0) (s : S) (d e : DaemonState) (t : S) → Runs gives s (handling d) e t → e.pending ≡ d.pending
 event_keeps_pending gives s d e t h = ends_run gives (λ (x : DaemonState). x.pending ≡ d.pending) (handling d) s e t (pending_so d) h

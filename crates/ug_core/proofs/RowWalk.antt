@@ -5,7 +5,7 @@ use Rattle.ug_types.specs.Elements.{Has, AllDistinct}
 use Rattle.ug_table.specs.Laws.{numbers_of}
 use Rattle.ug_table.specs.Standings.{numbered}
 use Rattle.ug_table.specs.declared.standing.Standing.{Standing}
-use Rattle.ug_table.proofs.Standings.{numbered_has}
+use Rattle.ug_table.proofs.NamedStandings.{numbered_has}
 use Rattle.ug_core.specs.DeviceRows.{AreRising, IsFirstFrom, by_number, device_row, device_rows}
 use Rattle.ug_core.proofs.RowOrder.{by_has, has_by, rising_by}
 

@@ -28,12 +28,12 @@ use Rattle.ug_table.specs.Orders.{with_verdict, ordered_standing, with_order, ve
 use Rattle.ug_table.specs.Standings.{numbered}
 use Rattle.ug_table.specs.Parts.{writes_in}
 use Rattle.ug_table.specs.State.{State, terms_of}
-use Rattle.ug_table.specs.Laws.{IsDevice, Stand, AreDefaulted, IsTold, swept_before, wrote_entries, numbers_of, Account, IsFair, IsUnlisted, IsListed}
+use Rattle.ug_table.specs.Laws.{IsDevice, Stand, AreDefaulted, IsTold, Tries, wrote_entries, numbers_of, Account, IsFair, IsUnlisted, IsListed}
 use Rattle.ug_table.specs.declared.standing.Standing.{Standing}
 use Rattle.ug_table.proofs.Devices.{device_stays, stand_stays}
 use Rattle.ug_table.proofs.Ordered.{has_ordered, ordered_is, ordered_other, stand_ordered}
 use Rattle.ug_table.proofs.Says.{account_says}
-use Rattle.ug_table.proofs.Standings.{numbered_has}
+use Rattle.ug_table.proofs.NamedStandings.{numbered_has}
 use Rattle.ug_core.specs.Changes.{CanChange, change_entry, changed_by}
 use Rattle.ug_core.specs.declared.changes.Change.{Change}
 use Rattle.ug_core.specs.declared.changes.Change.TheVariants.{Rules, Set}
@@ -42,7 +42,8 @@ use Rattle.ug_core.specs.Event.{moment_of}
 use Rattle.ug_core.specs.InForce.{Decision, decision_of, decisions_in, or_else, on_number, last_decision, last_judged, standing_decision, in_force, AgreeInForce, is_ordered, unordered, numbers_on, given_numbers, Follow}
 use Rattle.ug_core.specs.Rulings.{CanTake, Changed, Decided, PolicyStep, Ruled, Ruling, Told, Was_changed, after_ruling, after_steps, at_moment, decision_by, told_by}
 use Rattle.ug_core.specs.Values.{LogsValues}
-use Rattle.ug_core.specs.Chain.{Happened, ready_of, changes_asked, decided, journal, told_if, told_in, told_of, was_done, tells_unlisted, has_listed, IsPlaced, WasAsked, WasOrdered}
+use Rattle.ug_core.specs.Laws.{tried_in}
+use Rattle.ug_core.specs.Chain.{Happened, ready_of, changes_asked, decided, journal, told_if, told_in, told_of, was_done, tells_unlisted, lists_all, has_listed, IsPlaced, WasAsked, WasOrdered}
 use Rattle.ug_core.proofs.InForce.{told_numbers, in_force_append, on_itself, on_another, unordered_append, unordered_all, decisions_append, decisions_more, has_decision, standing_found, fresh, numbers_append, follow_append, lift, lift_agree}
 use Rattle.ug_core.proofs.Steps.{after_ruled, can_ruled, can_then, ruled, ruled_has, ruled_unchanged, steps_append, told_ruled, told_then}
 use Rattle.ug_core.proofs.Walk.{after_rulings, decisions_by, Effected, IsAt, None_written, Others, Uneffected, WasWritten, Written, walk}
@@ -133,9 +134,9 @@ pub any_append : (es fs : List Entry) → list_any tells_unlisted fs ≡ false �
 any_append [] fs none = none
 any_append (e ∷ es) fs none = ap (λ (b : Bool). tells_unlisted e || b) (any_append es fs none)
 
-pub listed_append : (hs : List Happened) (h : Happened) → has_listed (hs ++ h ∷ []) ≡ (not (list_any tells_unlisted h.after.sweep.entries) || has_listed hs)
+pub listed_append : (hs : List Happened) (h : Happened) → has_listed (hs ++ h ∷ []) ≡ (lists_all h || has_listed hs)
 listed_append [] h = refl
-listed_append (g ∷ hs) h = ap (λ (b : Bool). not (list_any tells_unlisted g.after.sweep.entries) || b) (listed_append hs h) ∙ swapped (not (list_any tells_unlisted g.after.sweep.entries)) (not (list_any tells_unlisted h.after.sweep.entries)) (has_listed hs)
+listed_append (g ∷ hs) h = ap (λ (b : Bool). lists_all g || b) (listed_append hs h) ∙ swapped (lists_all g) (lists_all h) (has_listed hs)
   where
     swapped : (a b c : Bool) → (a || (b || c)) ≡ (b || (a || c))
     swapped true true c = refl
@@ -488,14 +489,14 @@ device_of policy rs l d devices h =
     let r : Ruling = x.ruling in
     (r.device, r.judged, subst (λ (y : Decision). IsDevice l r.device y.name y.held r.judged) x.is (devices r x.has))
 
--- a sweep, or the writes of an order
-pub fair_so : (policy : Judging) (first : Kernel) (hs : List Happened) (tl : List Told) (es : List Entry) (moment : Moment) (present : Bool) (k l : Kernel) (w v : State Judging) → at_moment moment w.judge ≡ w.judge → v.hub ≡ w.hub → (AreDefaulted w.hub k w.standings → AreDefaulted w.hub l v.standings) → (fair : IsFair policy_answer policy_later (terms_of present w.hub) swept_before k w l v) → ((r : Ruling) → IsAt present moment k l w.standings fair.rest r → IsPlaced hs l r) → SoFar policy first k hs tl es w → SoFar policy first l hs (tl ++ decided (unordered (decisions_in fair.rest))) (es ++ fair.rest) v
-fair_so policy first hs tl es moment present k l w v at hub keeps fair placing so =
+-- the last stage of an event, or the writes of an order
+pub fair_so : (tried : Tries) (policy : Judging) (first : Kernel) (hs : List Happened) (tl : List Told) (es : List Entry) (moment : Moment) (present : Bool) (k l : Kernel) (w v : State Judging) → at_moment moment w.judge ≡ w.judge → v.hub ≡ w.hub → (AreDefaulted w.hub k w.standings → AreDefaulted w.hub l v.standings) → (fair : IsFair policy_answer policy_later (terms_of present w.hub) tried k w l v) → ((r : Ruling) → IsAt tried present moment k l w.standings fair.rest r → IsPlaced hs l r) → SoFar policy first k hs tl es w → SoFar policy first l hs (tl ++ decided (unordered (decisions_in fair.rest))) (es ++ fair.rest) v
+fair_so tried policy first hs tl es moment present k l w v at hub keeps fair placing so =
     let rest : List Entry = fair.rest in
     let ss : List Standing = w.standings in
-    let account = subst (λ (j : Judging). Account policy_answer policy_later (terms_of present w.hub) swept_before k l ss k.log j w.next rest l.log v.judge v.next) (sym at) fair.account in
-    let x = walk (terms_of present w.hub) moment k l ss k.log w.judge w.next so.stand.numbers so.stand.distinct rest l.log v.judge v.next account in
-    let says = account_says policy_answer policy_later (terms_of present w.hub) swept_before k l ss k.log w.judge w.next rest l.log v.judge v.next so.stand.numbers fair.account in
+    let account = subst (λ (j : Judging). Account policy_answer policy_later (terms_of present w.hub) tried k l ss k.log j w.next rest l.log v.judge v.next) (sym at) fair.account in
+    let x = walk tried (terms_of present w.hub) moment k l ss k.log w.judge w.next so.stand.numbers so.stand.distinct rest l.log v.judge v.next account in
+    let says = account_says policy_answer policy_later (terms_of present w.hub) tried k l ss k.log w.judge w.next rest l.log v.judge v.next so.stand.numbers fair.account in
     let plain : (d : Decision) → Has (decisions_in rest) d → is_ordered d.cause ≡ false = λ d a. decision_given w.judge x.rulings d (subst (λ (ds : List Decision). Has ds d) x.told a) in
     let inner : unordered (decisions_in rest) ≡ decisions_in rest = unordered_all (decisions_in rest) plain in
     let all : decisions_in (es ++ rest) ≡ decisions_in es ++ decisions_in rest = decisions_append es rest in
@@ -540,7 +541,7 @@ fair_so policy first hs tl es moment present k l w v at hub keeps fair placing s
     placed_same hs k l r g p = subst (λ (x : List Happened). IsPlaced x l r) (append-nil hs) (placed_stays hs [] k l r g p)
 
 pub placed_new : (hs : List Happened) (h : Happened) (rest : List Entry) (r : Ruling) → LogsValues h.kernel h.kernel_answered → h.after.sweep.entries ≡ h.answered.sweep.entries ++ (rest ++ entry.End h.answered.event ∷ []) → h.answered.sweep.listed ≡ has_listed hs
-    → IsAt (not h.answered.sweep.listed) (moment_of h.event) h.kernel_answered h.kernel_after h.answered.sweep.standings rest r → IsPlaced (hs ++ h ∷ []) h.kernel_after r
+    → IsAt (tried_in h.answered.due) (not h.answered.sweep.listed) (moment_of h.event) h.kernel_answered h.kernel_after h.answered.sweep.standings rest r → IsPlaced (hs ++ h ∷ []) h.kernel_after r
 placed_new hs h rest r values entries listed p =
     let y : Entry = entry.End h.answered.event in
     let this : Entry = entry.Judged r.number r.name r.held p.verdict p.cause in

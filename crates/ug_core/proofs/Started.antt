@@ -17,7 +17,7 @@ use Rattle.ug_core.specs.Policy.{Judging}
 use Rattle.std.specs.Prelude.{IfErr, IfOk}
 use Rattle.ug_store.specs.Store.{seen_by}
 use Rattle.ug_core.specs.Event.{DaemonState}
-use Rattle.ug_core.specs.Starting.{HasRulesOf, HoldsJust, Loads, Marked, Outset, Starts, StartsAfter, StartsFrom, StartsWithRules, TakesFolder, entries_from, folder_rules, marked_rules, start_rules}
+use Rattle.ug_core.specs.Starting.{HasRulesOf, HoldsJust, Loads, Marked, Outset, Starts, StartsAfter, StartsFrom, StartsWithRules, TakesFolder, entries_from, marked_rules, start_rules}
 use Rattle.ug_core.specs.Verdicts.{IsLater}
 use Rattle.ug_core.specs.declared.start_fault.StartFault.{StartFault}
 use Rattle.ug_core.specs.declared.start_fault.StartFault.TheVariants as fault

@@ -28,7 +28,7 @@ use Rattle.ug_core.specs.Storing.{WritesRules}
 use Rattle.ug_core.specs.declared.changes.Change.{Change}
 use Rattle.ug_core.specs.declared.changes.Change.TheVariants.{Rules as Edits, Set}
 use Rattle.ug_core.specs.declared.daemon.Event.{Event}
-use Rattle.ug_core.specs.declared.daemon.Event.TheVariants.{Sweep, Order}
+use Rattle.ug_core.specs.declared.daemon.Event.TheVariants.{Sweep, Order, Hint}
 use Rattle.ug_core.specs.declared.start_fault.StartFault.{StartFault}
 use Rattle.ug_core.specs.declared.start_fault.StartFault.TheVariants as fault
 use Rattle.ug_core.specs.declared.storing.Stored.{Stored}
@@ -93,6 +93,7 @@ behind_files stored.Memory asked unsure texts more a b = b
 
 event_texts : (event : Event) (d : DaemonState) → texts_of event d ≡ text_of_change (change_in event d) d.sweep.judge
 event_texts (Sweep moment) d = refl
+event_texts (Hint moment piece) d = refl
 event_texts (Order moment who line) d = refl
 
 event_files : (h : Happened) → WritesEvent h.event h.before h.became → AreFiles (if_written h.became (rules_of h.event h.before)) (if_written h.became (texts_of h.event h.before))

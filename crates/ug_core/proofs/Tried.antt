@@ -22,23 +22,24 @@ use Rattle.ug_store.specs.DiskCalls.{DiskCall, DiskTold}
 use Rattle.ug_store.specs.Store.{Ended, RunsDisk, saving}
 use Rattle.ug_store.proofs.DiskRuns.{runs_split_disk}
 use Rattle.ug_table.specs.Orders.{with_verdict, verdict_entry}
-use Rattle.ug_table.specs.Parts.{AfterListing, AllBear, BeginsListed, BeginsUnlisted, GoesInParts, InParts}
+use Rattle.ug_table.specs.Parts.{AfterListing, AllBear, BeginsListed, BeginsUnlisted, InParts}
 use Rattle.ug_table.specs.Standings.{farewells, lists}
 use Rattle.ug_table.specs.State.{State}
 use Rattle.ug_table.specs.declared.standing.Standing.{Standing}
 use Rattle.ug_core.specs.Answering.{answer_of, reply_to, replying}
 use Rattle.ug_core.specs.Changes.{change_entry}
 use Rattle.ug_core.specs.Event.{DaemonState, if_pending, if_text, pending_with, ready, saved_entries, trying}
-use Rattle.ug_core.specs.Laws.{AnswersAtOnce, GoesAsAnswer, GoesAsVerdict, RunsAnswer, if_watching}
+use Rattle.ug_core.specs.Laws.{AnswersAtOnce, GoesAsAnswer, GoesAsDue, GoesAsVerdict, PartsOfDue, RunsAnswer, if_watching}
 use Rattle.ug_core.specs.Pending.{IsPendingThen, TriesSave, saves_in, saves_stored, saves_tried}
 use Rattle.ug_core.specs.Policy.{Judging}
 use Rattle.ug_core.specs.Storing.{noted_store, pending_stored, with_changes}
 use Rattle.ug_core.specs.declared.changes.Change.{Change}
 use Rattle.ug_core.specs.declared.changes.Change.TheVariants.{Rules, Set}
 use Rattle.ug_core.specs.declared.daemon.Event.{Event}
-use Rattle.ug_core.specs.declared.daemon.Event.TheVariants.{Sweep, Order}
+use Rattle.ug_core.specs.declared.daemon.Event.TheVariants.{Sweep, Order, Hint}
 use Rattle.ug_core.specs.declared.storing.Stored.{Stored}
 use Rattle.ug_core.specs.declared.storing.Stored.TheVariants as stored
+use Rattle.ug_core.proofs.Pieces.{met_adds, met_pending}
 
 -- ---- a save is tried where one is pending
 
@@ -96,6 +97,15 @@ head_none (listing.Names listed) failed ss entries left names shut binds (inl h)
 head_none (listing.Names listed) failed ss entries left names shut binds (inr h) = unlisted_none fault.Memory ss entries left names shut binds h
 head_none listing.Failed failed ss entries left names shut binds h = unlisted_none (fault.Call failed) ss entries left names shut binds h
 head_none listing.Memory failed ss entries left names shut binds h = unlisted_none fault.Memory ss entries left names shut binds h
+
+due_none : {S : Type 0} (gives : S → (call : Call) → Answer call → S → Type 0) (calls faults : S → ℕ) (due : Option (List (List ℕ))) (s : S) (w : State Judging) (t : S) (v : State Judging) (made telling : List Made) (rest : List Entry) → PartsOfDue gives calls faults due s w t v made telling rest → saves_in rest ≡ []
+due_none gives calls faults None s w t v made telling rest p =
+    let g = p.0 in
+    ap (λ (es : List Entry). saves_in es) p.3
+    ∙ none_both g.head g.rest (head_none g.listed.answer (failure_of g.listed) w.standings g.head g.left g.names g.shut g.binds g.begins) (parts_none w.hub g.binds g.names g.left v.standings g.made g.ending g.rest g.parts)
+due_none gives calls faults (Some names) s w t v made telling rest p =
+    let g = p.0 in
+    ap (λ (es : List Entry). saves_in es) p.3 ∙ parts_none w.hub true names w.standings v.standings g.made g.ending g.rest g.parts
 
 -- ---- what a part of an event adds
 
@@ -181,6 +191,9 @@ verdict_behind gives calls faults who s d became made t a x =
 answer_behind : {S T : Type 0} (gives : S → (call : Call) → Answer call → S → Type 0) (calls faults : S → ℕ) (keeps : T → (call : DiskCall) → DiskTold call → T → Type 0) (event : Event) (s : S) (q : T) (d : DaemonState) (became : Stored) (made : List Made) (m : S) (p : T) (a : DaemonState) → RunsAnswer gives keeps event s q d became m p a → GoesAsAnswer gives calls faults event s d became made m a → Behind became d a
 answer_behind gives calls faults keeps (Sweep moment) s q d became made m p a runs goes =
     subst (λ (b : Stored). Behind b d a) (sym runs.2) (subst (λ (v : DaemonState). Behind stored.NotNeeded d v) (sym runs.3) (record { entries = adds_nothing d.sweep.entries; pending = refl }))
+answer_behind gives calls faults keeps (Hint moment piece) s q d became made m p a runs goes =
+    let x = met_adds piece d a runs.3 in
+    subst (λ (b : Stored). Behind b d a) (sym runs.2) (record { entries = record { more = x.0; all = x.1; told = x.2 }; pending = met_pending piece d a runs.3 })
 answer_behind gives calls faults keeps (Order moment who line) s q d became made m p a runs (inl x) = record {
   entries = adds_behind (saves_stored became) d.sweep.entries (noted_store became d).sweep.entries a.sweep.entries (entry.Reply (answer_of (reply.Refused x.refused)) ∷ []) (store_adds became d) (ap (λ (v : DaemonState). v.sweep.entries) x.state) refl;
   pending = ap (λ (v : DaemonState). v.pending) x.state ∙ store_pending became d;
@@ -219,15 +232,14 @@ saved_none (Some saved) = refl
 saved_first : (tried : Option Saved) (es : List Entry) (saved : Saved) → tried ≡ Some saved → (later : List Entry) × (saved_entries tried ++ es ≡ entry.Save saved ∷ later)
 saved_first tried es saved is = (es, ap (λ (o : Option Saved). saved_entries o ++ es) is)
 
-pub tries_save : {S T : Type 0} (gives : S → (call : Call) → Answer call → S → Type 0) (calls faults : S → ℕ) (keeps : T → (call : DiskCall) → DiskTold call → T → Type 0) (event : Event) (o : T) (d : DaemonState) (tried : Option Saved) (q : T) (s : S) (became : Stored) (made : List Made) (m : S) (p : T) (a : DaemonState) (r t : S) (e : DaemonState) (swept : State Judging) → RunsDisk keeps o (trying d) tried q → RunsAnswer gives keeps event s q (ready event tried d) became m p a → GoesAsAnswer gives calls faults event s (ready event tried d) became made m a → GoesInParts gives r a.sweep t swept → e.sweep ≡ record swept { entries = swept.entries ++ entry.End a.event ∷ [] } → e.pending ≡ a.pending → TriesSave event tried became d e
+pub tries_save : {S T : Type 0} (gives : S → (call : Call) → Answer call → S → Type 0) (calls faults : S → ℕ) (keeps : T → (call : DiskCall) → DiskTold call → T → Type 0) (event : Event) (o : T) (d : DaemonState) (tried : Option Saved) (q : T) (s : S) (became : Stored) (made : List Made) (m : S) (p : T) (a : DaemonState) (r t : S) (e : DaemonState) (swept : State Judging) → RunsDisk keeps o (trying d) tried q → RunsAnswer gives keeps event s q (ready event tried d) became m p a → GoesAsAnswer gives calls faults event s (ready event tried d) became made m a → GoesAsDue gives calls faults a.due r a.sweep t swept → e.sweep ≡ record swept { entries = swept.entries ++ entry.End a.event ∷ [] } → e.pending ≡ a.pending → TriesSave event tried became d e
 tries_save gives calls faults keeps event o d tried q s became made m p a r t e swept tries answers goes parts ends pending =
     let b : Behind became (ready event tried d) a = answer_behind gives calls faults keeps event s q (ready event tried d) became made m p a answers goes in
-    let both : List Entry = parts.head ++ parts.rest in
-    let last : List Entry = both ++ entry.End a.event ∷ [] in
-    let none : saves_in last ≡ [] = none_both both (entry.End a.event ∷ []) (none_both parts.head parts.rest (head_none parts.listed.answer (failure_of parts.listed) a.sweep.standings parts.head parts.left parts.names parts.shut parts.binds parts.begins) (parts_none a.sweep.hub parts.binds parts.names parts.left swept.standings parts.made parts.ending parts.rest parts.parts)) refl in
+    let last : List Entry = parts.rest ++ entry.End a.event ∷ [] in
+    let none : saves_in last ≡ [] = none_both parts.rest (entry.End a.event ∷ []) (due_none gives calls faults a.due r a.sweep t swept parts.made parts.telling parts.rest parts.parts) refl in
     let adds : Adds (saves_stored became) (ready event tried d).sweep.entries e.sweep.entries =
     adds_behind (saves_stored became) (ready event tried d).sweep.entries a.sweep.entries e.sweep.entries last b.entries
-    (ap (λ (v : State Judging). v.entries) ends ∙ ap (λ (es : List Entry). es ++ entry.End a.event ∷ []) parts.entries ∙ append_assoc a.sweep.entries both (entry.End a.event ∷ [])) none in
+    (ap (λ (v : State Judging). v.entries) ends ∙ ap (λ (es : List Entry). es ++ entry.End a.event ∷ []) parts.entries ∙ append_assoc a.sweep.entries parts.rest (entry.End a.event ∷ [])) none in
     record {
       when = tried_when keeps d o tried q tries;
       rest = saved_entries tried ++ adds.more;

@@ -1,4 +1,4 @@
--- What the account of a sweep says of its verdicts and of its writes, where rules judge: one walk.
+-- What the account of a sweep, or of a settling of names, says of its verdicts and of its writes, where rules judge: one walk.
 use Rattle.std.proofs.Common.{◌≡◌, ℕ, ◌+◌, ◌<◌, Bool, is_none, List, [], ◌∷◌, ◌++◌, Option, Some, inl, inr, refl, sym, ◌∙◌, ap, subst, append_assoc, append-nil}
 use Rattle.ug_types.specs.Elements.{Has, AllDistinct}
 use Rattle.ug_types.specs.Names.{parent_of}
@@ -18,7 +18,7 @@ use Rattle.ug_audit.specs.declared.entry.Entry.{Entry}
 use Rattle.ug_audit.specs.declared.entry.Entry.TheVariants as entry
 use Rattle.ug_table.specs.Allowed.{allowed_records}
 use Rattle.ug_table.specs.Bring.{CallsFor}
-use Rattle.ug_table.specs.Laws.{IsDevice, IsProbed, Stand, AreLeft, AreMarkedIn, swept_before, MayHave, MayHaveNot, TellsNeither, HasVerdict, wrote_entries, numbers_of, Account, Start, Note, Judge, Had, Had_not, Went}
+use Rattle.ug_table.specs.Laws.{IsDevice, IsProbed, Stand, AreLeft, AreMarkedIn, Tries, MayHave, MayHaveNot, TellsNeither, HasVerdict, wrote_entries, numbers_of, Account, Start, Note, Judge, Had, Had_not, Went}
 use Rattle.ug_table.specs.Parts.{writes_in}
 use Rattle.ug_table.specs.State.{Terms}
 use Rattle.ug_table.specs.declared.standing.Standing.{Standing}
@@ -48,8 +48,8 @@ pub decisions_then : (p : Judging) (rs qs : List Ruling) → decisions_by p (rs 
 decisions_then p [] qs = refl
 decisions_then p (r ∷ rs) qs = ap (λ (l : List Decision). decision_by p r ∷ l) (decisions_then (after_ruling p r) rs qs)
 
--- the ruling stands at its place among entries since a sweep began
-pub record IsAt (present : Bool) (moment : Moment) (start k : Kernel) (before : List Standing) (es : List Entry) (r : Ruling) : Type 0 where
+-- the ruling stands at its place among entries since the account began
+pub record IsAt (tried : Tries) (present : Bool) (moment : Moment) (start k : Kernel) (before : List Standing) (es : List Entry) (r : Ruling) : Type 0 where
   pub front : List Entry
   pub back : List Entry
   pub verdict : Target
@@ -61,7 +61,7 @@ pub record IsAt (present : Bool) (moment : Moment) (start k : Kernel) (before : 
   pub probed : IsProbed start k r.name r.held.0 r.device r.on
   pub stand : Stand k r.standings r.number
   pub left : AreLeft before front r.standings
-  pub marked : AreMarkedIn swept_before r.name before front r.standings
+  pub marked : AreMarkedIn tried r.name before front r.standings
 
 -- behind these entries the verdict in force calls for the effect, or the setting of the defaults does; it is on the decision's device
 pub record WasWritten (hub : Option Write) (before : List Standing) (front : List Entry) (k : Kernel) (decision : Decision) (effect : Effect) : Type 0 where
@@ -77,18 +77,18 @@ pub data Written (hub : Option Write) (before : List Standing) (k : Kernel) : Li
   Effected : (es : List Entry) (log : List Effect) (decision : Decision) (outcome : Wrote) (effect : Effect) → WasWritten hub before es k decision effect → MayHave outcome → Written hub before k es log → Written hub before k (es ++ wrote_entries decision.number decision.name effect.write outcome) (log ++ effect ∷ [])
   Uneffected : (es : List Entry) (log : List Effect) (number : ℕ) (name : List ℕ) (what : Write) (outcome : Wrote) → MayHaveNot outcome → Written hub before k es log → Written hub before k (es ++ wrote_entries number name what outcome) log
 
-pub record Walked (terms : Terms) (moment : Moment) (start k : Kernel) (before : List Standing) (log0 : List Effect) (policy : Judging) (next0 : ℕ) (es : List Entry) (log : List Effect) (judge : Judging) (next : ℕ) : Type 0 where
+pub record Walked (tried : Tries) (terms : Terms) (moment : Moment) (start k : Kernel) (before : List Standing) (log0 : List Effect) (policy : Judging) (next0 : ℕ) (es : List Entry) (log : List Effect) (judge : Judging) (next : ℕ) : Type 0 where
   pub rulings : List Ruling
   pub told : decisions_in es ≡ decisions_by policy rulings
   pub judge_is : judge ≡ at_moment moment (after_rulings policy rulings)
-  pub placed : (r : Ruling) → Has rulings r → IsAt terms.present moment start k before es r
+  pub placed : (r : Ruling) → Has rulings r → IsAt tried terms.present moment start k before es r
   pub numbers : Follow next0 (told_numbers es) next
   pub added : List Effect
   pub log_is : log ≡ log0 ++ added
   pub written : Written terms.hub before k es added
 
-at_more : (present : Bool) (moment : Moment) (start k : Kernel) (before : List Standing) (es ws : List Entry) (r : Ruling) → IsAt present moment start k before es r → IsAt present moment start k before (es ++ ws) r
-at_more present moment start k before es ws r h = record {
+at_more : (tried : Tries) (present : Bool) (moment : Moment) (start k : Kernel) (before : List Standing) (es ws : List Entry) (r : Ruling) → IsAt tried present moment start k before es r → IsAt tried present moment start k before (es ++ ws) r
+at_more tried present moment start k before es ws r h = record {
   front = h.front;
   back = h.back ++ ws;
   verdict = h.verdict;
@@ -112,12 +112,12 @@ neither_writes (entry.Gone number name) h = absurd h
 neither_writes e h = refl
 
 -- entries that tell no verdict
-more : (terms : Terms) (moment : Moment) (start k : Kernel) (before : List Standing) (log0 : List Effect) (policy : Judging) (next0 : ℕ) (es ws : List Entry) (log : List Effect) (judge : Judging) (next : ℕ) → decisions_in ws ≡ [] → ((added : List Effect) → Written terms.hub before k es added → Written terms.hub before k (es ++ ws) added) → Walked terms moment start k before log0 policy next0 es log judge next → Walked terms moment start k before log0 policy next0 (es ++ ws) log judge next
-more terms moment start k before log0 policy next0 es ws log judge next none writes h = record {
+more : (tried : Tries) (terms : Terms) (moment : Moment) (start k : Kernel) (before : List Standing) (log0 : List Effect) (policy : Judging) (next0 : ℕ) (es ws : List Entry) (log : List Effect) (judge : Judging) (next : ℕ) → decisions_in ws ≡ [] → ((added : List Effect) → Written terms.hub before k es added → Written terms.hub before k (es ++ ws) added) → Walked tried terms moment start k before log0 policy next0 es log judge next → Walked tried terms moment start k before log0 policy next0 (es ++ ws) log judge next
+more tried terms moment start k before log0 policy next0 es ws log judge next none writes h = record {
   rulings = h.rulings;
   told = decisions_more es ws none ∙ h.told;
   judge_is = h.judge_is;
-  placed = λ r a. at_more terms.present moment start k before es ws r (h.placed r a);
+  placed = λ r a. at_more tried terms.present moment start k before es ws r (h.placed r a);
   numbers = subst (λ (ds : List Decision). Follow next0 (numbers_on ds) next) (sym (decisions_more es ws none)) h.numbers;
   added = h.added;
   log_is = h.log_is;
@@ -130,10 +130,10 @@ at_again moment p records (judged.Malformed kind place) controller was = refl
 at_again moment p records (judged.Good dev) controller was = refl
 
 -- a verdict
-judged_more : (terms : Terms) (moment : Moment) (start k : Kernel) (before : List Standing) (log0 : List Effect) (policy : Judging) (next0 : ℕ) (es : List Entry) (log : List Effect) (judge : Judging) (next i : ℕ) (name : List ℕ) (held : Held) (dev : Judged) (on : Bool) (ss : List Standing) → IsDevice k i name held dev → IsProbed start k name held.0 i on → Stand k ss next → AreLeft before es ss → AreMarkedIn swept_before name before es ss
-    → Walked terms moment start k before log0 policy next0 es log judge next
-    → Walked terms moment start k before log0 policy next0 (es ++ entry.Judged next name held (policy_answer judge dev (is_none (parent_of name)) terms.present on ss).0 (policy_answer judge dev (is_none (parent_of name)) terms.present on ss).1 ∷ []) log (policy_later judge dev (is_none (parent_of name)) terms.present on ss) (next + 1)
-judged_more terms moment start k before log0 policy next0 es log judge next i name held dev on ss d b stand left so h =
+judged_more : (tried : Tries) (terms : Terms) (moment : Moment) (start k : Kernel) (before : List Standing) (log0 : List Effect) (policy : Judging) (next0 : ℕ) (es : List Entry) (log : List Effect) (judge : Judging) (next i : ℕ) (name : List ℕ) (held : Held) (dev : Judged) (on : Bool) (ss : List Standing) → IsDevice k i name held dev → IsProbed start k name held.0 i on → Stand k ss next → AreLeft before es ss → AreMarkedIn tried name before es ss
+    → Walked tried terms moment start k before log0 policy next0 es log judge next
+    → Walked tried terms moment start k before log0 policy next0 (es ++ entry.Judged next name held (policy_answer judge dev (is_none (parent_of name)) terms.present on ss).0 (policy_answer judge dev (is_none (parent_of name)) terms.present on ss).1 ∷ []) log (policy_later judge dev (is_none (parent_of name)) terms.present on ss) (next + 1)
+judged_more tried terms moment start k before log0 policy next0 es log judge next i name held dev on ss d b stand left so h =
     let r : Ruling = record { number = next; name = name; held = held; device = i; judged = dev; present = terms.present; on = on; moment = moment; standings = ss } in
     let p : Judging = after_rulings policy h.rulings in
     let a : Target × Cause = policy_answer judge dev (is_none (parent_of name)) terms.present on ss in
@@ -147,8 +147,8 @@ judged_more terms moment start k before log0 policy next0 es log judge next i na
       told = whole ∙ ap (λ (l : List Decision). l ++ this ∷ []) h.told ∙ ap (λ (y : Decision). decisions_by policy h.rulings ++ y ∷ []) that ∙ sym (decisions_then policy h.rulings (r ∷ []));
       judge_is = ap (λ (j : Judging). policy_later j dev (is_none (parent_of name)) terms.present on ss) h.judge_is ∙ at_again moment p (allowed_records ss) dev (is_none (parent_of name)) terms.present ∙ ap (λ (j : Judging). at_moment moment j) (sym (after_append policy h.rulings (r ∷ [])));
       placed = λ q y. elim (last_is h.rulings r q y) [
-        | inl z ↦ at_more terms.present moment start k before es (x ∷ []) q (h.placed q z)
-        | inr is ↦ subst (λ (q : Ruling). IsAt terms.present moment start k before (es ++ x ∷ []) q) is (record { front = es; back = []; verdict = a.0; cause = a.1; at = refl; moment_is = refl; present_is = refl; device = d; probed = b; stand = stand; left = left; marked = so })
+        | inl z ↦ at_more tried terms.present moment start k before es (x ∷ []) q (h.placed q z)
+        | inr is ↦ subst (λ (q : Ruling). IsAt tried terms.present moment start k before (es ++ x ∷ []) q) is (record { front = es; back = []; verdict = a.0; cause = a.1; at = refl; moment_is = refl; present_is = refl; device = d; probed = b; stand = stand; left = left; marked = so })
       ];
       numbers = subst (λ (ds : List Decision). Follow next0 (numbers_on ds) (next + 1)) (sym whole) (subst (λ (l : List ℕ). Follow next0 l (next + 1)) (sym (numbers_append (decisions_in es) (this ∷ []))) (follow_append next0 (told_numbers es) (next ∷ []) next (next + 1) h.numbers (refl, refl)));
       added = h.added;
@@ -169,14 +169,14 @@ forced before es next0 next number name held verdict low distinct follow (inr t)
     let f = fresh (decisions_in es) next0 next follow in
     (t.0, ap (λ (o : Option Decision). or_else o (standing_decision before number)) (f.told (record { number = number; name = name; held = held; verdict = verdict; cause = t.0 }) (has_decision es number name held verdict t.0 t.1)).1)
 
-pub walk : (terms : Terms) (moment : Moment) (start k : Kernel) (before : List Standing) (log0 : List Effect) (policy : Judging) (next0 : ℕ) → ((s : Standing) → Has before s → s.number < next0) → AllDistinct (numbers_of before) → (es : List Entry) (log : List Effect) (judge : Judging) (next : ℕ) → Account policy_answer policy_later terms swept_before start k before log0 (at_moment moment policy) next0 es log judge next → Walked terms moment start k before log0 policy next0 es log judge next
-walk terms moment start k before log0 policy next0 low distinct es log judge next Start = record { rulings = []; told = refl; judge_is = refl; placed = λ r h. absurd h; numbers = refl; added = []; log_is = sym (append-nil log0); written = None_written }
-walk terms moment start k before log0 policy next0 low distinct es log judge next (Note fs m j n e t a) = more terms moment start k before log0 policy next0 fs (e ∷ []) m j n (ap (λ (l : List Decision). l ++ []) (neither_none e t)) (λ added w. Others fs (e ∷ []) added (neither_writes e t) w) (walk terms moment start k before log0 policy next0 low distinct fs m j n a)
-walk terms moment start k before log0 policy next0 low distinct es log judge next (Judge fs m j n i name held dev on ss d b stand left so a) = judged_more terms moment start k before log0 policy next0 fs m j n i name held dev on ss d b stand left so (walk terms moment start k before log0 policy next0 low distinct fs m j n a)
-walk terms moment start k before log0 policy next0 low distinct es log judge next (Had_not fs m j n i number name held dev verdict what outcome d v due once may a) = more terms moment start k before log0 policy next0 fs (wrote_entries number name what outcome) m j n refl (λ added w. Uneffected fs added number name what outcome may w) (walk terms moment start k before log0 policy next0 low distinct fs m j n a)
-walk terms moment start k before log0 policy next0 low distinct es log judge next (Went fs m j n i number name held dev verdict d o v a) = more terms moment start k before log0 policy next0 fs (entry.Gone number name ∷ []) m j n refl (λ added w. Others fs (entry.Gone number name ∷ []) added refl w) (walk terms moment start k before log0 policy next0 low distinct fs m j n a)
-walk terms moment start k before log0 policy next0 low distinct es log judge next (Had fs m j n i number name held dev verdict what outcome d v due once may a) =
-    let old = walk terms moment start k before log0 policy next0 low distinct fs m j n a in
+pub walk : (tried : Tries) (terms : Terms) (moment : Moment) (start k : Kernel) (before : List Standing) (log0 : List Effect) (policy : Judging) (next0 : ℕ) → ((s : Standing) → Has before s → s.number < next0) → AllDistinct (numbers_of before) → (es : List Entry) (log : List Effect) (judge : Judging) (next : ℕ) → Account policy_answer policy_later terms tried start k before log0 (at_moment moment policy) next0 es log judge next → Walked tried terms moment start k before log0 policy next0 es log judge next
+walk tried terms moment start k before log0 policy next0 low distinct es log judge next Start = record { rulings = []; told = refl; judge_is = refl; placed = λ r h. absurd h; numbers = refl; added = []; log_is = sym (append-nil log0); written = None_written }
+walk tried terms moment start k before log0 policy next0 low distinct es log judge next (Note fs m j n e t a) = more tried terms moment start k before log0 policy next0 fs (e ∷ []) m j n (ap (λ (l : List Decision). l ++ []) (neither_none e t)) (λ added w. Others fs (e ∷ []) added (neither_writes e t) w) (walk tried terms moment start k before log0 policy next0 low distinct fs m j n a)
+walk tried terms moment start k before log0 policy next0 low distinct es log judge next (Judge fs m j n i name held dev on ss d b stand left so a) = judged_more tried terms moment start k before log0 policy next0 fs m j n i name held dev on ss d b stand left so (walk tried terms moment start k before log0 policy next0 low distinct fs m j n a)
+walk tried terms moment start k before log0 policy next0 low distinct es log judge next (Had_not fs m j n i number name held dev verdict what outcome d v due once may a) = more tried terms moment start k before log0 policy next0 fs (wrote_entries number name what outcome) m j n refl (λ added w. Uneffected fs added number name what outcome may w) (walk tried terms moment start k before log0 policy next0 low distinct fs m j n a)
+walk tried terms moment start k before log0 policy next0 low distinct es log judge next (Went fs m j n i number name held dev verdict d o v a) = more tried terms moment start k before log0 policy next0 fs (entry.Gone number name ∷ []) m j n refl (λ added w. Others fs (entry.Gone number name ∷ []) added refl w) (walk tried terms moment start k before log0 policy next0 low distinct fs m j n a)
+walk tried terms moment start k before log0 policy next0 low distinct es log judge next (Had fs m j n i number name held dev verdict what outcome d v due once may a) =
+    let old = walk tried terms moment start k before log0 policy next0 low distinct fs m j n a in
     let two : List Entry = wrote_entries number name what outcome in
     let new : Effect = record { device = i; write = what } in
     let given = forced before fs next0 n number name held verdict low distinct old.numbers v in
@@ -186,7 +186,7 @@ walk terms moment start k before log0 policy next0 low distinct es log judge nex
       rulings = old.rulings;
       told = decisions_more fs two refl ∙ old.told;
       judge_is = old.judge_is;
-      placed = λ r y. at_more terms.present moment start k before fs two r (old.placed r y);
+      placed = λ r y. at_more tried terms.present moment start k before fs two r (old.placed r y);
       numbers = subst (λ (ds : List Decision). Follow next0 (numbers_on ds) n) (sym (decisions_more fs two refl)) old.numbers;
       added = old.added ++ new ∷ [];
       log_is = ap (λ (l : List Effect). l ++ new ∷ []) old.log_is ∙ append_assoc log0 old.added (new ∷ []);

@@ -24,7 +24,7 @@ use Rattle.ug_core.specs.declared.changes.Change.{Change}
 use Rattle.ug_core.specs.declared.changes.Change.TheVariants.{Rules, Set}
 use Rattle.ug_core.specs.declared.choosing.Choice.{Choice}
 use Rattle.ug_core.specs.declared.daemon.Event.{Event}
-use Rattle.ug_core.specs.declared.daemon.Event.TheVariants.{Sweep, Order}
+use Rattle.ug_core.specs.declared.daemon.Event.TheVariants.{Sweep, Order, Hint}
 use Rattle.ug_core.specs.declared.storing.Stored.{Stored}
 use Rattle.ug_core.specs.declared.storing.Stored.TheVariants as stored
 use Rattle.ug_core.proofs.Asked.{Asked, Chosen, Chosen_first, Found, FoundSo, Not_found, Refused_first, Refused_so, Set_so, Told_change, Told_lines, Told_watch, asked_of}
@@ -77,6 +77,7 @@ writes_anytime became (Some (Set set)) p c h = λ e. tt
 
 pub ready_writes : (event : Event) (tried : Option Saved) (d : DaemonState) (became : Stored) → WritesEvent event (ready event tried d) became → WritesEvent event d became
 ready_writes (Sweep moment) tried d became h = tt
+ready_writes (Hint moment piece) tried d became h = tt
 ready_writes (Order moment who line) tried d became h = by_read (request_read line) h
   where
     c : Context

@@ -1,6 +1,6 @@
 -- A run of the daemon from its start: a chain of events, each from the state that the one before
 -- left.
-use Rattle.std.specs.Prelude.{◌≡◌, ℕ, Bool, true, false, not, is_none, ◌||◌, List, [], ◌∷◌, ◌++◌, map, Option, Some, None, Ok, ◌⊎◌, slice_get}
+use Rattle.std.specs.Prelude.{◌≡◌, ℕ, Bool, true, false, not, is_none, ◌&&◌, ◌||◌, List, [], ◌∷◌, ◌++◌, map, Option, Some, None, Ok, ◌⊎◌, slice_get}
 use Rattle.std.specs.List.{list_any}
 use Rattle.ug_types.specs.Elements.{Has}
 use Rattle.ug_types.specs.Names.{parent_of}
@@ -30,7 +30,7 @@ use Rattle.ug_proto.specs.Requests.{request_read}
 use Rattle.ug_store.specs.Disk.{Disk, IsAsItWas}
 use Rattle.ug_table.specs.Allowed.{allowed_records}
 use Rattle.ug_table.specs.Bring.{CallsFor, default_write}
-use Rattle.ug_table.specs.Laws.{IsDevice, IsProbed, Stand, AreDefaulted, AreLeft, AreMarkedIn, swept_before, MayHave, MayHaveNot, wrote_entries, IsJudged, IsAsJudged}
+use Rattle.ug_table.specs.Laws.{IsDevice, IsProbed, Stand, AreDefaulted, AreLeft, AreMarkedIn, MayHave, MayHaveNot, wrote_entries, IsJudged, IsAsJudged}
 use Rattle.ug_table.specs.Parts.{writes_in}
 use Rattle.ug_table.specs.Standings.{numbered}
 use Rattle.ug_table.specs.declared.standing.Standing.{Standing}
@@ -41,14 +41,14 @@ use Rattle.ug_core.specs.Event.{DaemonState, IsStarted, moment_of, ready}
 use Rattle.ug_core.specs.Pending.{TriesSave}
 use Rattle.ug_core.specs.Privileges.{is_granted}
 use Rattle.ug_core.specs.InForce.{Decision, decision_of, decisions_in, is_ordered, unordered, in_force, AgreeInForce, given_numbers, Follow}
-use Rattle.ug_core.specs.Laws.{AnswersEvent, Handled}
+use Rattle.ug_core.specs.Laws.{AnswersEvent, Handled, tried_in}
 use Rattle.ug_core.specs.Changes.{change_asked}
 use Rattle.ug_core.specs.Values.{on_by}
 use Rattle.ug_core.specs.Rulings.{CanTake, Changed, Decided, PolicyStep, Ruled, Ruling, Told, Was_changed, after_steps, at_moment, told_by}
 use Rattle.ug_core.specs.declared.changes.Change.{Change}
 use Rattle.ug_core.specs.declared.storing.Stored.{Stored}
 use Rattle.ug_core.specs.declared.daemon.Event.{Event}
-use Rattle.ug_core.specs.declared.daemon.Event.TheVariants.{Sweep, Order}
+use Rattle.ug_core.specs.declared.daemon.Event.TheVariants.{Sweep, Order, Hint}
 
 -- an event that was handled, with what was there before it, behind its order and after it, and what
 -- became of a pending save and of that of its order. The disk is there where it was told.
@@ -99,6 +99,7 @@ journal (h ∷ hs) = h.after.sweep.entries ++ journal hs
 
 abbrev pub changes_asked : DaemonState → Event → Option Change
 changes_asked d (Sweep moment) = None
+changes_asked d (Hint moment piece) = None
 changes_asked d (Order moment who line) =
     change_asked d.sweep.standings d.sweep.judge (request_read line)
 
@@ -130,10 +131,14 @@ abbrev pub tells_unlisted : Entry → Bool
 tells_unlisted (entry.UnsettledAll why) = true
 tells_unlisted e = false
 
+-- whether the event's listing succeeded; one with names that are due has none
+abbrev pub lists_all : Happened → Bool
+lists_all h = is_none h.answered.due && not (list_any tells_unlisted h.after.sweep.entries)
+
 -- whether the listing of one of the events succeeded
 abbrev pub has_listed : List Happened → Bool
 has_listed [] = false
-has_listed (h ∷ hs) = not (list_any tells_unlisted h.after.sweep.entries) || has_listed hs
+has_listed (h ∷ hs) = lists_all h || has_listed hs
 
 -- where the device was there before an order, its value is the one that it had then, but for what
 -- the order's writes made of it
@@ -146,7 +151,7 @@ IsAsMet k l i on = (d : Device) → slice_get k.devices i ≡ Some d
 -- succeeded. The record is that of the very device of the held file. The value is the one that this
 -- device had when the sweep began, if it was there then; and that it had when the event began, but
 -- for what the writes of its order made of it. The standings are those that are left there of the
--- ones that the sweep began with, and each is marked as settled as is told there.
+-- ones that the last stage began with, and each is marked as settled as is told there.
 pub record IsPlaced (hs : List Happened) (k : Kernel) (r : Ruling) : Type 0 where
   pub earlier : List Happened
   pub event : Happened
@@ -166,7 +171,8 @@ pub record IsPlaced (hs : List Happened) (k : Kernel) (r : Ruling) : Type 0 wher
   pub met : IsAsMet event.kernel event.kernel_answered r.device r.on
   pub stand : Stand event.kernel_after r.standings r.number
   pub left : AreLeft event.answered.sweep.standings front r.standings
-  pub marked : AreMarkedIn swept_before r.name event.answered.sweep.standings front r.standings
+  pub marked : AreMarkedIn (tried_in event.answered.due) r.name event.answered.sweep.standings front
+      r.standings
 
 -- The decision is that of a ruling on that device at its place in the run: it was given by the
 -- policy as all rulings and changes before it left it, with the words that they didn't take, and

@@ -21,7 +21,7 @@ use Rattle.ug_core.specs.declared.changes.Change.{Change}
 use Rattle.ug_core.specs.declared.storing.Stored.{Stored}
 use Rattle.ug_core.specs.declared.storing.Stored.TheVariants as stored
 use Rattle.ug_core.specs.declared.daemon.Event.{Event}
-use Rattle.ug_core.specs.declared.daemon.Event.TheVariants.{Sweep, Order}
+use Rattle.ug_core.specs.declared.daemon.Event.TheVariants.{Sweep, Order, Hint}
 use Rattle.ug_ruleset.specs.RuleFile.{permanent_rules, permanent_text}
 
 -- each text that a crash may leave is the text of the permanent rules, or one that isn't sure
@@ -59,6 +59,7 @@ change_ordered who d (Err place) = None
 
 abbrev pub change_in : Event → DaemonState → Option Change
 change_in (Sweep moment) d = None
+change_in (Hint moment piece) d = None
 change_in (Order moment who line) d = change_ordered who d (request_read line)
 
 abbrev pub as_list : Option (List ℕ) → List (List ℕ)
@@ -74,6 +75,7 @@ text_of_request who d read = text_of_change (change_ordered who d read) d.sweep.
 
 abbrev pub texts_of : Event → DaemonState → List (List ℕ)
 texts_of (Sweep moment) d = []
+texts_of (Hint moment piece) d = []
 texts_of (Order moment who line) d = text_of_request who d (request_read line)
 
 abbrev pub rules_of_change : Option Change → Judging → List (List Rule)

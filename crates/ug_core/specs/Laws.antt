@@ -1,5 +1,5 @@
 -- What an event does, in the words of devices, files and journal.
-use Rattle.std.specs.Prelude.{◌≡◌, ℕ, ◌+◌, ◌≤◌, length, Bool, true, false, List, [], ◌∷◌, ◌++◌, Option, Some, None, IsSome, Ok, Err, ◌⊎◌}
+use Rattle.std.specs.Prelude.{◌≡◌, ℕ, ◌+◌, ◌≤◌, ◌<◌, ◌^◌, length, Bool, true, false, List, [], ◌∷◌, ◌++◌, Option, Some, None, IsSome, Ok, Err, ◌⊎◌}
 use Rattle.ug_types.specs.Elements.{Has, AllDistinct}
 use Rattle.ug_types.specs.Principals.{Named}
 use Rattle.ug_parameter.specs.Parameters.{parameter_of, parameter_with, value_word}
@@ -38,11 +38,12 @@ use Rattle.ug_rule.specs.declared.fault.Fault.{Fault}
 use Rattle.ug_store.specs.DiskCalls.{DiskCall, DiskTold}
 use Rattle.ug_store.specs.Store.{RunsDisk, TellsSaveFault}
 use Rattle.ug_store.specs.declared.disk.RuleDisk
-use Rattle.ug_table.specs.State.{State, Kept, with_kept}
-use Rattle.ug_table.specs.Laws.{Stand, Swept}
+use Rattle.ug_table.specs.State.{State, Kept, terms_for, with_kept}
+use Rattle.ug_table.specs.Several.{GoesInNames, SettledNames, before_among}
+use Rattle.ug_table.specs.Laws.{Stand, Swept, Tries, swept_before}
 use Rattle.ug_table.specs.Marks.{LeavesMarks, has_number}
 use Rattle.ug_table.specs.Orders.{with_verdict, verdict_entry, ProbedOne, GoesAsOrder, OrderedOne}
-use Rattle.ug_table.specs.Parts.{AllBear, failures_told, told_in_reply, unsettled_names, numbers_given, GoesInParts, TellsFaults}
+use Rattle.ug_table.specs.Parts.{AllBear, failures_told, told_in_reply, unsettled_names, numbers_given, GoesInParts}
 use Rattle.ug_table.specs.Standings.{numbered}
 use Rattle.ug_table.specs.declared.standing.Settled.{Settled}
 use Rattle.ug_table.specs.declared.standing.Standing.{Standing}
@@ -58,6 +59,7 @@ use Rattle.ug_ruleset.specs.RuleRows.{rule_rows}
 use Rattle.ug_core.specs.Policy.{Judging, policy_answer, policy_later}
 use Rattle.ug_core.specs.Privileges.{denied_of, is_granted}
 use Rattle.ug_core.specs.Event.{DaemonState, ready, trying, handling}
+use Rattle.ug_core.specs.Hinting.{MeetsPiece}
 use Rattle.ug_core.specs.Durable.{KeepsFile, WritesEvent}
 use Rattle.ug_core.specs.Pending.{TriesSave}
 use Rattle.ug_core.specs.Values.{LogsValues}
@@ -67,19 +69,34 @@ use Rattle.ug_core.specs.declared.choosing.Choice.{Choice}
 use Rattle.ug_core.specs.declared.storing.Stored.{Stored}
 use Rattle.ug_core.specs.declared.storing.Stored.TheVariants as stored
 use Rattle.ug_core.specs.declared.daemon.Event.{Event}
-use Rattle.ug_core.specs.declared.daemon.Event.TheVariants.{Sweep, Order}
+use Rattle.ug_core.specs.declared.daemon.Event.TheVariants.{Sweep, Order, Hint}
 
--- ---- the sweep of an event, from the state that the stage before it left
+-- ---- the last stage of an event, from the state that the stage before it left
 
--- over kernels from k to l: a sweep that is fair and leaves each device settled or named, and the
--- last entry
+-- over kernels from k to l: a sweep that is fair and leaves each device settled or named; or, where
+-- names are due, their settling, which is as fair, leaves the devices of these names so, and lists
+-- nothing
+abbrev pub SettlesDue : Option (List (List ℕ)) → Kernel → State Judging → Kernel → State Judging
+    → Type 0
+SettlesDue None k w l v = Swept policy_answer policy_later k w l v
+SettlesDue (Some names) k w l v =
+    SettledNames policy_answer policy_later (terms_for w) names k w l v × (v.listed ≡ w.listed)
+
+-- the parts that have come to their end where another begins
+abbrev pub tried_in : Option (List (List ℕ)) → Tries
+tried_in None = swept_before
+tried_in (Some names) = before_among names
+
+-- so it is, and the last entry is noted
 pub record Handled (k : Kernel) (d : DaemonState) (l : Kernel) (e : DaemonState) : Type 0 where
   pub swept : State Judging
-  pub law : Swept policy_answer policy_later k d.sweep l swept
+  pub law : SettlesDue d.due k d.sweep l swept
   pub entries : e.sweep ≡ record swept { entries = swept.entries ++ entry.End d.event ∷ [] }
   pub hub : e.sweep.hub ≡ d.sweep.hub
   pub access : e.access ≡ d.access
   pub pending : e.pending ≡ d.pending
+  pub stream : e.stream ≡ d.stream
+  pub due : e.due ≡ None
   pub event : e.event ≡ d.event + 1
   pub reply : e.reply ≡ d.reply
   pub watch : e.watch ≡ d.watch
@@ -92,13 +109,39 @@ Handles told s d t e =
     → (k : Kernel) × (told s ≡ Some k)
     × (IsKernel k → Stand k d.sweep.standings d.sweep.next → Handled k d l e)
 
--- The calls of the sweep are in parts. Each that failed, but for the probes of parents' held files,
--- is told with its number and the count of faults after it, and no other is; and calls are numbered
--- on.
+-- the calls and entries are those of a listing and of the parts behind it, or of the parts of the
+-- names that are due; and of these calls it is told whether they failed
+abbrev pub PartsOfDue : {S : Type 0} → (S → (call : Call) → Answer call → S → Type 0) → (S → ℕ)
+    → (S → ℕ) → Option (List (List ℕ)) → S → State Judging → S → State Judging → List Made
+    → List Made → List Entry → Type 0
+PartsOfDue gives calls faults None s w t v made telling rest =
+    (goes : GoesInParts gives s w t v) × (made ≡ made_with Names goes.listed ∷ goes.later)
+    × (telling ≡ made_with Names goes.listed ∷ (goes.shut ++ goes.ending))
+    × (rest ≡ goes.head ++ goes.rest)
+PartsOfDue gives calls faults (Some names) s w t v made telling rest =
+    (goes : GoesInNames gives calls faults (terms_for w) names s w t v) × (made ≡ goes.made)
+    × (telling ≡ goes.ending) × (rest ≡ goes.rest)
+
+-- what the last stage calls and notes
+pub record GoesAsDue {S : Type 0} (gives : S → (call : Call) → Answer call → S → Type 0)
+    (calls faults : S → ℕ) (due : Option (List (List ℕ))) (s : S) (w : State Judging) (t : S)
+    (v : State Judging) : Type 0 where
+  pub made : List Made
+  pub along : Along gives s made t
+  pub telling : List Made
+  pub rest : List Entry
+  pub entries : v.entries ≡ w.entries ++ rest
+  pub parts : PartsOfDue gives calls faults due s w t v made telling rest
+
+-- The calls are in parts. Each that failed, but for the probes of parents' held files, is told with
+-- its number and the count of faults after it, and no other is; and calls are numbered on.
 pub record TellsSweep {S : Type 0} (gives : S → (call : Call) → Answer call → S → Type 0)
     (calls faults : S → ℕ) (s : S) (d : DaemonState) (t : S) (e : DaemonState) : Type 0 where
   pub swept : State Judging
-  pub tells : TellsFaults gives calls faults s d.sweep t swept
+  pub goes : GoesAsDue gives calls faults d.due s d.sweep t swept
+  pub exact : failures_told goes.rest ≡ failures goes.telling
+  pub numbered : AreNumbered (calls s) goes.made
+  pub rises : calls s < 2 ^ 64 → Rises (calls s) (faults s) (failures_told goes.rest)
   pub entries : e.sweep ≡ record swept { entries = swept.entries ++ entry.End d.event ∷ [] }
 
 -- where a kernel is told after the event, one was told before it; and where that is sound and the
@@ -348,6 +391,8 @@ pub record AnswersAtOnce (who : Named) (line : List ℕ) (d : DaemonState) (beca
 -- over kernels from k to l, where that became of the save of what the order changes
 abbrev pub AnswersEvent : Event → Kernel → DaemonState → Stored → Kernel → DaemonState → Type 0
 AnswersEvent (Sweep moment) k d became l e = (l ≡ k) × (became ≡ stored.NotNeeded) × (e ≡ d)
+AnswersEvent (Hint moment piece) k d became l e =
+    (l ≡ k) × (became ≡ stored.NotNeeded) × MeetsPiece piece d e
 AnswersEvent (Order moment who line) k d became l e =
     RefusesOrder who line k d became l e
     ⊎ (((l ≡ k) × AnswersAtOnce who line d became e) ⊎ CarriesOut who line k d became l e)
@@ -402,6 +447,8 @@ pub record GoesAsVerdict {S : Type 0} (gives : S → (call : Call) → Answer ca
 abbrev pub GoesAsAnswer : {S : Type 0} → (S → (call : Call) → Answer call → S → Type 0) → (S → ℕ)
     → (S → ℕ) → Event → S → DaemonState → Stored → List Made → S → DaemonState → Type 0
 GoesAsAnswer gives calls faults (Sweep moment) s d became made t e = (made ≡ []) × (e ≡ d)
+GoesAsAnswer gives calls faults (Hint moment piece) s d became made t e =
+    (made ≡ []) × MeetsPiece piece d e
 GoesAsAnswer gives calls faults (Order moment who line) s d became made t e =
     GoesAsRefusal d became made e
     ⊎ (((made ≡ []) × AnswersAtOnce who line d became e)
@@ -420,22 +467,23 @@ pub record RunsOrder {S T : Type 0} (gives : S → (call : Call) → Answer call
     pub acts : Runs gives behind
         (acting who (stored_with became choice.change d) (deed_after became choice.deed)) a t
 
--- a sweep alone has none
+-- a sweep alone has none, and a piece of uevents is read without a call
 abbrev pub RunsAnswer : {S T : Type 0} → (S → (call : Call) → Answer call → S → Type 0)
     → (T → (call : DiskCall) → DiskTold call → T → Type 0) → Event → S → T → DaemonState → Stored
     → S → T → DaemonState → Type 0
 RunsAnswer gives keeps (Sweep moment) s o d became t p a =
     (t ≡ s) × (p ≡ o) × (became ≡ stored.NotNeeded) × (a ≡ d)
+RunsAnswer gives keeps (Hint moment piece) s o d became t p a =
+    (t ≡ s) × (p ≡ o) × (became ≡ stored.NotNeeded) × MeetsPiece piece d a
 RunsAnswer gives keeps (Order moment who line) s o d became t p a =
     RunsOrder gives keeps who line s o d became t p a
 
 -- ---- a whole event
 
--- The calls of an event, from where it begins, are those of its order and of a sweep in parts, and
--- are numbered from 1. Each that failed, but for the probes of
--- parents' held files, is told with its
--- number and the count of faults after it, and no other is; and both numbers rise from one to the
--- next.
+-- The calls of an event, from where it begins, are those of its order and of its last stage in
+-- parts, and are numbered from 1. Each that failed, but for the probes of parents' held files, is
+-- told with its number and the count of faults after it, and no other is; and both numbers rise
+-- from one to the next.
 pub record TellsEvent {S : Type 0} (gives : S → (call : Call) → Answer call → S → Type 0)
     (calls faults : S → ℕ) (event : Event) (s : S) (d : DaemonState) (became : Stored) (m : S)
     (a : DaemonState) (t : S) (e : DaemonState) : Type 0 where
@@ -443,11 +491,11 @@ pub record TellsEvent {S : Type 0} (gives : S → (call : Call) → Answer call 
   pub along : Along gives s order m
   pub answers : GoesAsAnswer gives calls faults event s d became order m a
   pub swept : State Judging
-  pub goes : GoesInParts gives m a.sweep t swept
+  pub goes : GoesAsDue gives calls faults a.due m a.sweep t swept
   pub entries : e.sweep ≡ record swept { entries = swept.entries ++ entry.End a.event ∷ [] }
   pub exact : failures_told e.sweep.entries
-      ≡ failures (order ++ made_with Names goes.listed ∷ (goes.shut ++ goes.ending))
-  pub numbered : AreNumbered 0 (order ++ made_with Names goes.listed ∷ goes.later)
+      ≡ failures (order ++ goes.telling)
+  pub numbered : AreNumbered 0 (order ++ goes.made)
   pub rises : Rises 0 (faults s) (failures_told e.sweep.entries)
 
 -- the count that a failed save tells is the disk's, and it rose
@@ -460,11 +508,11 @@ module _ {S T : Type 0} (sysfs : Sysfs.Ghosts S) (disk : RuleDisk.Ghosts T) wher
   open disk use {keeps, told as disk_told, faults as disk_faults}
 
   -- An event: on the disk a pending save, and what became of it; on the kernel, where the
-  -- numbering of calls begins anew, and on the disk the order from the state behind that; and on
-  -- the kernel the sweep from the state behind the order. What a crash may leave of the rule file
-  -- is kept, and what was written to it can be read again. A save is tried exactly where one was
-  -- pending, and the entries tell what became of it. Each device that the sweep judged was bound by
-  -- calls of the event.
+  -- numbering of calls begins anew, and on the disk the order, or the piece of uevents, from the
+  -- state behind that; and on the kernel the sweep, or the settling of the names that are due, from
+  -- the state behind this. What a crash may leave of the rule file is kept, and what was written to
+  -- it can be read again. A save is tried exactly where one was pending, and the entries tell what
+  -- became of it. Each device that was judged was bound by calls of the event.
   pub record HandlesEvent (event : Event) (s : S) (o : T) (d : DaemonState)
       (t : S) (p : T) (e : DaemonState) : Type 0 where
     pub tried : Option Saved

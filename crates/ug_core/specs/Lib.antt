@@ -6,6 +6,9 @@ pub mod Policy
 pub mod Privileges
 pub mod Verdicts
 pub mod Event
+pub mod Hinting
+pub mod Lent
+pub mod Due
 pub mod Pending
 pub mod Durable
 pub mod Values

@@ -1,16 +1,18 @@
 // The daemon's calls.
-ghost use Rattle.std.specs.Prelude.{◌≡◌, ◌≤◌, ◌<◌, ◌+◌, ◌*◌, ◌^◌, [], false, IfSome, IsTrue, None, Some, length};
-ghost use Rattle.ug_kernel.specs.Tree.{Runs};
+ghost use Rattle.std.specs.Prelude.{◌≡◌, ◌≤◌, ◌<◌, ◌+◌, ◌*◌, false, IfSome, IsTrue, None, Some, length};
 ghost use Rattle.ug_audit.specs.Journal.{live_in, members};
 ghost use Rattle.ug_audit.specs.Noting.{NotesEntries, tells_drop, without_drops};
 ghost use Rattle.ug_store.specs.Store.{RunsDisk, pending_after};
-ghost use Rattle.ug_table.specs.Parts.{unsettled_names};
 ghost use Rattle.ug_core.specs.Answering.{HasWholeLines};
-ghost use Rattle.ug_core.specs.Event.{begun, daemon_of, first_entry, handling, has_numbers, is_low, moment_of, noting, NotesAtMost, NotesMore, saving_rules, tried_with, trying};
-ghost use Rattle.ug_core.specs.Laws.{Handles, HandlesEvent, NamesOnceIn, PassesEvent, TellsSweep, TellsTried};
+ghost use Rattle.ug_core.specs.Event.{begun, daemon_of, has_numbers, is_low, noting, NotesAtMost, saving_rules, tried_with, trying};
+ghost use Rattle.ug_core.specs.Hinting.{FitsEvent, longest_piece};
+ghost use Rattle.ug_core.specs.Lent.{event_lent};
+ghost use Rattle.ug_core.specs.Laws.{HandlesEvent, PassesEvent, TellsTried};
+ghost use Rattle.ug_core.specs.declared.daemon.Event.TheVariants.{Hint};
 
 use crate::between::Between;
 use crate::daemon::{Daemon, Event};
+use crate::lent::LentEvent;
 use crate::report::Report;
 use rand_core::Rng;
 use std::alloc::Global;
@@ -22,41 +24,17 @@ use ug_types::Moment;
 
 const LOW: u64 = u64::MAX - 4194304;
 
+const MOST_STANDINGS: usize = 2097152;
+
 fn low(n: u64) -> bool
     ensures { result ≡ is_low n }
 {
     n <= LOW
 }
 
-fn moment_of(event: &Event) -> Moment
-    ensures { result ≡ moment_of event.now }
-{
-    match event {
-        Event::Sweep(moment) => *moment,
-        Event::Order(moment, _, _) => *moment,
-    }
-}
-
-fn first_entry(number: u64, event: &Event) -> Entry
-    ensures entry { result ≡ first_entry number event.now }
-    ensures kind { tells_drop result ≡ false }
-{
-    match event {
-        Event::Sweep(moment) => Entry::Event {
-            number,
-            moment: *moment,
-        },
-        Event::Order(moment, who, _) => Entry::Order {
-            number,
-            moment: *moment,
-            who: *who,
-        },
-    }
-}
-
 impl<'z, R: Rng> Daemon<'z, R> {
-    /// Whether the next device number, the counts of faults and the event's number leave room for an event, and an id is left for
-    /// one rule more.
+    /// Whether the next device number, the counts of faults, the event's number and the standings leave room for an event, and an id
+    /// is left for one rule more.
     pub fn has_numbers(&self, sysfs_faults: u64, disk_faults: u64) -> bool
         ensures { result ≡ has_numbers (daemon_of self.now) sysfs_faults disk_faults }
     {
@@ -64,6 +42,7 @@ impl<'z, R: Rng> Daemon<'z, R> {
             && low(self.next_event)
             && low(sysfs_faults)
             && low(disk_faults)
+            && self.table.count() <= MOST_STANDINGS
             && self.policy.has_id()
     }
 
@@ -98,10 +77,63 @@ impl<'z, R: Rng> Daemon<'z, R> {
         disk: &mut D,
         panel: &mut Panel,
     )
-        requires { IsTrue
+        requires numbers { IsTrue
             (has_numbers (daemon_of self.old) (Y.faults sysfs.old) (D.faults disk.old)) }
+        requires piece { FitsEvent event.now }
         ensures handles { HandlesEvent Y.Sysfs D.RuleDisk
             event.now sysfs.old disk.old (daemon_of self.old)
+            sysfs.new disk.new (daemon_of self.new) }
+        ensures whole { IfSome self.new.report.reply (λ r. HasWholeLines r) }
+        ensures number { self.new.report.event ≡ self.old.next_event }
+        ensures noted { NotesEntries self.new.report.entries.entries
+            (members (λ b. ⟦<dyn Auditor as Auditor>⟧ b.vtable) panel.old)
+            (members (λ b. ⟦<dyn Auditor as Auditor>⟧ b.vtable) panel.new) }
+        ensures alone { live_in panel.old ≡ 0
+            → without_drops self.new.report.entries.entries ≡ self.new.report.entries.entries }
+    {
+        self.handle_lent(alloc, &event.lend(), sysfs, disk, panel);
+    }
+
+    /// The same for an event with a piece of recorded uevents, which is lent.
+    pub fn handle_hint<Y: Sysfs, D: RuleDisk>(
+        &mut self,
+        alloc: Global,
+        moment: Moment,
+        piece: &[u8],
+        sysfs: &mut Y,
+        disk: &mut D,
+        panel: &mut Panel,
+    )
+        requires numbers { IsTrue
+            (has_numbers (daemon_of self.old) (Y.faults sysfs.old) (D.faults disk.old)) }
+        requires piece { length piece.now ≤ longest_piece }
+        ensures handles { HandlesEvent Y.Sysfs D.RuleDisk
+            (Hint moment piece.now) sysfs.old disk.old (daemon_of self.old)
+            sysfs.new disk.new (daemon_of self.new) }
+        ensures whole { IfSome self.new.report.reply (λ r. HasWholeLines r) }
+        ensures number { self.new.report.event ≡ self.old.next_event }
+        ensures noted { NotesEntries self.new.report.entries.entries
+            (members (λ b. ⟦<dyn Auditor as Auditor>⟧ b.vtable) panel.old)
+            (members (λ b. ⟦<dyn Auditor as Auditor>⟧ b.vtable) panel.new) }
+        ensures alone { live_in panel.old ≡ 0
+            → without_drops self.new.report.entries.entries ≡ self.new.report.entries.entries }
+    {
+        self.handle_lent(alloc, &LentEvent::Hint(moment, piece), sysfs, disk, panel);
+    }
+
+    fn handle_lent<Y: Sysfs, D: RuleDisk>(
+        &mut self,
+        alloc: Global,
+        event: &LentEvent,
+        sysfs: &mut Y,
+        disk: &mut D,
+        panel: &mut Panel,
+    )
+        requires numbers { IsTrue
+            (has_numbers (daemon_of self.old) (Y.faults sysfs.old) (D.faults disk.old)) }
+        requires piece { FitsEvent (event_lent event.now) }
+        ensures handles { HandlesEvent Y.Sysfs D.RuleDisk
+            (event_lent event.now) sysfs.old disk.old (daemon_of self.old)
             sysfs.new disk.new (daemon_of self.new) }
         ensures whole { IfSome self.new.report.reply (λ r. HasWholeLines r) }
         ensures number { self.new.report.event ≡ self.old.next_event }
@@ -118,11 +150,11 @@ impl<'z, R: Rng> Daemon<'z, R> {
         let _tried = self.save_pending(alloc, disk, panel);
         sysfs.begin();
         let _stored = self.answer(alloc, event, sysfs, disk, panel);
-        self.sweep(alloc, sysfs, panel);
+        self.settle(alloc, sysfs, panel);
         self.policy.stay_saveable();
     }
 
-    /// The same, with something between its stages.
+    /// Handles an event, with something between its stages.
     pub fn handle_between<Y: Sysfs, D: RuleDisk, B: Between<Y, D>>(
         &mut self,
         alloc: Global,
@@ -132,8 +164,9 @@ impl<'z, R: Rng> Daemon<'z, R> {
         panel: &mut Panel,
         between: &mut B,
     )
-        requires { IsTrue
+        requires numbers { IsTrue
             (has_numbers (daemon_of self.old) (Y.faults sysfs.old) (D.faults disk.old)) }
+        requires piece { FitsEvent event.now }
         ensures passes { PassesEvent Y.Sysfs D.RuleDisk B.goes
             event.now sysfs.old disk.old (daemon_of self.old)
             sysfs.new disk.new (daemon_of self.new) }
@@ -148,19 +181,20 @@ impl<'z, R: Rng> Daemon<'z, R> {
         // The standings are in order, and the permanent rules can be saved.
         let _next = self.table.next_number();
         self.policy.stay_saveable();
-        self.begin(event, panel);
+        let lent = event.lend();
+        self.begin(&lent, panel);
         let _tried = self.save_pending(alloc, disk, panel);
         sysfs.begin();
         between.pass(sysfs, disk);
-        let _stored = self.answer(alloc, event, sysfs, disk, panel);
+        let _stored = self.answer(alloc, &lent, sysfs, disk, panel);
         between.pass(sysfs, disk);
-        self.sweep(alloc, sysfs, panel);
+        self.settle(alloc, sysfs, panel);
         self.policy.stay_saveable();
     }
 
     // The first entry.
-    fn begin(&mut self, event: &Event, panel: &mut Panel)
-        ensures daemon { daemon_of self.new ≡ begun event.now (daemon_of self.old) }
+    fn begin(&mut self, event: &LentEvent, panel: &mut Panel)
+        ensures daemon { daemon_of self.new ≡ begun (event_lent event.now) (daemon_of self.old) }
         ensures spare { 10 * length self.new.table.standings + 63 + live_in panel.new
             ≤ self.new.report.entries.spare }
         ensures reply { self.new.report.reply ≡ None }
@@ -171,12 +205,13 @@ impl<'z, R: Rng> Daemon<'z, R> {
             (members (λ b. ⟦<dyn Auditor as Auditor>⟧ b.vtable) panel.new) }
     {
         let number = self.next_event;
-        self.policy.set_moment(moment_of(event));
+        self.policy.set_moment(event.moment());
         self.report.event = number;
         self.report.entries.clear();
         self.report.reply = None;
         self.report.watch = false;
-        self.note(first_entry(number, event), panel);
+        self.due = None;
+        self.note(event.first_entry(number), panel);
     }
 
     // Notes an entry, for which there is room.
@@ -235,36 +270,5 @@ impl<'z, R: Rng> Daemon<'z, R> {
             Ok(text) => self.store.save(alloc, disk, text.bytes()),
             Err(_) => Saved::Memory,
         }
-    }
-
-    // The sweep, and the last entry.
-    #[tactic(auto, unfolding(crate::specs::Event::handling), using(ug_kernel::proofs::Runs::runs_then))]
-    fn sweep<Y: Sysfs>(&mut self, alloc: Global, sysfs: &mut Y, panel: &mut Panel)
-        requires next { (daemon_of self.old).sweep.next + 65536 < 2 ^ 64 }
-        requires event { (daemon_of self.old).event + 1 < 2 ^ 64 }
-        requires spare { 10 * length self.old.table.standings + 2 + live_in panel.old
-            ≤ self.old.report.entries.spare }
-        requires nameless { unsettled_names (daemon_of self.old).sweep.entries ≡ [] }
-        ensures runs { Runs Y.gives sysfs.old (handling (daemon_of self.old))
-            (daemon_of self.new) sysfs.new }
-        ensures law { Handles Y.told sysfs.old (daemon_of self.old) sysfs.new (daemon_of self.new) }
-        ensures tells { TellsSweep Y.gives Y.calls Y.faults sysfs.old (daemon_of self.old)
-            sysfs.new (daemon_of self.new) }
-        ensures once { NamesOnceIn Y.told sysfs.old (daemon_of self.old)
-            sysfs.new (daemon_of self.new) }
-        ensures number { self.new.report.event ≡ self.old.report.event }
-        ensures reply { self.new.report.reply ≡ self.old.report.reply }
-        ensures watch { self.new.report.watch ≡ self.old.report.watch }
-        ensures noted { NotesMore self.old.report.entries.entries self.new.report.entries.entries
-            (members (λ b. ⟦<dyn Auditor as Auditor>⟧ b.vtable) panel.old)
-            (members (λ b. ⟦<dyn Auditor as Auditor>⟧ b.vtable) panel.new) }
-    {
-        let number = self.next_event;
-        let hub_default = self.hub_default;
-        let mut journal = Journal::join(panel, &mut self.report.entries);
-        self.table
-            .sweep(alloc, sysfs, &mut self.policy, hub_default, &mut journal);
-        journal.push(Entry::End { number });
-        self.next_event += 1;
     }
 }

@@ -1,5 +1,5 @@
 // The daemon's state.
-ghost use Rattle.std.specs.Prelude.{◌≤◌, ◌+◌, ◌*◌, length};
+ghost use Rattle.std.specs.Prelude.{◌≡◌, ◌≤◌, ◌+◌, ◌*◌, [], length};
 
 use crate::policy::Policy;
 use crate::report::Report;
@@ -8,7 +8,8 @@ use ug_acl::Acl;
 use ug_kernel::Write;
 use ug_store::Store;
 use ug_table::Table;
-use ug_types::{Moment, Principal, Text};
+use ug_types::{List, Moment, NodeName, Principal, Text};
+use ug_uevent::Hints;
 
 /// What the daemon is to do.
 #[derive(Drop)]
@@ -17,10 +18,12 @@ pub enum Event {
     Sweep(Moment),
     /// A line of a user or a group is answered, which may be any text: usbguard(1). Then all devices are listed and settled.
     Order(Moment, Principal, Text),
+    /// A piece of recorded uevents, of at most 1,048,576 bytes, is read. Then the devices are settled that its messages name.
+    Hint(Moment, Text),
 }
 
-/// The policy, the standings, what is written to the default of each root hub, the store of the rule file, who may do what, and the report of
-/// the last event.
+/// The policy, the standings, what is written to the default of each root hub, the store of the rule file, who may do what, what is kept of
+/// the stream of uevents, and the report of the last event.
 #[derive(Drop)]
 pub struct Daemon<'z, R: Rng> {
     pub(crate) policy: Policy<'z, R>,
@@ -28,7 +31,11 @@ pub struct Daemon<'z, R: Rng> {
     pub(crate) hub_default: Option<Write>,
     pub(crate) store: Store,
     pub(crate) acl: Acl,
+    pub(crate) hints: Hints,
+    // Within an event, the names whose devices alone it is to settle, where it doesn't sweep.
+    pub(crate) due: Option<List<NodeName>>,
     pub(crate) next_event: u64,
     pub(crate) report: Report,
     ghost room: { 10 * length table.standings + 128 ≤ report.entries.room },
+    ghost handed_out: { hints.messages ≡ [] },
 }

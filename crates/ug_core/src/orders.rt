@@ -1,7 +1,7 @@
 // Orders of administrators: usbguard(1).
-ghost use Rattle.std.specs.Prelude.{◌≡◌, ◌≤◌, ◌<◌, ◌+◌, ◌-◌, ◌^◌, IfSome, IsSome, None, Some, true};
+ghost use Rattle.std.specs.Prelude.{◌≡◌, ◌≤◌, ◌<◌, ◌+◌, ◌-◌, ◌*◌, ◌^◌, IfSome, IsSome, None, Some, length, true};
 ghost use Rattle.ug_kernel.specs.Tree.{Runs};
-ghost use Rattle.ug_audit.specs.Journal.{live_in};
+ghost use Rattle.ug_audit.specs.Journal.{live_in, members};
 ghost use Rattle.ug_lines.specs.Splitting.{AreLines};
 ghost use Rattle.ug_store.specs.Store.{DiskRoom, RunsDisk};
 ghost use Rattle.ug_table.specs.Orders.{ordering};
@@ -10,14 +10,18 @@ ghost use Rattle.ug_table.specs.State.{kept_of};
 ghost use Rattle.ug_core.specs.Answering.{acting, answer_of, CanDo, CanMake, deed_after, HasReplyLines, HasWholeLines, keeping, reply_to, replying};
 ghost use Rattle.ug_core.specs.Changes.{CanChange, ChangeReads, ChangeSaves, HasRoom};
 ghost use Rattle.ug_core.specs.Durable.{WritesEvent, change_ordered};
-ghost use Rattle.ug_core.specs.Event.{daemon_of, NotesAtMost};
+ghost use Rattle.ug_core.specs.Due.{FitsDue};
+ghost use Rattle.ug_core.specs.Event.{daemon_of, NotesAtMost, NotesMore};
+ghost use Rattle.ug_core.specs.Hinting.{FitsEvent};
+ghost use Rattle.ug_core.specs.Lent.{event_lent};
 ghost use Rattle.ug_proto.specs.Requests.{request_read};
 ghost use Rattle.ug_core.specs.Laws.{RunsAnswer, RunsOrder};
 ghost use Rattle.ug_core.specs.Storing.{TellsStored, WritesRules, has_written, if_kept, noted_save, pending_stored, refused_by, stored_with, storing, with_change};
 
 use crate::changes::Change;
 use crate::choosing::Deed;
-use crate::daemon::{Daemon, Event};
+use crate::daemon::Daemon;
+use crate::lent::LentEvent;
 use crate::storing::Stored;
 use rand_core::Rng;
 use std::alloc::Global;
@@ -302,30 +306,44 @@ impl<'z, R: Rng> Daemon<'z, R> {
         stored
     }
 
-    // The order of an event is answered. A sweep has none.
+    // The order of an event is answered, or its piece of uevents is met. A sweep has neither.
     pub(crate) fn answer<Y: Sysfs, D: RuleDisk>(
         &mut self,
         alloc: Global,
-        event: &Event,
+        event: &LentEvent,
         sysfs: &mut Y,
         disk: &mut D,
         panel: &mut Panel,
     ) -> Stored
+        requires piece { FitsEvent (event_lent event.now) }
         requires id { (daemon_of self.old).sweep.judge.next < 2 ^ 64 - 1 }
-        requires spare { 9 + live_in panel.old ≤ self.old.report.entries.spare }
+        requires spare { 10 * length self.old.table.standings + 11 + live_in panel.old
+            ≤ self.old.report.entries.spare }
+        requires undue { self.old.due ≡ None }
         requires silent { self.old.report.reply ≡ None }
-        ensures runs { RunsAnswer Y.gives D.keeps event.now sysfs.old disk.old (daemon_of self.old)
+        ensures runs { RunsAnswer Y.gives D.keeps (event_lent event.now)
+            sysfs.old disk.old (daemon_of self.old)
             result sysfs.new disk.new (daemon_of self.new) }
-        ensures written { WritesEvent event.now (daemon_of self.old) result }
+        ensures written { WritesEvent (event_lent event.now) (daemon_of self.old) result }
         ensures whole { IfSome self.new.report.reply (λ r. HasWholeLines r) }
         ensures counted { TellsStored result (D.faults disk.old) (D.faults disk.new) }
-        ensures notes { NotesAtMost 9 (λ b. ⟦<dyn Auditor as Auditor>⟧ b.vtable)
-            self.old panel.old self.new panel.new }
+        ensures fits { FitsDue self.new.due (length self.new.table.standings)
+            (live_in panel.new) self.new.report.entries.spare self.new.report.entries.room }
+        ensures next { self.new.table.next ≡ self.old.table.next }
+        ensures next_event { self.new.next_event ≡ self.old.next_event }
+        ensures number { self.new.report.event ≡ self.old.report.event }
+        ensures noted { NotesMore self.old.report.entries.entries self.new.report.entries.entries
+            (members (λ b. ⟦<dyn Auditor as Auditor>⟧ b.vtable) panel.old)
+            (members (λ b. ⟦<dyn Auditor as Auditor>⟧ b.vtable) panel.new) }
     {
         match event {
-            Event::Sweep(_) => Stored::NotNeeded,
-            Event::Order(_, who, line) => {
-                self.answer_order(alloc, who, line.bytes(), sysfs, disk, panel)
+            LentEvent::Sweep(_) => Stored::NotNeeded,
+            LentEvent::Order(_, who, line) => {
+                self.answer_order(alloc, who, line, sysfs, disk, panel)
+            }
+            LentEvent::Hint(_, piece) => {
+                self.meet_piece(alloc, piece, panel);
+                Stored::NotNeeded
             }
         }
     }

@@ -27,6 +27,7 @@ use ug_policy::RuleList;
 use ug_store::{RuleDisk, Store};
 use ug_table::Table;
 use ug_types::List;
+use ug_uevent::Hints;
 
 /// The room of the entries that belong to no standing, and a place for each member of a panel.
 const ROOM: usize = 128;
@@ -67,6 +68,8 @@ impl<'z, R: Rng + Drop> Beside<'z, R> {
             hub_default: self.hub_default,
             store: loaded.0,
             acl: self.acl,
+            hints: Hints::new(alloc),
+            due: None,
             next_event: self.first,
             report: Report {
                 event: 0,

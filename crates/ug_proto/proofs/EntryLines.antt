@@ -39,6 +39,7 @@ entry_not : (e : Entry) (more : List ℕ) → as_reply (entry_line e ++ more) �
 unfolding entry_line
 entry_not (entry.Event number moment) more = refl
 entry_not (entry.Order number moment who) more = refl
+entry_not (entry.Hint number moment) more = refl
 entry_not (entry.Save became) more = refl
 entry_not (entry.Judged number name held verdict why) more = by_first (codes "judged") (decimal number ∷ name ∷ target_word verdict ∷ cause_words why) more (λ rest. refl)
 entry_not (entry.Intent number name bytes) more = refl
@@ -46,6 +47,7 @@ entry_not (entry.Wrote number name bytes outcome) more = refl
 entry_not (entry.Gone number name) more = refl
 entry_not (entry.Unsettled name why) more = by_first (codes "unsettled") (name ∷ fault_words why) more (λ rest. refl)
 entry_not (entry.UnsettledAll why) more = by_first (codes "unsettled") (codes "*" ∷ fault_words why) more (λ rest. refl)
+entry_not (entry.HintRefused kind place) more = refl
 entry_not (entry.Rules made id) more = refl
 entry_not (entry.Parameter set) more = refl
 entry_not (entry.Reply (Ok done)) more = refl

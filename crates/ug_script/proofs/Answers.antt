@@ -33,8 +33,7 @@ use Rattle.ug_table.specs.One.{why_of, whys}
 use Rattle.ug_table.specs.Orders.{ordering, with_verdict, verdict_entry}
 use Rattle.ug_table.specs.Parts.{AllBear}
 use Rattle.ug_table.specs.Standings.{numbered}
-use Rattle.ug_table.specs.State.{State, Kept, kept_of}
-use Rattle.ug_table.specs.Sweep.{sweeping}
+use Rattle.ug_table.specs.State.{State, Kept, kept_of, terms_for}
 use Rattle.ug_table.specs.declared.standing.Settled.{Settled}
 use Rattle.ug_table.specs.declared.standing.Settled.TheVariants as settled
 use Rattle.ug_table.specs.declared.standing.Standing.{Standing}
@@ -42,7 +41,7 @@ use Rattle.ug_table.proofs.Ordered.{EndsOrder, ordering_ways}
 use Rattle.ug_table.proofs.PartCalls.{has_want, are_short}
 use Rattle.ug_simulation.specs.Play.{entry_tells_memory, is_short_reply, names_somebody, tells_memory, NameNobody}
 use Rattle.ug_simulation.proofs.Plays.{refused}
-use Rattle.ug_simulation.proofs.Sweeps.{Sums, sweeping_sums, nobody_told, nobody_more}
+use Rattle.ug_simulation.proofs.Sweeps.{Sums, settling_sums, sweeping_sums, nobody_told, nobody_more}
 use Rattle.ug_simulation.proofs.Wants.{memory_more}
 use Rattle.ug_core.specs.Answering.{acting, answer_of, answered_with, asking, asking_of, by_edit, by_name, by_permanent, by_probe, by_record, by_request, by_rule, by_setting, by_standing, by_value, changing as choosing, deed_after, if_granted, if_read, if_reply_room, if_rule_made, if_rule_read, reply_to, telling, unless}
 use Rattle.ug_core.specs.Storing.{stored_with, with_changes}
@@ -269,19 +268,21 @@ pub record StoredSo (d a : DaemonState) : Type 0 where
   pub event : a.event ≡ d.event
   pub next : a.sweep.next ≡ d.sweep.next
   pub standings : a.sweep.standings ≡ d.sweep.standings
+  pub due : a.due ≡ d.due
+  pub stream : a.stream ≡ d.stream
   pub ids : a.sweep.judge.next ≤ d.sweep.judge.next + 1
 
 now_so : (d : DaemonState) (change : Option Change) → StoredSo d (with_changes change d)
 unfolding changed
-now_so d None = record { rest = []; entries = sym (append-nil d.sweep.entries); wants = refl; nobody = refl; event = refl; next = refl; standings = refl; ids = omega arith }
-now_so d (Some (Rules (Insert place rule temporary))) = record { rest = changed (Some (Rules (Insert place rule temporary))) d; entries = refl; wants = refl; nobody = refl; event = refl; next = refl; standings = refl; ids = omega arith }
-now_so d (Some (Rules (Remove id))) = record { rest = changed (Some (Rules (Remove id))) d; entries = refl; wants = refl; nobody = refl; event = refl; next = refl; standings = refl; ids = omega arith }
-now_so d (Some (Rules (Retarget id rule))) = record { rest = changed (Some (Rules (Retarget id rule))) d; entries = refl; wants = refl; nobody = refl; event = refl; next = refl; standings = refl; ids = omega arith }
-now_so d (Some (Set to)) = record { rest = changed (Some (Set to)) d; entries = refl; wants = refl; nobody = refl; event = refl; next = refl; standings = refl; ids = omega arith }
+now_so d None = record { rest = []; entries = sym (append-nil d.sweep.entries); wants = refl; nobody = refl; event = refl; next = refl; standings = refl; due = refl; stream = refl; ids = omega arith }
+now_so d (Some (Rules (Insert place rule temporary))) = record { rest = changed (Some (Rules (Insert place rule temporary))) d; entries = refl; wants = refl; nobody = refl; event = refl; next = refl; standings = refl; due = refl; stream = refl; ids = omega arith }
+now_so d (Some (Rules (Remove id))) = record { rest = changed (Some (Rules (Remove id))) d; entries = refl; wants = refl; nobody = refl; event = refl; next = refl; standings = refl; due = refl; stream = refl; ids = omega arith }
+now_so d (Some (Rules (Retarget id rule))) = record { rest = changed (Some (Rules (Retarget id rule))) d; entries = refl; wants = refl; nobody = refl; event = refl; next = refl; standings = refl; due = refl; stream = refl; ids = omega arith }
+now_so d (Some (Set to)) = record { rest = changed (Some (Set to)) d; entries = refl; wants = refl; nobody = refl; event = refl; next = refl; standings = refl; due = refl; stream = refl; ids = omega arith }
 
 -- behind an entry that tells of the save
-saved_so : (d b a : DaemonState) (e : Entry) → b.sweep ≡ (noting e d).sweep → b.event ≡ d.event → entry_tells_memory e ≡ false → names_somebody e ≡ false → StoredSo b a → StoredSo d a
-saved_so d b a e sweep event quiet nameless h =
+saved_so : (d b a : DaemonState) (e : Entry) → b.sweep ≡ (noting e d).sweep → b.event ≡ d.event → b.due ≡ d.due → b.stream ≡ d.stream → entry_tells_memory e ≡ false → names_somebody e ≡ false → StoredSo b a → StoredSo d a
+saved_so d b a e sweep event due stream quiet nameless h =
     let ids = h.ids in
     let same : b.sweep.judge.next ≡ d.sweep.judge.next = ap (λ (v : State Judging). v.judge.next) sweep in
     record {
@@ -292,6 +293,8 @@ saved_so d b a e sweep event quiet nameless h =
       event = h.event ∙ event;
       next = h.next ∙ ap (λ (v : State Judging). v.next) sweep;
       standings = h.standings ∙ ap (λ (v : State Judging). v.standings) sweep;
+      due = h.due ∙ due;
+      stream = h.stream ∙ stream;
       ids = omega (arith, ids, same);
     }
 
@@ -299,10 +302,10 @@ pub stored_so : (d : DaemonState) (change : Option Change) (became : Stored) →
 stored_so d change stored.NotNeeded = now_so d change
 stored_so d change stored.Done =
     let b : DaemonState = noting (entry.Save saved.Done) (record d { pending = false }) in
-    saved_so d b (with_changes change b) (entry.Save saved.Done) refl refl refl refl (now_so b change)
+    saved_so d b (with_changes change b) (entry.Save saved.Done) refl refl refl refl refl refl (now_so b change)
 stored_so d change (stored.Failed count) =
     let b : DaemonState = noting (entry.Save (saved.Failed count)) (record d { pending = true }) in
-    saved_so d b b (entry.Save (saved.Failed count)) refl refl refl refl (now_so b None)
+    saved_so d b b (entry.Save (saved.Failed count)) refl refl refl refl refl refl (now_so b None)
 stored_so d change stored.TooLong = now_so d None
 stored_so d change stored.Memory = now_so d None
 
@@ -356,6 +359,8 @@ pub record ActsSo (a : DaemonState) (short ok : Bool) (ms : List Made) (e : Daem
   pub pending : e.pending ≡ a.pending
   pub event : e.event ≡ a.event
   pub next : e.sweep.next ≡ a.sweep.next
+  pub due : e.due ≡ a.due
+  pub stream : e.stream ≡ a.stream
   pub ids : e.sweep.judge.next ≡ a.sweep.judge.next
 
 set_so : (a : DaemonState) (x t : Standing) (lines : List (List ℕ)) (ms : List Made) (p : Settled × Kept) → EndsOrder x t (kept_of a.sweep.standings a.sweep.entries) true ms p → ActsSo a false true ms (answered_with a lines p)
@@ -377,19 +382,21 @@ set_so a x t lines ms p o =
       pending = refl;
       event = refl;
       next = refl;
+      due = refl;
+      stream = refl;
       ids = refl;
     }
 
 pub acting_ways : (who : Named) (a : DaemonState) (done : Deed) → CanAct a.sweep.standings done → Ways (acting who a done) (ActsSo a (is_short_deed done))
-acting_ways who a (deed.Refuse r) can = record { rest = entry.Reply (Err r) ∷ []; entries = refl; wants = refl; nobody = refl; few = omega arith; pending = refl; event = refl; next = refl; ids = refl }
-acting_ways who a (deed.Tell rows) can = record { rest = entry.Reply (Ok tt) ∷ []; entries = refl; wants = refl; nobody = refl; few = omega arith; pending = refl; event = refl; next = refl; ids = refl }
-acting_ways who a deed.Watch can = record { rest = entry.Reply (Ok tt) ∷ []; entries = refl; wants = refl; nobody = refl; few = omega arith; pending = refl; event = refl; next = refl; ids = refl }
+acting_ways who a (deed.Refuse r) can = record { rest = entry.Reply (Err r) ∷ []; entries = refl; wants = refl; nobody = refl; few = omega arith; pending = refl; event = refl; next = refl; due = refl; stream = refl; ids = refl }
+acting_ways who a (deed.Tell rows) can = record { rest = entry.Reply (Ok tt) ∷ []; entries = refl; wants = refl; nobody = refl; few = omega arith; pending = refl; event = refl; next = refl; due = refl; stream = refl; ids = refl }
+acting_ways who a deed.Watch can = record { rest = entry.Reply (Ok tt) ∷ []; entries = refl; wants = refl; nobody = refl; few = omega arith; pending = refl; event = refl; next = refl; due = refl; stream = refl; ids = refl }
 acting_ways who a (deed.SetVerdict number verdict on lines) can =
     let k : Kept = kept_of a.sweep.standings a.sweep.entries in
     ways_last (EndsOrder can.0 (with_verdict verdict who can.0) k) (ActsSo a false) (ordering number verdict who on k) (λ (p : Settled × Kept). Return (answered_with a lines p)) (λ (p : Settled × Kept). answered_with a lines p) (λ p. refl) (ordering_ways number verdict who on k can.0 can.1)
     (λ ok ms p o. subst (λ (b : Bool). ActsSo a false b ms (answered_with a lines p)) (sym o.sure) (set_so a can.0 (with_verdict verdict who can.0) lines ms p (subst (λ (b : Bool). EndsOrder can.0 (with_verdict verdict who can.0) k b ms p) o.sure o)))
 
--- ---- the sweep behind it
+-- ---- the last stage
 
 -- The entries that are added tell want of memory just where memory was refused; and where neither that is so nor a call of the sweep
 -- failed, they name nobody.
@@ -400,7 +407,7 @@ pub record SweepsSo (a : DaemonState) (ok : Bool) (ms : List Made) (e : DaemonSt
   pub nobody : refused ok ms ≡ false → failures ms ≡ [] → NameNobody rest
   pub pending : e.pending ≡ a.pending
 
-swept_so : (a : DaemonState) (ok : Bool) (ms : List Made) (v : State Judging) → Sums a.sweep.entries ok ms v.entries → SweepsSo a ok ms (record a { sweep = record v { entries = v.entries ++ entry.End a.event ∷ [] }; event = a.event + 1 })
+swept_so : (a : DaemonState) (ok : Bool) (ms : List Made) (v : State Judging) → Sums a.sweep.entries ok ms v.entries → SweepsSo a ok ms (record a { sweep = record v { entries = v.entries ++ entry.End a.event ∷ [] }; due = None; event = a.event + 1 })
 swept_so a ok ms v sums =
     let last : List Entry = entry.End a.event ∷ [] in
     let wants : tells_memory (sums.rest ++ last) ≡ refused ok ms = memory_more sums.rest last ∙ or_none (tells_memory sums.rest) ∙ sums.wants in
@@ -412,11 +419,15 @@ swept_so a ok ms v sums =
       pending = refl;
     }
 
+due_sums : (due : Option (List (List ℕ))) (w : State Judging) → Ways (event.settling_due due w) (λ ok ms v. Sums w.entries ok ms v.entries)
+due_sums None w = sweeping_sums policy_answer policy_later w
+due_sums (Some names) w = settling_sums policy_answer policy_later names (terms_for w) w
+
 pub handling_ways : (a : DaemonState) → Ways (handling a) (SweepsSo a)
 unfolding handling
 handling_ways a =
-    ways_last (λ ok ms v. Sums a.sweep.entries ok ms v.entries) (SweepsSo a) (sweeping policy_answer policy_later a.sweep) (event.ended a)
-    (λ (v : State Judging). record a { sweep = record v { entries = v.entries ++ entry.End a.event ∷ [] }; event = a.event + 1 })
+    ways_last (λ ok ms v. Sums a.sweep.entries ok ms v.entries) (SweepsSo a) (event.settling_due a.due a.sweep) (event.ended a)
+    (λ (v : State Judging). record a { sweep = record v { entries = v.entries ++ entry.End a.event ∷ [] }; due = None; event = a.event + 1 })
     (λ v. refl)
-    (sweeping_sums policy_answer policy_later a.sweep)
+    (due_sums a.due a.sweep)
     (λ ok ms v sums. swept_so a ok ms v sums)

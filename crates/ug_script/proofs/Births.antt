@@ -37,7 +37,7 @@ use Rattle.ug_core.specs.Answering.{acting, asking, deed_after}
 use Rattle.ug_core.specs.Event.{DaemonState, handling, has_numbers, ready}
 use Rattle.ug_core.specs.Storing.{stored_with, storing}
 use Rattle.ug_core.specs.declared.daemon.Event as events
-use Rattle.ug_core.specs.declared.daemon.Event.TheVariants.{Sweep, Order}
+use Rattle.ug_core.specs.declared.daemon.Event.TheVariants.{Sweep, Order, Hint}
 use Rattle.ug_script.specs.declared.step.Plan.{Plan}
 use Rattle.ug_script.specs.declared.step.Plan.TheVariants as plan
 use Rattle.ug_script.specs.declared.step.Step.{Step}
@@ -245,6 +245,7 @@ halted_goes o w s =
 
 answered_goes : (event : events.Event) (d : DaemonState) (w : World) (o : DiskWorld) → IsSound w.kernel.devices → GoesTo w (order_played_by event d w o).world
 answered_goes (Sweep moment) d w o s = goes_still w.moves w.kernel w.kernel refl refl s
+answered_goes (Hint moment piece) d w o s = goes_still w.moves w.kernel w.kernel refl refl s
 answered_goes (Order moment who line) d w o s =
     let c = play (asking d who line) w in
     let b = play_disk (storing d c.0.change) o in

@@ -23,10 +23,10 @@ count_both front xs ys = ap length (filter-append (λ line. starts_with nat_eq l
 kept_both : (n a b both : ℕ) → both ≡ a + b → bounded_count (bounded_count (n + a) + b) ≡ bounded_count (n + both)
 kept_both n a b both e = omega (arith, e)
 
-abbrev numbers : ℕ → ℕ → ℕ → ℕ → Totals
+abbrev pub numbers : ℕ → ℕ → ℕ → ℕ → Totals
 numbers a b c d = record { events = a; judged = b; writes = c; unsettled = d }
 
-four : {a b c d e f g h : ℕ} → a ≡ b → c ≡ d → e ≡ f → g ≡ h → numbers a c e g ≡ numbers b d f h
+pub four : {a b c d e f g h : ℕ} → a ≡ b → c ≡ d → e ≡ f → g ≡ h → numbers a c e g ≡ numbers b d f h
 four {a} {b} {c} {d} {e} {f} {g} {h} p q r s =
     ap (λ (x : ℕ). numbers x c e g) p ∙ ap (λ (x : ℕ). numbers b x e g) q ∙ ap (λ (x : ℕ). numbers b d x g) r ∙ ap (λ (x : ℕ). numbers b d f x) s
 

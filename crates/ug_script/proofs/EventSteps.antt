@@ -1,5 +1,5 @@
 -- An event as the world and the disk fix it.
-use Rattle.std.proofs.Common.{◌≡◌, ℕ, nat_le, length, Bool, true, false, ◌||◌, List, [], ◌++◌, Option, Some, None, Result, ◌⊎◌, ◌∙◌, ap, sym, subst, refl, inl, inr, append_assoc, append-nil, cond}
+use Rattle.std.proofs.Common.{◌≡◌, ℕ, nat_le, length, Bool, true, false, ◌||◌, List, [], ◌∷◌, ◌++◌, Option, Some, None, Result, ◌⊎◌, ◌∙◌, ap, sym, subst, refl, inl, inr, append_assoc, append-nil, cond}
 use Rattle.std.proofs.lemmas.Bool.{both_ways}
 use Rattle.ug_types.specs.Limits.{text_limit}
 use Rattle.ug_types.specs.Principals.{Named}
@@ -11,6 +11,8 @@ use Rattle.ug_table.specs.declared.standing.Standing.{Standing}
 use Rattle.ug_sysfs.specs.World.{World, Gives, event_begun, over}
 use Rattle.ug_kernel.specs.Tree.{Runs}
 use Rattle.ug_audit.specs.declared.entry.Entry.{Entry}
+use Rattle.ug_audit.specs.declared.entry.Entry.TheVariants as entry
+use Rattle.ug_audit.specs.declared.entry.Fault.TheVariants as fault
 use Rattle.ug_simulation.specs.Play.{play, tells_memory, IsPlayed}
 use Rattle.ug_simulation.proofs.Plays.{TellsWant, played, refused, runs_out}
 use Rattle.ug_simulation.proofs.Wants.{memory_more}
@@ -25,6 +27,7 @@ use Rattle.ug_store.proofs.Playing.{EndsByMemory, is_played, run_stays_out, savi
 use Rattle.ug_core.specs.Answering.{acting, asking, deed_after}
 use Rattle.ug_core.specs.Changes.{changed_by, is_saved}
 use Rattle.ug_core.specs.Event.{DaemonState, handling, has_numbers, if_pending, ready, trying}
+use Rattle.ug_core.specs.Hinting.{refusals}
 use Rattle.ug_core.specs.Laws.{RunsAnswer, RunsOrder}
 use Rattle.ug_core.specs.Stops.{IsReadable}
 use Rattle.ug_core.specs.Storing.{after_saving, if_fits, if_saved, stored_with, storing}
@@ -32,7 +35,7 @@ use Rattle.ug_core.specs.declared.changes.Change.{Change}
 use Rattle.ug_core.specs.declared.choosing.Choice.{Choice}
 use Rattle.ug_core.specs.declared.choosing.Deed.{Deed}
 use Rattle.ug_core.specs.declared.daemon.Event as daemon
-use Rattle.ug_core.specs.declared.daemon.Event.TheVariants.{Sweep, Order}
+use Rattle.ug_core.specs.declared.daemon.Event.TheVariants.{Sweep, Order, Hint}
 use Rattle.ug_core.specs.declared.storing.Stored.{Stored}
 use Rattle.ug_core.specs.declared.storing.Stored.TheVariants as stored
 use Rattle.ug_command_io.specs.Runs.{Steps, Closes}
@@ -41,11 +44,13 @@ use Rattle.ug_command_io.specs.declared.machine.Ran.TheVariants.{Done, Bad, TooL
 use Rattle.ug_command_io.specs.Fold.{LineRefusal, LineOutcome, Writes, Refused}
 use Rattle.ug_script.specs.declared.step.Step.TheVariants.{Event}
 use Rattle.ug_script.specs.Journal.{happened_from}
+use Rattle.ug_script.specs.Hints.{hint_played}
 use Rattle.ug_script.specs.LinesRead.{StepReads}
 use Rattle.ug_script.specs.Setup.{SetupState, StartsOn, after_reading, rules_disk, rules_from, first_started}
 use Rattle.ug_script.specs.Script.{Script, Phase, SettingUp, Unstarted, Started, daemon_by, disk_by, has_started, fits_file}
 use Rattle.ug_script.specs.Replay.{IsEventPlayed, OrderPlayed, Played, order_played_by, answered_from, begun_again, begun_disk, came_of, finished, event_by, event_from, event_taken, halted, in_script, stop_in, stopped_of, stopped_text, swept_behind, swept_over, tells, tried_by, with_choice, with_played, with_store}
 use Rattle.ug_script.proofs.Halts.{halted_told}
+use Rattle.ug_script.proofs.HintsRead.{takes_played}
 use Rattle.ug_script.proofs.Answers.{ActsSo, Asks, CanAct, SweepsSo, acting_ways, asking_ways, asks_can, asks_short, handling_ways, is_short_deed, short_asks, stored_can, stored_so}
 
 -- ---- an event that was handled is as its script fixes it, unless it tells want of memory or a world has run out
@@ -98,7 +103,11 @@ unfolding storing
 none_stored d None o became p e h = h.0
 none_stored d (Some change) o became p e h = let none : ⊥ = cc in absurd none
 
--- ---- the order
+-- ---- the order, or the piece
+
+-- that a piece was dropped for want of memory
+abbrev dropped : Entry
+dropped = entry.UnsettledAll fault.Memory
 
 -- it came to what is fixed, or that is told, or a world has run out
 abbrev IsOrderPlayed : daemon.Event → DaemonState → World → DiskWorld → DaemonState → Stored → World → DiskWorld → Type 0
@@ -190,21 +199,35 @@ order_played (Sweep moment) d s o became m p a h = inl (
     ∙ ap (λ (v : DiskWorld). record { daemon = d; became = became; world = s; disk = v }) h.1
     ∙ ap (λ (v : Stored). record { daemon = d; became = v; world = s; disk = o }) h.2
     )
+order_played (Hint moment piece) d s o became m p a h = elim h.3 [
+  | inl takes ↦ inl (
+      same_order became p (takes_played piece d a takes) h.0
+      ∙ ap (λ (v : DiskWorld). record { daemon = hint_played piece d; became = became; world = s; disk = v }) h.1
+      ∙ ap (λ (v : Stored). record { daemon = hint_played piece d; became = v; world = s; disk = o }) h.2
+      )
+  | inr drops ↦ inr (inl (tells_added d a (dropped ∷ []) (ap (λ (x : DaemonState). x.sweep.entries) drops) refl))
+]
 order_played (Order moment who line) d s o became m p a h = by_asks who line d s o became m p a moment h
 
 answer_goes_on : (event : daemon.Event) (d : DaemonState) (s : World) (o : DiskWorld) (became : Stored) (m : World) (p : DiskWorld) (a : DaemonState) → RunsAnswer Gives MemKeeps event s o d became m p a → GoesOn d a
 answer_goes_on (Sweep moment) d s o became m p a h = ([], ap (λ (x : DaemonState). x.sweep.entries) h.3 ∙ sym (append-nil d.sweep.entries))
+answer_goes_on (Hint moment piece) d s o became m p a h = elim h.3 [
+  | inl takes ↦ (refusals takes.answers, ap (λ (x : DaemonState). x.sweep.entries) takes.state)
+  | inr drops ↦ (dropped ∷ [], ap (λ (x : DaemonState). x.sweep.entries) drops)
+]
 answer_goes_on (Order moment who line) d s o became m p a h = order_goes_on who line d s o became m p a moment h
 
 -- a disk that has run out before the order stays so
 answer_stays_out : (event : daemon.Event) (d : DaemonState) (s : World) (o : DiskWorld) (became : Stored) (m : World) (p : DiskWorld) (a : DaemonState) → RunsAnswer Gives MemKeeps event s o d became m p a → o.ran_out ≡ true → p.ran_out ≡ true
 answer_stays_out (Sweep moment) d s o became m p a h out = ap (λ (v : DiskWorld). v.ran_out) h.1 ∙ out
+answer_stays_out (Hint moment piece) d s o became m p a h out = ap (λ (v : DiskWorld). v.ran_out) h.1 ∙ out
 answer_stays_out (Order moment who line) d s o became m p a h out = run_stays_out (storing d h.choice.change) o became p h.stores out
 
 -- ---- the event
 
 short_try : (event : daemon.Event) (d : DaemonState) (tried : Option Saved) → tried ≡ Some saved.Memory → tells (ready event tried d)
 short_try (Sweep moment) d tried e = subst (λ (t : Option Saved). tells (ready (Sweep moment) t d)) (sym e) refl
+short_try (Hint moment piece) d tried e = subst (λ (t : Option Saved). tells (ready (Hint moment piece) t d)) (sym e) refl
 short_try (Order moment who line) d tried e = subst (λ (t : Option Saved). tells (ready (Order moment who line) t d)) (sym e) refl
 
 same_played : {e f : DaemonState} {t u : World} (p : DiskWorld) → e ≡ f → t ≡ u → ◌≡◌ {A = Played} (record { daemon = e; world = t; disk = p }) (record { daemon = f; world = u; disk = p })

@@ -34,7 +34,7 @@ use Rattle.ug_core.specs.Storing.{WritesRules, stored_with, storing}
 use Rattle.ug_core.specs.declared.changes.Change.{Change}
 use Rattle.ug_core.specs.declared.changes.Change.TheVariants.{Rules as Edits, Set}
 use Rattle.ug_core.specs.declared.daemon.Event.{Event}
-use Rattle.ug_core.specs.declared.daemon.Event.TheVariants.{Sweep, Order}
+use Rattle.ug_core.specs.declared.daemon.Event.TheVariants.{Sweep, Order, Hint}
 use Rattle.ug_core.specs.declared.storing.Stored.{Stored}
 use Rattle.ug_core.specs.declared.storing.Stored.TheVariants as stored
 use Rattle.ug_core.proofs.Kept.{kept_event}
@@ -100,6 +100,7 @@ record SameOrder (a b : OrderPlayed) : Type 0 where
 
 order_alike : (event : Event) (d : DaemonState) (w : World) (o : DiskWorld) (left : Images) (past : List Images) → SameOrder (order_played_by event d w o) (order_played_by event d w (with_left o left past))
 order_alike (Sweep moment) d w o left past = record { became = refl; daemon = refl; world = refl; disk = (left, past, refl) }
+order_alike (Hint moment piece) d w o left past = record { became = refl; daemon = refl; world = refl; disk = (left, past, refl) }
 order_alike (Order moment who line) d w o left past =
     let c = play (asking d who line) w in
     let k = played_alike (storing d c.0.change) o left past in
@@ -222,6 +223,7 @@ asked_file (Some (Set set)) p count writes c has = absurd has
 
 texts_asked : (event : Event) (d : DaemonState) → texts_of event d ≡ text_of_change (change_in event d) d.sweep.judge
 texts_asked (Sweep moment) d = refl
+texts_asked (Hint moment piece) d = refl
 texts_asked (Order moment who line) d = refl
 
 -- a pending save that was done leaves nothing unsure

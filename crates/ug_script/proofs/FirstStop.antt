@@ -14,7 +14,7 @@ use Rattle.ug_core.specs.Answering.{asking}
 use Rattle.ug_core.specs.Event.{DaemonState, ready, trying}
 use Rattle.ug_core.specs.Storing.{storing}
 use Rattle.ug_core.specs.declared.daemon.Event.{Event}
-use Rattle.ug_core.specs.declared.daemon.Event.TheVariants.{Sweep, Order}
+use Rattle.ug_core.specs.declared.daemon.Event.TheVariants.{Sweep, Order, Hint}
 use Rattle.ug_script.specs.Laws.{HasNoStop, IsFirstStop}
 use Rattle.ug_script.specs.Replay.{order_played_by, begun_disk, event_from, first_stop, halted, tried_by}
 
@@ -151,6 +151,7 @@ begun_stopping plan o = record {
 
 order_stopping : (plan : List Planned) (event : Event) (d : DaemonState) (w : World) (o : DiskWorld) → o.ran_out ≡ false → Stopping plan o → Stopping plan (order_played_by event d w o).disk
 order_stopping plan (Sweep moment) d w o told h = h
+order_stopping plan (Hint moment piece) d w o told h = h
 order_stopping plan (Order moment who line) d w o told h = play_stopping plan (storing d (play (asking d who line) w).0.change) o told h
 
 event_stopping : (plan : List Planned) (event : Event) (d : DaemonState) (w : World) (o : DiskWorld) → o.ran_out ≡ false → Stopping plan (event_from event d w (begun_disk plan o)).disk

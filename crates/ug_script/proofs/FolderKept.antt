@@ -50,7 +50,7 @@ use Rattle.ug_core.specs.declared.changes.Change.{Change}
 use Rattle.ug_core.specs.declared.changes.Change.TheVariants.{Rules, Set}
 use Rattle.ug_core.specs.declared.choosing.Choice.{Choice}
 use Rattle.ug_core.specs.declared.daemon.Event.{Event}
-use Rattle.ug_core.specs.declared.daemon.Event.TheVariants.{Sweep, Order}
+use Rattle.ug_core.specs.declared.daemon.Event.TheVariants.{Sweep, Order, Hint}
 use Rattle.ug_core.specs.declared.storing.Stored.{Stored}
 use Rattle.ug_core.specs.declared.storing.Stored.TheVariants as stored
 use Rattle.ug_core.proofs.Asked.{Asked, CanMade, Chosen, Chosen_first, Found, FoundSo, Missing, Not_found, Refused_first, Refused_so, Set_so, Told_change, Told_lines, Told_watch, asked_of}
@@ -58,6 +58,7 @@ use Rattle.ug_core.proofs.Came.{StoresAs, At_first, At_last, At_once, At_probe, 
 use Rattle.ug_core.proofs.Changed.{numbered_changed}
 use Rattle.ug_core.proofs.Kept.{asked_anytime}
 use Rattle.ug_core.proofs.Plain.{event_keeps_rules}
+use Rattle.ug_script.proofs.HintsRead.{meets_judge}
 use Rattle.ug_script.specs.RuleFiles.{HasFolder}
 use Rattle.ug_script.proofs.Filed.{KeepsFolder, among}
 use Rattle.ug_script.proofs.Setups.{folder_in}
@@ -312,6 +313,7 @@ module _ {S : Type 0} (gives : S → (call : Call) → Answer call → S → Typ
 module _ {S T : Type 0} (gives : S → (call : Call) → Answer call → S → Type 0) (keeps : T → (call : DiskCall) → DiskTold call → T → Type 0) where
   answer_count : (event : Event) (s : S) (o : T) (d : DaemonState) (became : Stored) (t : S) (p : T) (a : DaemonState) → RunsAnswer gives keeps event s o d became t p a → folders (marks a.sweep.judge.rules) ≡ folders (marks d.sweep.judge.rules)
   answer_count (Sweep moment) s o d became t p a h = ap (λ (x : DaemonState). folders (marks x.sweep.judge.rules)) h.3
+  answer_count (Hint moment piece) s o d became t p a h = ap (λ (j : Judging). folders (marks j.rules)) (meets_judge piece d a h.3)
   answer_count (Order moment who line) s o d became t p a h =
       let orders = asked_orders gives who line d h.choice s h.behind (asked_of gives who line d h.choice s h.behind h.asks) in
       let came = came_so gives who line d became s h.behind t a h.choice h.asks (stores_as keeps o d h.choice.change became p h.stores) h.acts in
@@ -377,6 +379,7 @@ module _ {S T : Type 0} (gives : S → (call : Call) → Answer call → S → T
   -- what an event's order writes
   event_few : (event : Event) (s : S) (o : T) (d : DaemonState) (became : Stored) (t : S) (p : T) (a : DaemonState) → RunsAnswer gives keeps event s o (ready event tried d) became t p a → WritesEvent event d became → IsNumbered d.sweep.judge.rules d.sweep.judge.next → length (folder_in d.sweep.judge.rules) ≡ before → (c : List ℕ) (rules : List types.Rule) → Has (if_written became (texts_of event d)) c → IsRuleFile rules c → before + length rules ≤ 65536
   event_few (Sweep moment) s o d became t p a h writes numbered_all number c rules has file = absurd (nothing_written gives keeps became [] c h.2 has)
+  event_few (Hint moment piece) s o d became t p a h writes numbered_all number c rules has file = absurd (nothing_written gives keeps became [] c h.2 has)
   event_few (Order moment who line) s o d became t p a h writes numbered_all number c rules has file = by h.choice.change refl
     where
       now : DaemonState

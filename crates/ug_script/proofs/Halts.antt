@@ -7,7 +7,7 @@ use Rattle.ug_core.specs.Answering.{asking}
 use Rattle.ug_core.specs.Event.{DaemonState}
 use Rattle.ug_core.specs.Storing.{storing}
 use Rattle.ug_core.specs.declared.daemon.Event.{Event}
-use Rattle.ug_core.specs.declared.daemon.Event.TheVariants.{Sweep, Order}
+use Rattle.ug_core.specs.declared.daemon.Event.TheVariants.{Sweep, Order, Hint}
 use Rattle.ug_simulation.specs.Play.{play}
 use Rattle.ug_script.specs.Replay.{order_played_by, halted}
 
@@ -41,8 +41,10 @@ halted_not o w e = ap (λ (b : Bool). cond b (halting w) w) e
 -- where it hasn't behind an order, it hadn't before it
 pub answered_unstopped : (event : Event) (d : DaemonState) (w : World) (o : DiskWorld) → (order_played_by event d w o).disk.stopped ≡ false → o.stopped ≡ false
 answered_unstopped (Sweep moment) d w o e = e
+answered_unstopped (Hint moment piece) d w o e = e
 answered_unstopped (Order moment who line) d w o e = play_unstopped (storing d (play (asking d who line) w).0.change) o e
 
 pub answered_unplanned : (event : Event) (d : DaemonState) (w : World) (o : DiskWorld) → IsUnplanned o → IsUnplanned (order_played_by event d w o).disk
 answered_unplanned (Sweep moment) d w o none = none
+answered_unplanned (Hint moment piece) d w o none = none
 answered_unplanned (Order moment who line) d w o none = play_keeps_unplanned (storing d (play (asking d who line) w).0.change) o none

@@ -1,11 +1,14 @@
 -- The events of a script's lines are a chain from the daemon that the setup lines gave, what is written is the text of their entries,
 -- and a script without failures names nobody and judges each device once. Wherever lines lead, the script is lawful.
 use Rattle.std.proofs.lemmas.Bool.Decides.{nat_tests}
-use Rattle.std.proofs.Common.{◌≡◌, ℕ, ◌+◌, ◌<◌, arith, Bool, true, false, ◌&&◌, ◌||◌, cond, nat_eq, nat_lt, nat_le, map, List, [], ◌∷◌, ◌++◌, length, flat_map, Option, Some, None, inl, inr, refl, sym, ◌∙◌, ap, subst, append_assoc, append-nil}
+use Rattle.std.proofs.Common.{◌≡◌, ℕ, ◌+◌, ◌<◌, ◌≤◌, arith, Bool, true, false, ◌&&◌, ◌||◌, cond, nat_eq, nat_lt, nat_le, map, List, [], ◌∷◌, ◌++◌, length, flat_map, Option, Some, None, inl, inr, refl, sym, ◌∙◌, ap, subst, append_assoc, append-nil}
 use Rattle.std.specs.Cmp.Lexicographic.{pointwise}
 use Rattle.std.specs.List.{list_any}
+use Rattle.std.proofs.lemmas.Option.{same_Some}
 use Rattle.ug_types.specs.Elements.{Has}
-use Rattle.ug_kernel.specs.Kernel.{Kernel, IsKernel, Moves}
+use Rattle.ug_kernel.specs.Kernel.{Kernel, IsKernel, Live, Moves}
+use Rattle.ug_kernel.specs.Quiet.{Grows}
+use Rattle.ug_kernel.specs.declared.device.Device.{Device}
 use Rattle.ug_kernel.proofs.Stayed.{unmoving}
 use Rattle.ug_sysfs.specs.World.{IsUnfailing, World, event_begun, carried}
 use Rattle.ug_sysfs.specs.Begins.{moved_moves}
@@ -20,10 +23,10 @@ use Rattle.ug_conf.specs.Settings.{defaults}
 use Rattle.ug_conf.specs.Texts.{setting_line, settled}
 use Rattle.ug_lines.specs.LineReading.{lines_read}
 use Rattle.ug_core.specs.declared.daemon.Event as events
-use Rattle.ug_core.specs.declared.daemon.Event.TheVariants.{Sweep, Order}
+use Rattle.ug_core.specs.declared.daemon.Event.TheVariants.{Sweep, Order, Hint}
 use Rattle.ug_core.specs.Policy.{Judging}
 use Rattle.ug_core.specs.Answering.{acting, asking, deed_after}
-use Rattle.ug_core.specs.Event.{DaemonState, handling, has_numbers, ready}
+use Rattle.ug_core.specs.Event.{DaemonState, handling, has_numbers, most_standings, ready}
 use Rattle.ug_core.specs.Storing.{stored_with, storing}
 use Rattle.std.proofs.Common.{Result, Ok, Err}
 use Rattle.ug_kernel.specs.declared.control.Write.{Write}
@@ -43,20 +46,22 @@ use Rattle.ug_script.specs.Grammar.{AsksForRules, step_of_line}
 use Rattle.ug_script.specs.Setup.{Beside, no_setup, one_line_more, beside_of, policy_of, rules_disk, setup_rule, rules_from, first_started, steps_of, with_rules}
 use Rattle.ug_script.specs.Script.{Script, fresh, takes_setup, has_started, closed_phase, with_setup_closed, daemon_in, disk_in, can_start}
 use Rattle.ug_script.specs.Replay.{header, quiet, line_added, with_plan, with_restart, planned, order_played_by, answered_from, answered_of, came_of, disk_of, event_of, halted, restarted, taken, taken_if, tried_by, script_step}
-use Rattle.ug_script.specs.Laws.{StaysLawful}
-use Rattle.ug_script.specs.Journal.{happened_at, pass_at, left_by, EventsOfRuns, no_events, with_end, runs_by, runs_after, runs_in, first_start, AreSuccessive, JudgesOnce, AreQuiet, Recorded, StaysRecorded}
+use Rattle.ug_script.specs.Laws.{IsFaultless, StaysLawful, coming_in}
+use Rattle.ug_script.specs.Journal.{happened_at, pass_at, left_by, EventsOfRuns, no_events, with_end, runs_by, runs_after, runs_in, first_start, AreSuccessive, IsToSettle, JudgesOnce, AreQuiet, Recorded, StaysRecorded}
 use Rattle.ug_script.proofs.FileTexts.{in_force_stands}
 use Rattle.ug_script.proofs.Phases.{closed_daemon, closed_disk, closed_started}
 use Rattle.ug_script.proofs.Halts.{halted_moves}
 use Rattle.ug_sysfs.specs.IfaceMoves.{sound_one}
 use Rattle.ug_sysfs.specs.Serving.{bus_in}
 use Rattle.ug_script.proofs.BusSound.{IsSoundWorld}
-use Rattle.ug_script.proofs.Lawful.{Holds, HoldsOf, answered_holds, halted_holds, event_nobody, move_holds, plan_holds, no_standing, start_of, swept_from}
+use Rattle.ug_script.proofs.FewDevices.{carried_few, plan_few, standings_few}
+use Rattle.ug_script.proofs.LastStages.{last_stage}
+use Rattle.ug_script.proofs.Lawful.{Holds, HoldsOf, answered_holds, due_order, halted_holds, event_nobody, move_holds, plan_holds, no_standing, start_of, swept_from}
 use Rattle.ug_script.proofs.Stopped.{lawful_event}
 use Rattle.ug_script.proofs.Numbers.{started_fits, fits_numbers}
 use Rattle.ug_script.proofs.Readable.{line_asks}
 use Rattle.ug_script.proofs.Setups.{few_all, given_first, given_still, given_added, given_setup, policy_new}
-use Rattle.ug_script.proofs.KeptRuns.{Kept, KeptAfter, added_kept, closed_now, event_chain, first_holds, kept_still, kept_when, on_kept, quiet_front, skip_kept}
+use Rattle.ug_script.proofs.KeptRuns.{Kept, KeptAfter, added_kept, closed_now, coming_low, event_chain, first_holds, kept_still, kept_when, on_kept, quiet_front, skip_kept}
 use Rattle.ug_script.proofs.KeptEnds.{came_kept, daemon_run, event_if, restart_kept}
 
 -- ---- lines
@@ -93,10 +98,18 @@ answered_still event d w o none = by_event event (ready event (tried_by d o).0 d
   where
     by_event : (event : events.Event) (r : DaemonState) (m : World) (q : DiskWorld) → m.moves ≡ [] → (order_played_by event r m q).world.moves ≡ []
     by_event (Sweep moment) r m q none = none
+    by_event (Hint moment piece) r m q none = none
     by_event (Order moment who line) r m q none =
         let c = play (asking r who line) m in
         let b = play_disk (storing r c.0.change) q in
         (play_still (acting who (stored_with b.0 c.0.change r) (deed_after b.0 c.0.deed)) c.1 (play_still (asking r who line) m none).moves).moves
+
+-- a device keeps its name, so that it is settled in a later kernel too
+to_settle : (due : Option (List (List ℕ))) (k l : Kernel) (i : ℕ) (d e : Device) → Grows k l → Live k.devices i d → Live l.devices i e → IsToSettle due e.name → IsToSettle due d.name
+to_settle due k l i d e grows before after is =
+    let later = grows.devices i d before.at in
+    let same : later.0 ≡ e = same_Some later.0 e (sym later.1 ∙ after.at) in
+    subst (IsToSettle due) (ap (λ (x : Device). x.name) (sym same) ∙ later.2.name) is
 
 -- where nobody is named, each live device was judged once and stands as judged
 event_once : (first : World) (n : ℕ) (done : List (Option Step)) (runs : EventsOfRuns) (text : List ℕ) (s : Script) (w : World) (h : Kept first n done runs text s w) → AreQuiet done → IsUnfailing first → first.moves ≡ [] → (event : events.Event) → JudgesOnce (with_rules h.start.rules (policy_of s.setup)) (beside_of s.setup).hub h.start.kernel h.file runs.last (happened_at event s w)
@@ -109,21 +122,22 @@ event_once first n done runs text s w h quiet_lines fails moves event =
     let p = event_of event s w in
     let l : Kernel = p.world.kernel in
     let m : World = halted a.disk a.world in
-    let law = swept_from a.daemon m (halted_holds a.daemon a.disk a.world (answered_holds event d w o h.holds)) in
+    let law = swept_from a.daemon m (due_order event d w o) (halted_holds a.daemon a.disk a.world (answered_holds event d w o h.holds)) in
+    let last = last_stage a.daemon.due m.kernel a.daemon.sweep l law.swept law.law in
     let y : Entry = entry.End a.daemon.event in
-    let rest : List Entry = law.law.fair.rest in
-    let all : p.daemon.sweep.entries ≡ a.daemon.sweep.entries ++ (rest ++ y ∷ []) = ap (λ (z : State Judging). z.entries) law.entries ∙ ap (λ (z : List Entry). z ++ y ∷ []) law.law.fair.entries ∙ append_assoc a.daemon.sweep.entries rest (y ∷ []) in
+    let rest : List Entry = last.rest in
+    let all : p.daemon.sweep.entries ≡ a.daemon.sweep.entries ++ (rest ++ y ∷ []) = ap (λ (z : State Judging). z.entries) law.entries ∙ ap (λ (z : List Entry). z ++ y ∷ []) last.entries ∙ append_assoc a.daemon.sweep.entries rest (y ∷ []) in
     let quiet : NameNobody rest = nobody_left rest (y ∷ []) (nobody_right a.daemon.sweep.entries (rest ++ y ∷ []) (subst NameNobody all (event_nobody event d w o h.holds.told (h.unfailing quiet_lines fails) h.kept (h.unplanned quiet_lines, refl)))) in
     let run = (daemon_run (beside_of s.setup) policy h.start h.file (runs.last ++ happened_at event s w ∷ []) l (disk_told p.disk) p.daemon h.few_rules h.at_start (event_chain first n done runs text event s w h)).run in
     record {
       run = run;
-      each = λ i e live.
-          let lived = lived_in_play (handling a.daemon) m (halted_moves a.disk a.world ∙ answered_still event d w o (h.unmoved quiet_lines moves)) law.law.fair.grows i e live in
-          let as_judged : IsAsJudged a.daemon.sweep.hub l law.swept.standings i = elim (law.law.settled i lived.0 lived.1) [
+      each = λ i e live is.
+          let lived = lived_in_play (handling a.daemon) m (halted_moves a.disk a.world ∙ answered_still event d w o (h.unmoved quiet_lines moves)) last.grows i e live in
+          let as_judged : IsAsJudged a.daemon.sweep.hub l law.swept.standings i = elim (last.settled i lived.0 lived.1 (to_settle a.daemon.due m.kernel l i lived.0 e last.grows lived.1.entry live is)) [
             | inl z ↦ z
             | inr named ↦ elim named [
               | inl z ↦ absurd (named_nowhere rest (entry.Unsettled lived.0.name z.0) quiet refl z.1)
-              | inr z ↦ absurd (named_nowhere rest (entry.UnsettledAll z.0.0) quiet refl z.0.1)
+              | inr z ↦ absurd (named_nowhere rest (entry.UnsettledAll z.0) quiet refl z.1)
             ]
           ] in
           run.once i e live (subst (λ (o : Option Write). IsAsJudged o l p.daemon.sweep.standings i) (sym law.hub ∙ run.setting) (subst (λ (z : State Judging). IsAsJudged a.daemon.sweep.hub l z.standings i) (sym law.entries) as_judged));
@@ -164,7 +178,7 @@ step_kept first n done runs text (Move action) s w lt asks h =
     let step : Option Step = Some (Move action) in
     let v : World = carried action w in
     kept_still first (n + 1) (done ++ step ∷ []) runs text (with_setup_closed s) v
-    (on_kept first n done runs text s w v step (closed_phase s.phase) s.planned lt h (closed_daemon s.setup s.phase) (closed_disk s.setup s.phase) (closed_started s.phase) (given_still n done step s.setup refl refl refl refl refl refl refl h.given) (move_holds action (daemon_in s) w h.holds) (moved_moves action w.kernel) refl (λ b. sound_one action (bus_in w) b) (λ q. h.unfailing (quiet_front done step q).0) (λ q. h.unmoved (quiet_front done step q).0) (λ q. h.unplanned (quiet_front done step q).0))
+    (on_kept first n done runs text s w v step (closed_phase s.phase) s.planned lt h (closed_daemon s.setup s.phase) (closed_disk s.setup s.phase) (closed_started s.phase) (given_still n done step s.setup refl refl refl refl refl refl refl h.given) (move_holds action (daemon_in s) w h.holds) (moved_moves action w.kernel) refl (λ b. sound_one action (bus_in w) b) (carried_few action w) (λ q. h.unfailing (quiet_front done step q).0) (λ q. h.unmoved (quiet_front done step q).0) (λ q. h.unplanned (quiet_front done step q).0))
 step_kept first n done runs text (Schedule p) s w lt asks h = plan_kept p
   where
     step : Option Step
@@ -173,17 +187,17 @@ step_kept first n done runs text (Schedule p) s w lt asks h = plan_kept p
     loud : {X : Type 0} → AreQuiet (done ++ Some (Schedule p) ∷ []) → X
     loud q = closed_now (quiet_front done (Some (Schedule p)) q).1
 
-    by : (plan : List Planned) (v : World) → HoldsOf (daemon_in s) v → Moves w.kernel v.kernel → v.faults ≡ w.faults → (IsSoundWorld w → IsSoundWorld v) → Kept first (n + 1) (done ++ Some (Schedule p) ∷ []) runs text (record (with_setup_closed s) { planned = plan }) v
-    by plan v holds moves faults keeps = on_kept first n done runs text s w v (Some (Schedule p)) (closed_phase s.phase) plan lt h (closed_daemon s.setup s.phase) (closed_disk s.setup s.phase) (closed_started s.phase) (given_still n done (Some (Schedule p)) s.setup refl refl refl refl refl refl refl h.given) holds moves faults keeps (λ q. loud q) (λ q. loud q) (λ q. loud q)
+    by : (plan : List Planned) (v : World) → HoldsOf (daemon_in s) v → Moves w.kernel v.kernel → v.faults ≡ w.faults → (IsSoundWorld w → IsSoundWorld v) → coming_in v ≤ coming_in w + 1 → Kept first (n + 1) (done ++ Some (Schedule p) ∷ []) runs text (record (with_setup_closed s) { planned = plan }) v
+    by plan v holds moves faults keeps devices = on_kept first n done runs text s w v (Some (Schedule p)) (closed_phase s.phase) plan lt h (closed_daemon s.setup s.phase) (closed_disk s.setup s.phase) (closed_started s.phase) (given_still n done (Some (Schedule p)) s.setup refl refl refl refl refl refl refl h.given) holds moves faults keeps devices (λ q. loud q) (λ q. loud q) (λ q. loud q)
 
     plan_kept : (x : Plan) → Kept first (n + 1) (done ++ Some (Schedule p) ∷ []) runs (text ++ []) (with_plan x (with_setup_closed s)) (planned x w)
-    plan_kept (plan.Move m) = kept_still first (n + 1) (done ++ Some (Schedule p) ∷ []) runs text (with_setup_closed s) (planned (plan.Move m) w) (by s.planned (planned (plan.Move m) w) (plan_holds (plan.Move m) (daemon_in s) w h.holds) (unmoving w.kernel) refl (λ b. b))
-    plan_kept (plan.Fail f) = kept_still first (n + 1) (done ++ Some (Schedule p) ∷ []) runs text (with_setup_closed s) (planned (plan.Fail f) w) (by s.planned (planned (plan.Fail f) w) (plan_holds (plan.Fail f) (daemon_in s) w h.holds) (unmoving w.kernel) refl (λ b. b))
-    plan_kept (plan.OnDisk f) = kept_still first (n + 1) (done ++ Some (Schedule p) ∷ []) runs text (with_plan (plan.OnDisk f) (with_setup_closed s)) w (by (s.planned ++ f ∷ []) w h.holds (unmoving w.kernel) refl (λ b. b))
+    plan_kept (plan.Move m) = kept_still first (n + 1) (done ++ Some (Schedule p) ∷ []) runs text (with_setup_closed s) (planned (plan.Move m) w) (by s.planned (planned (plan.Move m) w) (plan_holds (plan.Move m) (daemon_in s) w h.holds) (unmoving w.kernel) refl (λ b. b) (plan_few (plan.Move m) w))
+    plan_kept (plan.Fail f) = kept_still first (n + 1) (done ++ Some (Schedule p) ∷ []) runs text (with_setup_closed s) (planned (plan.Fail f) w) (by s.planned (planned (plan.Fail f) w) (plan_holds (plan.Fail f) (daemon_in s) w h.holds) (unmoving w.kernel) refl (λ b. b) (plan_few (plan.Fail f) w))
+    plan_kept (plan.OnDisk f) = kept_still first (n + 1) (done ++ Some (Schedule p) ∷ []) runs text (with_plan (plan.OnDisk f) (with_setup_closed s)) w (by (s.planned ++ f ∷ []) w h.holds (unmoving w.kernel) refl (λ b. b) (omega arith))
 step_kept first n done runs text (Event event) s w lt asks h =
     let p = event_of event s w in
     event_if first (n + 1) (done ++ Some (Event event) ∷ []) runs text event s w p.disk.stopped (pass_at event s w) (came_of s.setup s.planned p) (can_start s.setup s.phase) (has_numbers (daemon_in s) w.faults (disk_in s).faults)
-    (came_kept first n done runs text event s w p.disk.stopped (rules_from s.setup.folder.count p.disk.disk.text) lt refl h)
+    (came_kept first n done runs text event s w p.disk.stopped (rules_from s.setup.folder.count p.disk.disk.text) lt asks refl h)
 step_kept first n done runs text Restart s w lt asks h = restart_if first (n + 1) (done ++ Some Restart ∷ []) (with_end None runs) text s w (can_start s.setup s.phase) (rules_from s.setup.folder.count (disk_in s).disk.text) (λ rules loaded. restart_kept first n done runs text s w rules lt loaded h)
 
 line_kept : (first : World) (n : ℕ) (done : List (Option Step)) (runs : EventsOfRuns) (text : List ℕ) (step : Option Step) (s : Script) (w : World) → n < 1048576 → ((asked : Step) → step ≡ Some asked → AsksForRules asked) → Kept first n done runs text s w → KeptAfter first (n + 1) (done ++ step ∷ []) (runs_by step s w runs) text (taken_if step s w)
@@ -195,7 +209,8 @@ kept_fresh first h = record {
   few = omega arith;
   holds = h;
   on_entries = λ g. g;
-  few_standings = omega arith;
+  few_devices = omega arith;
+  stream = refl;
   bus = λ b. b;
   fits = λ e. started_fits 1 1 [] first.faults 0 (omega arith) (omega arith) (omega (arith, e.0)) (omega arith);
   given = given_first;
@@ -277,6 +292,12 @@ kept_all first run sound (line ∷ lines) n text s w e = header_kept first lines
 pub stays_recorded : (w : World) → w.ran_out ≡ false → IsKernel w.kernel → StaysRecorded w
 stays_recorded first run sound lines n text s w e = recorded first lines n text s w (kept_all first run sound lines n text s w e)
 
+stand_few : (first : World) (n : ℕ) (s : Script) (w : World) {done : List (Option Step)} {runs : EventsOfRuns} {text : List ℕ} → Kept first n done runs text s w → IsFaultless first → length (daemon_in s).sweep.standings ≤ most_standings
+stand_few first n s w h none =
+    let few = standings_few w.kernel (daemon_in s).sweep.standings (daemon_in s).sweep.next h.holds.stand in
+    let low = coming_low first n w none h.few h.few_devices in
+    omega (arith, few, low)
+
 pub stays_lawful : (w : World) → w.ran_out ≡ false → IsKernel w.kernel → StaysLawful w
 stays_lawful first run sound lines n text s w e =
     let h : Kept first n (steps_of lines) (runs_in first lines) text s w = kept_all first run sound lines n text s w e in
@@ -288,7 +309,7 @@ stays_lawful first run sound lines n text s w e =
       events = λ event. lawful_event event s w h.holds h.kept;
       told = h.kept;
       possible = h.possible;
-      numbers = λ f. fits_numbers n (daemon_in s) w (disk_in s) h.few (h.fits f);
+      numbers = λ f. fits_numbers n (daemon_in s) w (disk_in s) h.few (stand_few first n s w h f) (h.fits f);
     }
 
 -- the rules of the setup are those of the `rule` lines; and before a daemon was started there is no run

@@ -12,6 +12,7 @@ use Rattle.ug_core.specs.declared.daemon.Event as events
 use Rattle.ug_core.specs.Policy.{Judging}
 use Rattle.ug_core.specs.Durable.{IsKept}
 use Rattle.ug_core.specs.Event.{DaemonState}
+use Rattle.ug_core.specs.Hinting.{FitsEvent}
 use Rattle.ug_core.specs.Starting.{start_rules}
 use Rattle.ug_core.specs.Chain.{Happened, Chain, journal}
 use Rattle.std.proofs.Common.{Result, Ok, Err}
@@ -31,6 +32,8 @@ use Rattle.ug_script.specs.Setup.{Beside, SetupState, beside_of, after_reading, 
 use Rattle.ug_script.specs.Script.{Script, daemon_in, disk_in}
 use Rattle.ug_script.specs.Replay.{with_played, with_restart, Played, begun_again, disk_of, event_of, finished, in_script, stopped_of, stopped_text}
 use Rattle.ug_script.specs.Journal.{happened_at, ended_by, left_behind, EventsOfRuns, RunEnd, with_end, with_events, with_stop, stop_of, text_to_stop, journals, journal_of, events_text, run_text, runs_text, text_of_runs, RunStart, first_start, HoldsAtStart, IsDaemonRun, EndedRun, AreSuccessive}
+use Rattle.ug_script.proofs.FewDevices.{over_few}
+use Rattle.ug_script.proofs.FewStandings.{event_devices}
 use Rattle.ug_script.proofs.FileTexts.{in_force_stands, stands_so}
 use Rattle.ug_script.proofs.OnEntries.{event_on_entries}
 use Rattle.ug_script.specs.Passes.{pass_behind}
@@ -40,7 +43,7 @@ use Rattle.ug_script.proofs.Lawful.{event_disk, event_holds, event_nobody, no_st
 use Rattle.ug_script.proofs.Numbers.{event_fits, started_fits}
 use Rattle.ug_script.proofs.Starts.{from_file}
 use Rattle.ug_script.proofs.Setups.{IsGiven, few_all, given_still}
-use Rattle.ug_script.proofs.KeptRuns.{Kept, KeptAfter, closed_now, event_chain, event_kept, event_possible, event_stood, journal_more, one_text, only_image, quiet_front}
+use Rattle.ug_script.proofs.KeptRuns.{Kept, KeptAfter, closed_now, coming_low, event_chain, event_kept, event_possible, event_stood, journal_more, one_text, only_image, quiet_front}
 
 -- ---- a restart
 
@@ -51,7 +54,7 @@ daemon_run beside policy b file hs k p e few holds chain = record {
   file = file;
   holds = holds;
   chain = chain;
-  run = is_run (with_rules b.rules policy) beside.hub b.number b.kernel (Some file) (started_at b.number beside (with_rules b.rules policy)) hs k p e (record { judge = refl; hub = refl; standings = refl; next = refl; listed = refl; entries = refl; pending = refl; event = refl; reply = refl; watch = refl }) chain;
+  run = is_run (with_rules b.rules policy) beside.hub b.number b.kernel (Some file) (started_at b.number beside (with_rules b.rules policy)) hs k p e (record { judge = refl; hub = refl; standings = refl; next = refl; listed = refl; entries = refl; pending = refl; stream = refl; due = refl; event = refl; reply = refl; watch = refl }) chain;
 }
 
 -- each text that a crash may leave behind a run is one of those that it might have left
@@ -131,7 +134,8 @@ restart_kept first n done runs text s w rules lt loaded h =
       few = omega (arith, lt);
       holds = record { told = h.holds.told; sound = h.holds.sound; stand = no_standing w.kernel };
       on_entries = h.on_entries;
-      few_standings = omega arith;
+      few_devices = let few = h.few_devices in omega (arith, few);
+      stream = refl;
       bus = h.bus;
       fits = λ e.
           let low : w.faults ≤ 2199023255552 * n = (h.fits e).few_faults in
@@ -175,9 +179,9 @@ stop_more call runs h e =
     ∙ ap (λ (l : List ℕ). runs_text runs.ended ++ l) (stop_append call runs.last runs.passes h e)
     ∙ sym (append_assoc (runs_text runs.ended) (events_text runs.last runs.passes) (stopped_text call h.after.sweep.entries))
 
-stop_kept : (first : World) (n : ℕ) (done : List (Option Step)) (runs : EventsOfRuns) (text : List ℕ) (event : events.Event) (s : Script) (w : World) (call : ℕ) (rules : List Rule) → n < 1048576 → rules_from s.setup.folder.count (event_of event s w).disk.disk.text ≡ Ok rules → Kept first n done runs text s w
+stop_kept : (first : World) (n : ℕ) (done : List (Option Step)) (runs : EventsOfRuns) (text : List ℕ) (event : events.Event) (s : Script) (w : World) (call : ℕ) (rules : List Rule) → n < 1048576 → FitsEvent event → rules_from s.setup.folder.count (event_of event s w).disk.disk.text ≡ Ok rules → Kept first n done runs text s w
     → Kept first (n + 1) (done ++ Some (Event event) ∷ []) (with_end (Some call) (with_events (happened_at event s w ∷ []) ([] ∷ []) runs)) (text ++ stopped_text call (event_of event s w).daemon.sweep.entries) (with_played s (begun_again s.setup rules (event_of event s w))) (over (event_of event s w).world)
-stop_kept first n done runs text event s w call rules lt loaded h =
+stop_kept first n done runs text event s w call rules lt fits loaded h =
     let d : DaemonState = daemon_in s in
     let o : DiskWorld = disk_of s in
     let p = event_of event s w in
@@ -211,10 +215,11 @@ stop_kept first n done runs text event s w call rules lt loaded h =
       few = omega (arith, lt);
       holds = record { told = holds.told; sound = holds.sound; stand = no_standing k };
       on_entries = λ g. event_on_entries event d w o h.holds (h.on_entries g);
-      few_standings = omega arith;
+      few_devices = let before = h.few_devices in let one = event_devices event d w o in let rest = over_few p.world in omega (arith, before, one, rest);
+      stream = refl;
       bus = λ b. over_sound p.world (event_sound event d w o h.holds (h.bus b));
       fits = λ e.
-          let f = event_fits n event d w o lt h.holds h.kept (h.fits e) in
+          let f = event_fits n event d w o lt h.holds h.kept (coming_low first n w e h.few h.few_devices) fits h.stream (h.fits e) in
           let low : p.world.faults ≤ 2199023255552 * (n + 1) = f.few_faults in
           let low_disk : p.disk.faults ≤ 2 * (n + 1) = f.few_disk_faults in
           let events : p.daemon.event ≤ (n + 1) + 1 = f.few_events in
@@ -242,11 +247,11 @@ stop_kept first n done runs text event s w call rules lt loaded h =
     }
 
 -- an event, whether the machine stopped in it or not
-pub came_kept : (first : World) (n : ℕ) (done : List (Option Step)) (runs : EventsOfRuns) (text : List ℕ) (event : events.Event) (s : Script) (w : World) (stopped : Bool) (loaded : Result (List Rule) LineRefusal) → n < 1048576 → rules_from s.setup.folder.count (event_of event s w).disk.disk.text ≡ loaded → Kept first n done runs text s w
+pub came_kept : (first : World) (n : ℕ) (done : List (Option Step)) (runs : EventsOfRuns) (text : List ℕ) (event : events.Event) (s : Script) (w : World) (stopped : Bool) (loaded : Result (List Rule) LineRefusal) → n < 1048576 → FitsEvent event → rules_from s.setup.folder.count (event_of event s w).disk.disk.text ≡ loaded → Kept first n done runs text s w
     → KeptAfter first (n + 1) (done ++ Some (Event event) ∷ []) (with_stop stopped (stop_of event s w) (with_events (happened_at event s w ∷ []) (cond stopped [] (pass_behind s.setup.ifaces (event_of event s w).daemon (event_of event s w).world).text ∷ []) runs)) text (in_script s (cond stopped (stopped_of s.setup (stop_of event s w) (event_of event s w) loaded) (finished s.setup.ifaces (event_of event s w))))
-came_kept first n done runs text event s w true (Ok rules) lt is h = stop_kept first n done runs text event s w (stop_of event s w) rules lt is h
-came_kept first n done runs text event s w true (Err fault) lt is h = tt
-came_kept first n done runs text event s w false loaded lt is h = event_kept first n done runs text event s w lt h _ refl
+came_kept first n done runs text event s w true (Ok rules) lt fits is h = stop_kept first n done runs text event s w (stop_of event s w) rules lt fits is h
+came_kept first n done runs text event s w true (Err fault) lt fits is h = tt
+came_kept first n done runs text event s w false loaded lt fits is h = event_kept first n done runs text event s w lt fits h _ refl
 
 pub event_if : (first : World) (n : ℕ) (done : List (Option Step)) (runs : EventsOfRuns) (text : List ℕ) (event : events.Event) (s : Script) (w : World) (stopped : Bool) (pass : List ℕ) (came : LineOutcome Played) (can has : Bool)
     → KeptAfter first n done (with_stop stopped (stop_of event s w) (with_events (happened_at event s w ∷ []) (pass ∷ []) runs)) text (in_script s came)

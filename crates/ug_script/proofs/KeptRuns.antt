@@ -10,10 +10,11 @@ use Rattle.ug_audit.specs.declared.entry.Entry.{Entry}
 use Rattle.ug_simulation.specs.Play.{play, NameNobody}
 use Rattle.ug_simulation.proofs.Sweeps.{nobody_more}
 use Rattle.ug_core.specs.declared.daemon.Event as events
-use Rattle.ug_core.specs.declared.daemon.Event.TheVariants.{Sweep, Order}
+use Rattle.ug_core.specs.declared.daemon.Event.TheVariants.{Sweep, Order, Hint}
 use Rattle.ug_core.specs.Policy.{Judging}
 use Rattle.ug_core.specs.Answering.{asking}
-use Rattle.ug_core.specs.Event.{DaemonState, handling, ready, trying}
+use Rattle.ug_core.specs.Event.{DaemonState, handling, most_standings, ready, trying}
+use Rattle.ug_core.specs.Hinting.{FitsEvent}
 use Rattle.ug_core.specs.Stops.{AllReadable}
 use Rattle.ug_core.specs.Storing.{storing}
 use Rattle.ug_core.specs.Chain.{Happened, Chain, journal}
@@ -40,7 +41,7 @@ use Rattle.ug_script.specs.FolderLines.{rules_in_folder}
 use Rattle.ug_script.specs.Setup.{SetupState, beside_of, folder_of, policy_of, rules_disk, setup_rules, first_started, started_at, with_rules}
 use Rattle.ug_script.specs.Script.{Script, Phase, takes_setup, has_started, daemon_by, daemon_in, disk_by, disk_in}
 use Rattle.ug_script.specs.Replay.{outcome_of, outcome_text, bad, line_added, with_played, order_played_by, answered_from, disk_of, event_from, event_of, finished_text, halted, left_played, tried_by}
-use Rattle.ug_script.specs.Laws.{calls_of, faults_of, IsFaultless}
+use Rattle.ug_script.specs.Laws.{calls_of, coming_in, faults_of, IsFaultless}
 use Rattle.ug_script.specs.Journal.{happened_at, EventsOfRuns, no_events, with_events, journals, journal_of, events_text, runs_text, text_of_runs, RunStart, first_start, HoldsAtStart, AreSuccessive, is_quiet, AreQuiet}
 use Rattle.ug_script.proofs.FileTexts.{StandsBehind, event_file, event_stands, event_text, in_force_stands, readable_front}
 use Rattle.ug_script.proofs.OnEntries.{event_ends_on_entries}
@@ -48,9 +49,9 @@ use Rattle.ug_script.proofs.Phases.{open_unstarted}
 use Rattle.ug_script.specs.Passes.{pass_behind}
 use Rattle.ug_script.proofs.PassBehind.{IsBehind, behind_holds, event_ends, pass_is_behind}
 use Rattle.ug_script.proofs.BusSound.{IsSoundWorld}
-use Rattle.ug_script.proofs.FewStandings.{event_few}
+use Rattle.ug_script.proofs.FewStandings.{event_devices}
 use Rattle.ug_script.proofs.PassFits.{left_sound, pass_fits}
-use Rattle.ug_script.proofs.Lawful.{HoldsOf, answers, made_by, swept_tells, handled, event_disk, event_nobody, event_saved, order_runs, no_standing, start_of}
+use Rattle.ug_script.proofs.Lawful.{HoldsOf, answers, due_order, event_stream, made_by, swept_tells, handled, event_disk, event_nobody, event_saved, order_runs, no_standing, start_of}
 use Rattle.ug_script.proofs.Numbers.{Fits, FitsOf, fits_more, started_fits}
 use Rattle.ug_script.proofs.Setups.{IsGiven, InSetup, few_all, given_still, own_rules}
 
@@ -63,7 +64,8 @@ pub record Kept (first : World) (n : ℕ) (done : List (Option Step)) (runs : Ev
   pub few : n ≤ 1048576
   pub holds : HoldsOf (daemon_in s) w
   pub on_entries : HasOnEntries first.kernel → HasOnEntries w.kernel
-  pub few_standings : length (daemon_in s).sweep.standings ≤ 65536
+  pub few_devices : coming_in w ≤ coming_in first + n
+  pub stream : (daemon_in s).stream.messages ≡ []
   pub bus : IsSoundWorld first → IsSoundWorld w
   pub fits : IsFaultless first → FitsOf n (daemon_in s) w (disk_in s)
   pub given : IsGiven n done s.setup
@@ -84,6 +86,10 @@ pub record Kept (first : World) (n : ℕ) (done : List (Option Step)) (runs : Ev
   pub unplanned : AreQuiet done → s.planned ≡ []
   pub saved : AreQuiet done → (daemon_in s).pending ≡ false
   pub stands : IsRuleFile start.rules start.text → AllReadable runs.last → StandsBehind runs.last (daemon_in s) (disk_in s).disk.text
+
+-- few enough that each may have a standing
+pub coming_low : (first : World) (n : ℕ) (w : World) → IsFaultless first → n ≤ 1048576 → coming_in w ≤ coming_in first + n → coming_in w ≤ most_standings
+coming_low first n w none few devices = let first_few = none.2 in omega (arith, few, devices, first_few)
 
 abbrev pub KeptAfter : World → ℕ → List (Option Step) → EventsOfRuns → List ℕ → LineOutcome (Option Script × World) → Type 0
 KeptAfter first n done runs text (Writes more (Some s, w)) = Kept first n done runs (text ++ more) s w
@@ -128,7 +134,8 @@ setup_kept first n done runs text s w step setup lt opened h given =
       few = omega (arith, lt);
       holds = subst (λ (d : DaemonState). HoldsOf d w) (sym new) (record { told = h.holds.told; sound = h.holds.sound; stand = no_standing w.kernel });
       on_entries = h.on_entries;
-      few_standings = let same = ap (λ (d : DaemonState). length d.sweep.standings) new in omega (arith, same);
+      few_devices = let few = h.few_devices in omega (arith, few);
+      stream = ap (λ (d : DaemonState). d.stream.messages) new;
       bus = h.bus;
       fits = λ e.
           let low : w.faults ≤ 2199023255552 * n = (h.fits e).few_faults in
@@ -165,15 +172,16 @@ kept_when first n done runs text false o s w x = tt
 
 -- ---- a line that changes neither the policy nor the daemon
 
-pub on_kept : (first : World) (n : ℕ) (done : List (Option Step)) (runs : EventsOfRuns) (text : List ℕ) (s : Script) (w v : World) (step : Option Step) (phase : Phase) (plan : List Planned) → n < 1048576 → Kept first n done runs text s w → daemon_by s.setup phase ≡ daemon_in s → disk_by s.setup phase ≡ disk_in s → has_started phase ≡ has_started s.phase → IsGiven (n + 1) (done ++ step ∷ []) s.setup → HoldsOf (daemon_in s) v → Moves w.kernel v.kernel → v.faults ≡ w.faults → (IsSoundWorld w → IsSoundWorld v)
+pub on_kept : (first : World) (n : ℕ) (done : List (Option Step)) (runs : EventsOfRuns) (text : List ℕ) (s : Script) (w v : World) (step : Option Step) (phase : Phase) (plan : List Planned) → n < 1048576 → Kept first n done runs text s w → daemon_by s.setup phase ≡ daemon_in s → disk_by s.setup phase ≡ disk_in s → has_started phase ≡ has_started s.phase → IsGiven (n + 1) (done ++ step ∷ []) s.setup → HoldsOf (daemon_in s) v → Moves w.kernel v.kernel → v.faults ≡ w.faults → (IsSoundWorld w → IsSoundWorld v) → coming_in v ≤ coming_in w + 1
     → (AreQuiet (done ++ step ∷ []) → IsUnfailing first → IsUnfailing v) → (AreQuiet (done ++ step ∷ []) → first.moves ≡ [] → v.moves ≡ []) → (AreQuiet (done ++ step ∷ []) → plan ≡ []) → Kept first (n + 1) (done ++ step ∷ []) runs text (record s { phase = phase; planned = plan }) v
-on_kept first n done runs text s w v step phase plan lt h same on event_begun given holds moves faults keeps unfailing unmoved unplanned =
+on_kept first n done runs text s w v step phase plan lt h same on event_begun given holds moves faults keeps devices unfailing unmoved unplanned =
     let new : DaemonState = started_at h.start.number (beside_of s.setup) (with_rules h.start.rules (policy_of s.setup)) in
     record {
       few = omega (arith, lt);
       holds = subst (λ (d : DaemonState). HoldsOf d v) (sym same) holds;
       on_entries = λ g. moves_on_entries w.kernel v.kernel moves (h.on_entries g);
-      few_standings = let few = h.few_standings in let long = ap (λ (d : DaemonState). length d.sweep.standings) same in omega (arith, few, long);
+      few_devices = let few = h.few_devices in omega (arith, few, devices);
+      stream = ap (λ (d : DaemonState). d.stream.messages) same ∙ h.stream;
       bus = λ b. keeps (h.bus b);
       fits = λ e.
           let d : DaemonState = daemon_in s in
@@ -205,7 +213,7 @@ pub closed_now : {X : Type 0} → false ≡ true → X
 closed_now e = let none : ⊥ = cc in absurd none
 
 pub skip_kept : (first : World) (n : ℕ) (done : List (Option Step)) (runs : EventsOfRuns) (text : List ℕ) (s : Script) (w : World) → n < 1048576 → Kept first n done runs text s w → Kept first (n + 1) (done ++ Some Skip ∷ []) runs text s w
-skip_kept first n done runs text s w lt h = on_kept first n done runs text s w w (Some Skip) s.phase s.planned lt h refl refl refl (given_still n done (Some Skip) s.setup refl refl refl refl refl refl refl h.given) h.holds (unmoving w.kernel) refl (λ b. b) (λ q. h.unfailing (quiet_front done (Some Skip) q).0) (λ q. h.unmoved (quiet_front done (Some Skip) q).0) (λ q. h.unplanned (quiet_front done (Some Skip) q).0)
+skip_kept first n done runs text s w lt h = on_kept first n done runs text s w w (Some Skip) s.phase s.planned lt h refl refl refl (given_still n done (Some Skip) s.setup refl refl refl refl refl refl refl h.given) h.holds (unmoving w.kernel) refl (λ b. b) (omega arith) (λ q. h.unfailing (quiet_front done (Some Skip) q).0) (λ q. h.unmoved (quiet_front done (Some Skip) q).0) (λ q. h.unplanned (quiet_front done (Some Skip) q).0)
 
 -- ---- an event
 
@@ -221,12 +229,12 @@ is_event first n done runs text event s w h =
     let m : World = halted a.disk a.world in
     let runs = play_runs (handling a.daemon) m in
     let made = made_by event d w o h.holds in
-    let tells = swept_tells a.daemon m in
+    let tells = swept_tells a.daemon m (due_order event d w o) in
     record {
       answers = answers event d w o h.holds;
       handled = handled event d w o h.holds;
       file = event_file event d w o;
-      saves = tries_save Gives calls_of faults_of MemKeeps event o d tried q (start_of d w o) a.became made.made a.world a.disk a.daemon m p.world p.daemon tells.swept (play_runs_disk (trying d) o) (order_runs event (ready event tried d) (start_of d w o) q) made.goes tells.tells.goes tells.entries (event_keeps_pending Gives m a.daemon p.daemon p.world runs);
+      saves = tries_save Gives calls_of faults_of MemKeeps event o d tried q (start_of d w o) a.became made.made a.world a.disk a.daemon m p.world p.daemon tells.swept (play_runs_disk (trying d) o) (order_runs event (ready event tried d) (start_of d w o) q) made.goes tells.goes tells.entries (event_keeps_pending Gives m a.daemon p.daemon p.world runs);
     }
 
 -- the chain with that event
@@ -246,6 +254,7 @@ event_possible event d w o told is = by_event event (ready event (tried_by d o).
   where
     by_event : (event : events.Event) (r : DaemonState) (m : World) (q : DiskWorld) → q.ran_out ≡ false → IsImage q.disk.left q.disk.text → IsImage (order_played_by event r m q).disk.disk.left (order_played_by event r m q).disk.disk.text
     by_event (Sweep moment) r m q told is = is
+    by_event (Hint moment piece) r m q told is = is
     by_event (Order moment who line) r m q told is = play_stays_possible (storing r (play (asking r who line) m).0.change) q told is
 
 -- what one event and its pass write
@@ -278,10 +287,10 @@ event_stood first n done runs text event s w h f r =
     let k = readable_front runs.last this r in
     event_stands runs.last this k.1 (disk_in s).disk.text (event_of event s w).disk.disk.text (event_text event (daemon_in s) w (disk_of s) h.kept) (h.stands f k.0)
 
-pub event_kept : (first : World) (n : ℕ) (done : List (Option Step)) (runs : EventsOfRuns) (text : List ℕ) (event : events.Event) (s : Script) (w : World) → n < 1048576 → Kept first n done runs text s w
+pub event_kept : (first : World) (n : ℕ) (done : List (Option Step)) (runs : EventsOfRuns) (text : List ℕ) (event : events.Event) (s : Script) (w : World) → n < 1048576 → FitsEvent event → Kept first n done runs text s w
     → (pass : List ℕ) → pass ≡ (pass_behind s.setup.ifaces (event_of event s w).daemon (event_of event s w).world).text
     → Kept first (n + 1) (done ++ Some (Event event) ∷ []) (with_events (happened_at event s w ∷ []) (pass ∷ []) runs) (text ++ finished_text s.setup.ifaces (event_of event s w)) (with_played s (left_played s.setup.ifaces (event_of event s w))) (left_played s.setup.ifaces (event_of event s w)).world
-event_kept first n done runs text event s w lt h pass passed =
+event_kept first n done runs text event s w lt fits h pass passed =
     let d : DaemonState = daemon_in s in
     let o : DiskWorld = disk_of s in
     let p = event_of event s w in
@@ -295,9 +304,10 @@ event_kept first n done runs text event s w lt h pass passed =
       few = omega (arith, lt);
       holds = behind_holds p.daemon p.world left behind (event_ends event d w o h.holds);
       on_entries = λ g. moves_on_entries p.world.kernel left.kernel behind.moves (event_ends_on_entries event d w o h.holds (h.on_entries g));
-      few_standings = (event_few event d w o h.holds h.few_standings).1;
+      few_devices = let before = h.few_devices in let one = event_devices event d w o in let rest = behind.few in omega (arith, before, one, rest);
+      stream = event_stream event d w o h.holds h.stream;
       bus = λ b. left_sound event d w o s.setup.ifaces h.holds (h.bus b);
-      fits = λ e. pass_fits n event d w o s.setup.ifaces lt h.holds h.kept h.few_standings (h.bus e.1) (h.fits e);
+      fits = λ e. pass_fits n event d w o s.setup.ifaces lt h.holds h.kept (coming_low first n w e h.few h.few_devices) fits h.stream (h.bus e.1) (h.fits e);
       given = given_still n done step s.setup refl refl refl refl refl refl refl h.given;
       kept = event_disk event d w o h.kept;
       possible = event_possible event d w o h.kept h.possible;

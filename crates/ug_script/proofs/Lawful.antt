@@ -1,5 +1,5 @@
 -- Each line keeps the kernel sound and each standing of a device.
-use Rattle.std.proofs.Common.{◌≡◌, ℕ, ◌++◌, Bool, true, false, ◌||◌, List, [], ◌∷◌, Option, Some, None, refl, sym, ◌∙◌, ap, subst}
+use Rattle.std.proofs.Common.{◌≡◌, ℕ, ◌++◌, Bool, true, false, ◌||◌, List, [], ◌∷◌, Option, Some, None, refl, sym, ◌∙◌, ap, subst, inl}
 use Rattle.std.proofs.lemmas.Option.{same_Some}
 use Rattle.ug_kernel.specs.Kernel.{Kernel, IsKernel, Moves}
 use Rattle.ug_kernel.proofs.Grow.{quiet_grows}
@@ -13,23 +13,24 @@ use Rattle.ug_sysfs.specs.Sound.{moved_sound, happened_sound}
 use Rattle.ug_types.specs.Elements.{AllDistinct}
 use Rattle.ug_audit.specs.declared.entry.Entry as entries
 use Rattle.ug_audit.specs.declared.entry.Entry.TheVariants as entry
-use Rattle.ug_table.specs.State.{State}
-use Rattle.ug_table.specs.Sweep.{sweeping}
-use Rattle.ug_table.specs.Laws.{Stand, Swept}
+use Rattle.ug_table.specs.State.{State, terms_for}
+use Rattle.ug_table.specs.Laws.{Stand}
 use Rattle.ug_table.specs.declared.standing.Standing.{Standing}
 use Rattle.ug_table.proofs.Devices.{stand_stays}
-use Rattle.ug_table.specs.Parts.{unsettled_names}
+use Rattle.ug_table.specs.Parts.{NamesOnce, unsettled_names}
 use Rattle.ug_table.proofs.Swept.{told_swept}
 use Rattle.ug_table.proofs.Faults.{sweeping_tells}
 use Rattle.ug_table.proofs.Once.{told_once}
+use Rattle.ug_table.proofs.Several.{names_part, told_names}
 use Rattle.ug_simulation.specs.Play.{play, tells_memory}
 use Rattle.ug_simulation.proofs.Wants.{memory_more}
 use Rattle.ug_simulation.proofs.Plays.{Fixed, fails_stay, play_runs, play_told, play_then, play_way}
+use Rattle.ug_uevent.specs.Streams.{Stream}
 use Rattle.ug_core.specs.Event as event
 use Rattle.ug_core.specs.Policy.{Judging, policy_answer, policy_later}
 use Rattle.ug_core.specs.Event.{DaemonState, handling, ready}
 use Rattle.ug_core.specs.Answering.{acting, asking, deed_after}
-use Rattle.ug_kernel.specs.Tree.{Prog, Return, Ask, Room}
+use Rattle.ug_kernel.specs.Tree.{Prog, Return, Ask, Room, Runs}
 use Rattle.ug_types.specs.declared.saved.Saved.{Saved}
 use Rattle.ug_types.specs.declared.saved.Saved.TheVariants as saved
 use Rattle.ug_store.specs.PlayDisk.{play_disk}
@@ -37,13 +38,16 @@ use Rattle.ug_store.specs.Scripted.{IsUnplanned, DiskWorld, MemKeeps}
 use Rattle.ug_store.proofs.PlayedDisk.{play_keeps_unplanned, play_runs_disk, play_stays_told}
 use Rattle.ug_simulation.specs.Play.{NameNobody}
 use Rattle.ug_simulation.proofs.Sweeps.{nobody_more}
-use Rattle.ug_core.specs.Laws.{AnswersEvent, Handled, RunsAnswer, TellsSweep, TellsEvent}
+use Rattle.ug_core.specs.Due.{AreDueInOrder, SettlesDueIn, TellsDue}
+use Rattle.ug_core.specs.Laws.{AnswersEvent, Handled, RunsAnswer, SettlesDue, TellsSweep, TellsEvent}
 use Rattle.ug_core.specs.Storing.{stored_with, storing}
 use Rattle.ug_core.specs.Event.{trying}
 use Rattle.ug_core.specs.declared.daemon.Event.{Event}
-use Rattle.ug_core.specs.declared.daemon.Event.TheVariants.{Sweep, Order}
+use Rattle.ug_core.specs.declared.daemon.Event.TheVariants.{Sweep, Order, Hint}
 use Rattle.ug_core.proofs.Kept.{sweep_adds}
-use Rattle.ug_core.proofs.Plain.{sweep_keeps_hub}
+use Rattle.ug_core.proofs.Handled as handled_names
+use Rattle.ug_core.proofs.Handled.{names_settle, names_tell, sweep_tells}
+use Rattle.ug_core.proofs.Plain.{due_keeps_hub}
 use Rattle.ug_core.proofs.Answered.{Answered, answering_made, answering_told, answered_stands, ready_failures, ready_names}
 use Rattle.ug_core.proofs.Failures.{event_tells, event_names}
 use Rattle.ug_script.specs.declared.step.Plan.{Plan}
@@ -52,7 +56,9 @@ use Rattle.ug_script.specs.Replay.{order_played_by, answered_from, event_from, h
 use Rattle.ug_script.specs.Laws.{calls_of, faults_of}
 use Rattle.ug_script.proofs.Answers.{SweepsSo, handling_ways}
 use Rattle.ug_script.proofs.Halts.{answered_unplanned, answered_unstopped, halted_calls, halted_kernel, halted_not, halted_told}
-use Rattle.ug_script.proofs.OrdersPlayed.{answered_saved, answered_so, answered_told, trying_so}
+use Rattle.ug_script.proofs.HintsRead.{played_takes}
+use Rattle.ug_script.proofs.LastStages.{last_stage}
+use Rattle.ug_script.proofs.OrdersPlayed.{answered_order, answered_saved, answered_so, answered_stream, answered_told, trying_so}
 
 pub record Holds (standings : List Standing) (next : ℕ) (w : World) : Type 0 where
   pub told : w.ran_out ≡ false
@@ -72,6 +78,7 @@ told_at w e = rw e refl
 
 pub order_runs : (event : Event) (d : DaemonState) (w : World) (o : DiskWorld) → RunsAnswer Gives MemKeeps event w o d (order_played_by event d w o).became (order_played_by event d w o).world (order_played_by event d w o).disk (order_played_by event d w o).daemon
 order_runs (Sweep moment) d w o = (refl, refl, refl, refl)
+order_runs (Hint moment piece) d w o = (refl, refl, refl, inl (played_takes piece d))
 order_runs (Order moment who line) d w o =
     let c = play (asking d who line) w in
     let b = play_disk (storing d c.0.change) o in
@@ -86,6 +93,7 @@ order_runs (Order moment who line) d w o =
 -- a kernel that is told stays so
 world_told : (event : Event) (d : DaemonState) (w : World) (o : DiskWorld) → w.ran_out ≡ false → (order_played_by event d w o).world.ran_out ≡ false
 world_told (Sweep moment) d w o told = told
+world_told (Hint moment piece) d w o told = told
 world_told (Order moment who line) d w o told =
     let c = play (asking d who line) w in
     let b = play_disk (storing d c.0.change) o in
@@ -99,6 +107,7 @@ play_calm (Room next) w e = play_calm (next true) w e
 
 world_calm : (event : Event) (d : DaemonState) (w : World) (o : DiskWorld) → IsUnfailing w → IsUnfailing (order_played_by event d w o).world
 world_calm (Sweep moment) d w o none = none
+world_calm (Hint moment piece) d w o none = none
 world_calm (Order moment who line) d w o none =
     let c = play (asking d who line) w in
     let b = play_disk (storing d c.0.change) o in
@@ -132,27 +141,52 @@ halted_holds d o w h = record {
   stand = subst (λ (k : Kernel). Stand k d.sweep.standings d.sweep.next) (sym (halted_kernel o w)) h.stand;
 }
 
--- ---- the sweep behind it
+-- ---- the last stage
 
-pub plays_sweep : (a : DaemonState) (m : World) → play (handling a) m ≡ play (event.ended a (play (sweeping policy_answer policy_later a.sweep) m).0) (play (sweeping policy_answer policy_later a.sweep) m).1
+-- the names that are due are in order
+pub due_order : (event : Event) (d : DaemonState) (w : World) (o : DiskWorld) → AreDueInOrder (answered_from event d w o).daemon.due
+due_order event d w o = answered_order event (ready event (tried_by d o).0 d) (halted (tried_by d o).1 (event_begun w)) (tried_by d o).1 tt
+
+pub plays_sweep : (a : DaemonState) (m : World) → play (handling a) m ≡ play (event.ended a (play (event.settling_due a.due a.sweep) m).0) (play (event.settling_due a.due a.sweep) m).1
 unfolding handling
-plays_sweep a m = play_then (sweeping policy_answer policy_later a.sweep) (event.ended a) m
+plays_sweep a m = play_then (event.settling_due a.due a.sweep) (event.ended a) m
 
-pub swept_from : (a : DaemonState) (m : World) → HoldsOf a m → Handled m.kernel a (play (handling a) m).1.kernel (play (handling a) m).0
-swept_from a m h =
-    let p = sweeping policy_answer policy_later a.sweep in
+due_settles : (due : Option (List (List ℕ))) (w : State Judging) (m t : World) (v : State Judging) → AreDueInOrder due → Runs Gives m (event.settling_due due w) v t → SettlesDueIn told due m w t v
+due_settles None w m t v order r = told_swept Gives told does_what_it_may policy_answer policy_later m w t v r
+due_settles (Some names) w m t v order r =
+    names_settle Gives calls_of faults_of told names m w t v order
+    (names_part Gives calls_of faults_of counts_each policy_answer policy_later (terms_for w) names m w t v r order)
+    (told_names Gives told does_what_it_may policy_answer policy_later (terms_for w) names m w t v r)
+
+due_once : (due : Option (List (List ℕ))) (w : State Judging) (m t : World) (v : State Judging) → AreDueInOrder due → Runs Gives m (event.settling_due due w) v t → NamesOnce told m w t v
+due_once None w m t v order r = told_once Gives told does_what_it_may policy_answer policy_later m w t v r
+due_once (Some names) w m t v order r =
+    handled_names.names_once Gives calls_of faults_of told names m w t v order
+    (names_part Gives calls_of faults_of counts_each policy_answer policy_later (terms_for w) names m w t v r order)
+    (told_names Gives told does_what_it_may policy_answer policy_later (terms_for w) names m w t v r)
+
+due_tells : (due : Option (List (List ℕ))) (w : State Judging) (m t : World) (v : State Judging) → AreDueInOrder due → Runs Gives m (event.settling_due due w) v t → TellsDue Gives calls_of faults_of due m w t v
+due_tells None w m t v order r = sweep_tells Gives calls_of faults_of m w t v (sweeping_tells Gives calls_of faults_of counts_each policy_answer policy_later m w t v r)
+due_tells (Some names) w m t v order r =
+    names_tell Gives calls_of faults_of names m w t v (names_part Gives calls_of faults_of counts_each policy_answer policy_later (terms_for w) names m w t v r order)
+
+pub swept_from : (a : DaemonState) (m : World) → AreDueInOrder a.due → HoldsOf a m → Handled m.kernel a (play (handling a) m).1.kernel (play (handling a) m).0
+swept_from a m order h =
+    let p = event.settling_due a.due a.sweep in
     let v : State Judging = (play p m).0 in
     let t : World = (play p m).1 in
     let run : t.ran_out ≡ false = play_told p m h.told in
-    let swept = told_swept Gives told does_what_it_may policy_answer policy_later m a.sweep t v (play_runs p m) t.kernel (told_at t run) in
+    let swept = due_settles a.due a.sweep m t v order (play_runs p m) t.kernel (told_at t run) in
     let same : swept.0 ≡ m.kernel = same_Some swept.0 m.kernel (sym swept.1 ∙ told_at m h.told) in
     rw (plays_sweep a m) (record {
       swept = v;
-      law = subst (λ (k : Kernel). Swept policy_answer policy_later k a.sweep t.kernel v) same (swept.2 (rw same h.sound) (rw same h.stand));
+      law = subst (λ (k : Kernel). SettlesDue a.due k a.sweep t.kernel v) same (swept.2 (rw same h.sound) (rw same h.stand));
       entries = refl;
-      hub = sweep_keeps_hub Gives m a.sweep v t (play_runs p m);
+      hub = due_keeps_hub Gives a.due m a.sweep v t (play_runs p m);
       access = refl;
       pending = refl;
+      stream = refl;
+      due = refl;
       event = refl;
       reply = refl;
       watch = refl;
@@ -163,7 +197,13 @@ pub handled : (event : Event) (d : DaemonState) (w : World) (o : DiskWorld) → 
 handled event d w o h =
     let a = answered_from event d w o in
     let p = event_from event d w o in
-    subst (λ (k : Kernel). Handled k a.daemon p.world.kernel p.daemon) (halted_kernel a.disk a.world) (swept_from a.daemon (halted a.disk a.world) (halted_holds a.daemon a.disk a.world (answered_holds event d w o h)))
+    subst (λ (k : Kernel). Handled k a.daemon p.world.kernel p.daemon) (halted_kernel a.disk a.world) (swept_from a.daemon (halted a.disk a.world) (due_order event d w o) (halted_holds a.daemon a.disk a.world (answered_holds event d w o h)))
+
+-- no message is left of a piece
+pub event_stream : (event : Event) (d : DaemonState) (w : World) (o : DiskWorld) → HoldsOf d w → d.stream.messages ≡ [] → (event_from event d w o).daemon.stream.messages ≡ []
+event_stream event d w o h none =
+    ap (λ (s : Stream). s.messages) (handled event d w o h).stream
+    ∙ answered_stream event (ready event (tried_by d o).0 d) (halted (tried_by d o).1 (event_begun w)) (tried_by d o).1 none
 
 -- an event, and what is still to come behind it
 pub event_holds : (event : Event) (d : DaemonState) (w : World) (o : DiskWorld) → HoldsOf d w → HoldsOf (event_from event d w o).daemon (over (event_from event d w o).world)
@@ -171,10 +211,11 @@ event_holds event d w o h =
     let a = answered_from event d w o in
     let p = event_from event d w o in
     let law = handled event d w o h in
+    let last = last_stage a.daemon.due a.world.kernel a.daemon.sweep p.world.kernel law.swept law.law in
     record {
       told = play_told (handling a.daemon) (halted a.disk a.world) (halted_holds a.daemon a.disk a.world (answered_holds event d w o h)).told;
-      sound = happened_sound p.world.moves p.world.kernel law.law.fair.sound;
-      stand = moves_on p.daemon.sweep.standings p.daemon.sweep.next p.world.kernel (over p.world).kernel (happened_moves p.world.moves p.world.kernel) (subst (λ (v : State Judging). Stand p.world.kernel v.standings v.next) (sym law.entries) law.law.fair.stand);
+      sound = happened_sound p.world.moves p.world.kernel last.sound;
+      stand = moves_on p.daemon.sweep.standings p.daemon.sweep.next p.world.kernel (over p.world).kernel (happened_moves p.world.moves p.world.kernel) (subst (λ (v : State Judging). Stand p.world.kernel v.standings v.next) (sym law.entries) last.stand);
     }
 
 -- a disk that is told stays so
@@ -199,12 +240,13 @@ no_standing k = record { devices = λ s a. absurd a; hashes = λ s a. absurd a; 
 
 -- what the event's entries tell of its calls
 
-pub swept_tells : (a : DaemonState) (m : World) → TellsSweep Gives calls_of faults_of m a (play (handling a) m).1 (play (handling a) m).0
-swept_tells a m =
-    let p = sweeping policy_answer policy_later a.sweep in
+pub swept_tells : (a : DaemonState) (m : World) → AreDueInOrder a.due → TellsSweep Gives calls_of faults_of m a (play (handling a) m).1 (play (handling a) m).0
+swept_tells a m order =
+    let p = event.settling_due a.due a.sweep in
     let v : State Judging = (play p m).0 in
     let t : World = (play p m).1 in
-    rw (plays_sweep a m) (record { swept = v; tells = sweeping_tells Gives calls_of faults_of counts_each policy_answer policy_later m a.sweep t v (play_runs p m); entries = refl })
+    let law = due_tells a.due a.sweep m t v order (play_runs p m) in
+    rw (plays_sweep a m) (record { swept = v; goes = law.goes; exact = law.exact; numbered = law.numbered; rises = law.rises; entries = refl })
 
 -- what the order begins with, on the kernel
 abbrev pub start_of : DaemonState → World → DiskWorld → World
@@ -226,7 +268,7 @@ tells_event event d w o h unstopped =
     let p = event_from event d w o in
     let made = made_by event d w o h in
     let before : q.stopped ≡ false = answered_unstopped event r (start_of d w o) q unstopped in
-    let sweep : TellsSweep Gives calls_of faults_of a.world a.daemon p.world p.daemon = subst (λ (v : World). TellsSweep Gives calls_of faults_of v a.daemon p.world p.daemon) (halted_not a.disk a.world unstopped) (swept_tells a.daemon (halted a.disk a.world)) in
+    let sweep : TellsSweep Gives calls_of faults_of a.world a.daemon p.world p.daemon = subst (λ (v : World). TellsSweep Gives calls_of faults_of v a.daemon p.world p.daemon) (halted_not a.disk a.world unstopped) (swept_tells a.daemon (halted a.disk a.world) (due_order event d w o)) in
     subst (λ (v : World). TellsEvent Gives calls_of faults_of event v r a.became a.world a.daemon p.world p.daemon) (halted_not q (event_begun w) before)
     (event_tells Gives calls_of faults_of counts_each event (start_of d w o) r a.became a.world a.daemon p.world p.daemon made.made (halted_calls q (event_begun w)) made.along made.goes made.told sweep)
 
@@ -235,15 +277,15 @@ pub event_adds : (event : Event) (d : DaemonState) (w : World) (o : DiskWorld) �
 event_adds event d w o =
     let a = answered_from event d w o in
     let p = event_from event d w o in
-    sweep_adds Gives calls_of faults_of (halted a.disk a.world) a.daemon p.world p.daemon (swept_tells a.daemon (halted a.disk a.world))
+    sweep_adds Gives calls_of faults_of (halted a.disk a.world) a.daemon p.world p.daemon (swept_tells a.daemon (halted a.disk a.world) (due_order event d w o))
 
-swept_once : (a : DaemonState) (m : World) → unsettled_names a.sweep.entries ≡ [] → HoldsOf a m → AllDistinct (unsettled_names (play (handling a) m).0.sweep.entries)
-swept_once a m nameless h =
-    let p = sweeping policy_answer policy_later a.sweep in
+swept_once : (a : DaemonState) (m : World) → AreDueInOrder a.due → unsettled_names a.sweep.entries ≡ [] → HoldsOf a m → AllDistinct (unsettled_names (play (handling a) m).0.sweep.entries)
+swept_once a m order nameless h =
+    let p = event.settling_due a.due a.sweep in
     let v : State Judging = (play p m).0 in
     let t : World = (play p m).1 in
     let run : t.ran_out ≡ false = play_told p m h.told in
-    let once = told_once Gives told does_what_it_may policy_answer policy_later m a.sweep t v (play_runs p m) t.kernel (told_at t run) in
+    let once = due_once a.due a.sweep m t v order (play_runs p m) t.kernel (told_at t run) in
     let same : once.0 ≡ m.kernel = same_Some once.0 m.kernel (sym once.1 ∙ told_at m h.told) in
     let r = once.2 (rw same h.sound) (rw same h.stand) in
     rw (plays_sweep a m) (event_names a.event a.sweep.entries r.0 (v.entries ++ entry.End a.event ∷ []) nameless (ap (λ (es : List entries.Entry). es ++ entry.End a.event ∷ []) r.1) r.2)
@@ -251,7 +293,7 @@ swept_once a m nameless h =
 pub names_once : (event : Event) (d : DaemonState) (w : World) (o : DiskWorld) → HoldsOf d w → AllDistinct (unsettled_names (event_from event d w o).daemon.sweep.entries)
 names_once event d w o h =
     let a = answered_from event d w o in
-    swept_once a.daemon (halted a.disk a.world) (made_by event d w o h).nameless (halted_holds a.daemon a.disk a.world (answered_holds event d w o h))
+    swept_once a.daemon (halted a.disk a.world) (due_order event d w o) (made_by event d w o h).nameless (halted_holds a.daemon a.disk a.world (answered_holds event d w o h))
 
 -- ---- what an event's entries don't tell
 
@@ -264,6 +306,9 @@ ready_sure (Sweep moment) d None sure = refl
 ready_sure (Sweep moment) d (Some saved.Done) sure = refl
 ready_sure (Sweep moment) d (Some (saved.Failed count)) sure = refl
 ready_sure event d (Some saved.Memory) sure = absurd (sure refl)
+ready_sure (Hint moment piece) d None sure = refl
+ready_sure (Hint moment piece) d (Some saved.Done) sure = refl
+ready_sure (Hint moment piece) d (Some (saved.Failed count)) sure = refl
 ready_sure (Order moment who line) d None sure = refl
 ready_sure (Order moment who line) d (Some saved.Done) sure = refl
 ready_sure (Order moment who line) d (Some (saved.Failed count)) sure = refl
@@ -271,6 +316,8 @@ ready_sure (Order moment who line) d (Some (saved.Failed count)) sure = refl
 ready_nobody : (event : Event) (d : DaemonState) (tried : Option Saved) → NameNobody (ready event tried d).sweep.entries
 ready_nobody (Sweep moment) d None = refl
 ready_nobody (Sweep moment) d (Some became) = refl
+ready_nobody (Hint moment piece) d None = refl
+ready_nobody (Hint moment piece) d (Some became) = refl
 ready_nobody (Order moment who line) d None = refl
 ready_nobody (Order moment who line) d (Some became) = refl
 

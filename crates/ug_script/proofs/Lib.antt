@@ -1,6 +1,9 @@
 pub mod Answers
 pub mod Moments
 pub mod NamesRead
+mod DistinctFew
+mod FewDevices
+pub mod HintsRead
 pub mod Readable
 pub mod AccessLines
 pub mod KeptRules
@@ -8,6 +11,8 @@ pub mod Folders
 pub mod Phases
 pub mod Halts
 pub mod EventSteps
+pub mod LastStages
+pub mod Takings
 pub mod Starts
 pub mod Restarts
 pub mod OrdersPlayed
@@ -27,7 +32,8 @@ pub mod Filed
 pub mod FolderKept
 mod FirstStop
 mod WholeLines
-mod Counted
+pub mod Counted
+pub mod EntryCounts
 mod Summed
 pub mod LineCuts
 pub mod LineTables
@@ -36,6 +42,7 @@ pub mod Zones
 pub mod FileWords
 pub mod IfaceLines
 pub mod FolderReads
+pub mod HintLines
 pub mod LineReads
 pub mod Turns
 pub mod Schedules

@@ -31,7 +31,7 @@ use Rattle.ug_sysfs.specs.declared.script.Move.TheVariants as move
 use Rattle.ug_sysfs.specs.declared.script.NewDevice.{NewDevice}
 use Rattle.ug_sysfs.specs.declared.script.Scheduled.{Scheduled}
 use Rattle.ug_core.specs.declared.daemon.Event.{Event}
-use Rattle.ug_core.specs.declared.daemon.Event.TheVariants.{Sweep, Order}
+use Rattle.ug_core.specs.declared.daemon.Event.TheVariants.{Sweep, Order, Hint}
 use Rattle.ug_script.specs.declared.line_word.LineWord.{LineWord}
 use Rattle.ug_script.specs.declared.line_word.LineWord.TheVariants as word
 use Rattle.ug_script.specs.declared.step.AccessLine.{AccessLine}
@@ -41,7 +41,7 @@ use Rattle.ug_script.specs.declared.step.SetupLine.{SetupLine}
 use Rattle.ug_script.specs.declared.step.SetupLine.TheVariants as setup
 use Rattle.ug_script.specs.declared.step.Step.{Step}
 use Rattle.ug_script.specs.declared.step.Step.TheVariants as step
-use Rattle.ug_script.specs.Grammar.{disk_fail_of, failing_at, failing_of, fails_on_disk, folder_line_of, grant_of, granting, in_access, in_iface_rule, in_rule, is_effect, is_fail, left_by, mishap_of, move_behind, move_by, move_of, order_at, order_of, scheduled_at, scheduled_of, step_behind, step_by, step_of_line, stop_of, stopping_at}
+use Rattle.ug_script.specs.Grammar.{disk_fail_of, failing_at, failing_of, fails_on_disk, folder_line_of, grant_of, granting, hint_of, in_access, in_iface_rule, in_rule, is_effect, is_fail, left_by, mishap_of, move_behind, move_by, move_of, order_at, order_of, scheduled_at, scheduled_of, step_behind, step_by, step_of_line, stop_of, stopping_at}
 use Rattle.ug_script.specs.IfaceLines.{iface_name_of, new_iface_of}
 use Rattle.ug_script.specs.LineGrammar.{AsksFor, IsCall, IsDiskFail, IsEventLine, IsMoment, IsMoveLine, IsOrderLine, IsPassedOver, IsPlanLine, IsPlug, IsScheduled, IsSetupLine, IsShortName, IsStopLine, effect_words, left_words, mishap_words, start_word, when_word}
 use Rattle.ug_script.specs.LineWords.{line_word_of}
@@ -50,6 +50,7 @@ use Rattle.ug_script.specs.Words.{bytes_of, call_in, call_of, cut_by_space, is_e
 use Rattle.ug_script.proofs.AccessLines.{access_text, graphic_apart, principal_so, so_principal}
 use Rattle.ug_script.proofs.FileWords.{files_so, so_files}
 use Rattle.ug_script.proofs.FolderReads.{folder_so, so_folder}
+use Rattle.ug_script.proofs.HintLines.{hint_so, so_hint}
 use Rattle.ug_script.proofs.HexWords.{bytes_so, hex_apart, seed_so, so_bytes, so_seed}
 use Rattle.ug_script.proofs.IfaceLines.{iface_so, so_iface, so_uniface, uniface_so}
 use Rattle.ug_script.proofs.LineCuts.{Space, bound, cut_alone, cut_found, cut_so, mapped, so_cut, space}
@@ -171,6 +172,7 @@ moves_so word.Disk text action h = absurd (none-some action h)
 moves_so word.Stop text action h = absurd (none-some action h)
 moves_so word.Sweep text action h = absurd (none-some action h)
 moves_so word.Order text action h = absurd (none-some action h)
+moves_so word.Hint text action h = absurd (none-some action h)
 moves_so word.Rule text action h = absurd (none-some action h)
 moves_so word.Folder text action h = absurd (none-some action h)
 moves_so word.Conf text action h = absurd (none-some action h)
@@ -432,6 +434,7 @@ behind_so word.Sweep text asked h =
     let n = (moment_text text m.0).0 m.1 in
     subst (AsksFor (codes "sweep " ++ text)) m.2 (ap (λ (t : List ℕ). codes "sweep " ++ t) n.0, n.1)
 behind_so word.Order text asked h = let m = mapped step.Event (order_of text) asked h in subst (AsksFor (codes "order " ++ text)) m.2 (order_so text m.0 m.1)
+behind_so word.Hint text asked h = let m = mapped step.Event (hint_of text) asked h in subst (AsksFor (codes "hint " ++ text)) m.2 (hint_so text m.0 m.1)
 behind_so word.Rule text asked h = let m = mapped step.Setup (in_rule (rule_read text)) asked h in subst (AsksFor (codes "rule " ++ text)) m.2 (rule_so text m.0 m.1)
 behind_so word.Folder text asked h =
     let m = mapped step.Setup (folder_line_of text) asked h in
@@ -503,6 +506,7 @@ reads_on word.Disk text = reads_further 100 (codes "isk " ++ text) refl refl
 reads_on word.Stop text = reads_further 115 (codes "top " ++ text) refl refl
 reads_on word.Sweep text = reads_further 115 (codes "weep " ++ text) refl refl
 reads_on word.Order text = reads_further 111 (codes "rder " ++ text) refl refl
+reads_on word.Hint text = reads_further 104 (codes "int " ++ text) refl refl
 reads_on word.Rule text = reads_further 114 (codes "ule " ++ text) refl refl
 reads_on word.Folder text = reads_further 102 (codes "older " ++ text) refl refl
 reads_on word.Conf text = reads_further 99 (codes "onf " ++ text) refl refl
@@ -537,6 +541,7 @@ so_event : (line : List ℕ) (event : Event) → IsEventLine line event → step
 unfolding step_behind
 so_event line (Sweep moment) (is, number) = line_reads word.Sweep line (decimal moment.0) _ is (ap (option_map (λ moment. step.Event (Sweep (record { 0 = moment })))) ((moment_text (decimal moment.0) moment.0).1 (refl, number)))
 so_event line (Order moment who request) o = let d = so_order line moment who request o in line_reads word.Order line d.0 _ d.1 (ap (option_map step.Event) d.2)
+so_event line (Hint moment piece) o = let d = so_hint line moment piece o in line_reads word.Hint line d.0 _ d.1 (ap (option_map step.Event) d.2)
 
 so_setup : (line : List ℕ) (asked : SetupLine) → IsSetupLine line asked → step_of_line line ≡ Some (step.Setup asked)
 unfolding step_behind

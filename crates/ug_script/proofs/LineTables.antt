@@ -36,6 +36,7 @@ word_text word.Disk = codes "disk"
 word_text word.Stop = codes "stop"
 word_text word.Sweep = codes "sweep"
 word_text word.Order = codes "order"
+word_text word.Hint = codes "hint"
 word_text word.Rule = codes "rule"
 word_text word.Folder = codes "folder"
 word_text word.Conf = codes "conf"
@@ -54,7 +55,7 @@ plan_word_written text it h = named word_text text (codes "before") word.Before 
 
 pub line_word_written : (text : List ℕ) (it : LineWord) → line_word_of text ≡ Some it → text ≡ word_text it
 unfolding line_word_of
-line_word_written text it h = named word_text text (codes "plug") word.Plug it _ refl (λ h. named word_text text (codes "unplug") word.Unplug it _ refl (λ h. named word_text text (codes "iface") word.Iface it _ refl (λ h. named word_text text (codes "uniface") word.Uniface it _ refl (λ h. named word_text text (codes "sweep") word.Sweep it _ refl (λ h. named word_text text (codes "order") word.Order it _ refl (λ h. plan_word_written text it h) h) h) h) h) h) h
+line_word_written text it h = named word_text text (codes "plug") word.Plug it _ refl (λ h. named word_text text (codes "unplug") word.Unplug it _ refl (λ h. named word_text text (codes "iface") word.Iface it _ refl (λ h. named word_text text (codes "uniface") word.Uniface it _ refl (λ h. named word_text text (codes "sweep") word.Sweep it _ refl (λ h. named word_text text (codes "order") word.Order it _ refl (λ h. named word_text text (codes "hint") word.Hint it _ refl (λ h. plan_word_written text it h) h) h) h) h) h) h) h
 
 pub line_word_read : (it : LineWord) → line_word_of (word_text it) ≡ Some it
 unfolding line_word_of plan_word_of setup_word_of
@@ -69,6 +70,7 @@ line_word_read word.Disk = refl
 line_word_read word.Stop = refl
 line_word_read word.Sweep = refl
 line_word_read word.Order = refl
+line_word_read word.Hint = refl
 line_word_read word.Rule = refl
 line_word_read word.Folder = refl
 line_word_read word.Conf = refl
@@ -89,6 +91,7 @@ word_apart word.Disk = apart_by (codes "disk") refl
 word_apart word.Stop = apart_by (codes "stop") refl
 word_apart word.Sweep = apart_by (codes "sweep") refl
 word_apart word.Order = apart_by (codes "order") refl
+word_apart word.Hint = apart_by (codes "hint") refl
 word_apart word.Rule = apart_by (codes "rule") refl
 word_apart word.Folder = apart_by (codes "folder") refl
 word_apart word.Conf = apart_by (codes "conf") refl

@@ -1,11 +1,7 @@
 -- A script's numbers don't run out within its limit of lines.
-use Rattle.std.proofs.Common.{◌≡◌, ℕ, ◌+◌, ◌*◌, ◌-◌, ◌^◌, ◌<◌, ◌≤◌, Bool, true, false, cond, ◌&&◌, ◌||◌, if◌then◌else◌, eqb, nat_lt, List, [], ◌∷◌, length, Option, Some, None, inl, inr, refl, sym, ap, subst, arith}
-use Rattle.std.specs.List.{list_any, AllByRecursion, IsDistinct}
+use Rattle.std.proofs.Common.{◌≡◌, ℕ, ◌+◌, ◌*◌, ◌-◌, ◌^◌, ◌<◌, ◌≤◌, Bool, true, false, cond, ◌&&◌, if◌then◌else◌, nat_lt, nat_le, List, [], ◌∷◌, length, Option, Some, None, inl, inr, refl, sym, ap, subst, arith}
+use Rattle.std.proofs.lemmas.Bool.{le-leb}
 use Rattle.std.proofs.lemmas.Bool.Decides.{nat_tests}
-use Rattle.std.proofs.lemmas.List.{length-map}
-use Rattle.std.proofs.lemmas.Map.Steps.{length-le_from_distinct_below}
-use Rattle.ug_types.specs.Elements.{Has, AllDistinct}
-use Rattle.ug_types.proofs.Elements.{map_has}
 use Rattle.ug_kernel.specs.declared.device.Device.{Device}
 use Rattle.ug_kernel.specs.declared.calls.Listing.{Listing}
 use Rattle.ug_kernel.specs.declared.calls.Listing.TheVariants as listing
@@ -17,16 +13,15 @@ use Rattle.ug_sysfs.specs.World.{World, Gives, event_begun, live_names, effect, 
 use Rattle.ug_sysfs.specs.Count.{counts_each}
 use Rattle.ug_sysfs.specs.Sound.{sound_happen}
 use Rattle.ug_table.specs.State.{State}
-use Rattle.ug_table.specs.Sweep.{sweeping}
-use Rattle.ug_table.specs.Laws.{Stand, numbers_of}
-use Rattle.ug_table.specs.declared.standing.Standing.{Standing}
 use Rattle.ug_simulation.specs.Play.{play}
 use Rattle.ug_simulation.proofs.Plays.{play_runs}
 use Rattle.ug_core.specs.Starting.{Marked}
 use Rattle.ug_core.specs.Event as event
-use Rattle.ug_core.specs.Event.{DaemonState, has_numbers, is_low, ready}
-use Rattle.ug_core.specs.Policy.{Judging, policy_answer, policy_later}
-use Rattle.ug_script.proofs.Spent.{Spends, found, sweeping_spends}
+use Rattle.ug_core.specs.Due.{standings_due}
+use Rattle.ug_core.specs.Event.{DaemonState, has_numbers, is_low, most_standings, ready}
+use Rattle.ug_core.specs.Hinting.{FitsEvent, longest_piece}
+use Rattle.ug_core.specs.Policy.{Judging}
+use Rattle.ug_script.proofs.Spent.{SpendsDue, due_low, due_spends, found}
 use Rattle.ug_kernel.specs.Tree.{Prog}
 use Rattle.ug_store.specs.PlayDisk.{play_disk}
 use Rattle.ug_store.specs.Scripted.{DiskWorld}
@@ -37,48 +32,14 @@ use Rattle.ug_core.specs.Event.{trying}
 use Rattle.ug_core.specs.Storing.{stored_with, storing}
 use Rattle.ug_core.specs.declared.choosing.Deed.{Deed}
 use Rattle.ug_core.specs.declared.daemon.Event.{Event}
-use Rattle.ug_core.specs.declared.daemon.Event.TheVariants.{Sweep, Order}
+use Rattle.ug_core.specs.declared.daemon.Event.TheVariants.{Sweep, Order, Hint}
 use Rattle.ug_script.specs.Replay.{order_played_by, answered_from, event_from, halted, tried_by}
 use Rattle.ug_script.proofs.Answers.{ActsSo, Asks, acting_ways, asking_ways, asks_few, is_short_deed}
-use Rattle.ug_script.proofs.OrdersPlayed.{answered_faults, answered_so, order_can, trying_so}
+use Rattle.ug_script.proofs.OrdersPlayed.{answered_faults, answered_few, answered_so, order_can, trying_so}
+use Rattle.ug_script.specs.Laws.{coming_in}
+use Rattle.ug_script.proofs.FewStandings.{event_few}
 use Rattle.ug_script.proofs.Halts.{halted_faults}
 use Rattle.ug_script.proofs.Lawful.{Holds, answered_holds, halted_holds, plays_sweep, start_of}
-
--- how many standings there are
-
-differ : (x y : ℕ) → (y ≡ x → ⊥) → eqb x y ≡ false
-differ x y n = by (eqb x y) refl
-  where
-    by : (b : Bool) → eqb x y ≡ b → b ≡ false
-    by true e = absurd (n (grind (arith, nat_tests, e)))
-    by false e = refl
-
-apart : (x : ℕ) (ys : List ℕ) → (Has ys x → ⊥) → AllByRecursion (λ y. eqb x y ≡ false) ys
-apart x [] n = tt
-apart x (y ∷ ys) n = (differ x y (λ e. n (inl e)), apart x ys (λ h. n (inr h)))
-
-distinct : (xs : List ℕ) → AllDistinct xs → IsDistinct eqb xs
-unfolding IsDistinct
-distinct [] d = tt
-distinct (x ∷ xs) d = (apart x xs d.0, distinct xs d.1)
-
-listed_has : (xs : List ℕ) (x : ℕ) → list_any (eqb x) xs ≡ true → Has xs x
-listed_has [] x e = let none : ⊥ = cc in none
-listed_has (y ∷ ys) x e = by (eqb x y) refl (listed_has ys x)
-  where
-    by : (b : Bool) → eqb x y ≡ b → (list_any (eqb x) ys ≡ true → Has ys x) → Has (y ∷ ys) x
-    by true f more = inl (grind (arith, nat_tests, f))
-    by false f more = inr (more (subst (λ (b : Bool). (b || list_any (eqb x) ys) ≡ true) f e))
-
--- no more than numbers were given out
-stand_few : (k : Kernel) (ss : List Standing) (next : ℕ) → Stand k ss next → length ss ≤ next
-stand_few k ss next stand =
-    let below : (q : ℕ) → list_any (eqb q) (numbers_of ss) ≡ true → q < next = λ q e.
-    let h = map_has (λ (s : Standing). s.number) ss q (listed_has (numbers_of ss) q e) in
-    subst (λ (v : ℕ). v < next) h.2 (stand.numbers h.0 h.1) in
-    let few = length-le_from_distinct_below (numbers_of ss) next (distinct (numbers_of ss) stand.distinct) below in
-    let same = length-map ss (λ (s : Standing). s.number) in
-    omega (arith, few, same)
 
 -- how many names a listing has
 
@@ -143,11 +104,11 @@ along_faults (m ∷ ms) s t a =
     let rest = along_faults ms a.0 t a.2 in
     omega (arith, one, rest)
 
--- how far the numbers have come after so many lines: an event gives out 65,536 device numbers at most, has no more than
--- 1 + 17 (65,536 + 65,536 * 1,048,576) calls of the kernel, and saves twice at most
+-- how far the numbers have come after so many lines: an event gives out 1,048,576 device numbers at most, has no more than
+-- 1 + 17 (65,536 + 2,097,152) calls of the kernel, and saves twice at most
 pub record Fits (lines event next id faults disk_faults : ℕ) : Type 0 where
   pub few_events : event ≤ lines + 1
-  pub few_numbers : next ≤ 65536 * lines + 1
+  pub few_numbers : next ≤ 1048576 * lines + 1
   pub few_ids : id ≤ lines + 65537
   pub few_faults : faults ≤ 2199023255552 * lines
   pub few_disk_faults : disk_faults ≤ 2 * lines
@@ -175,6 +136,7 @@ few_calls P p w most ways few =
 -- an order has five calls of the kernel at most
 pub answer_calls : (event : Event) (d : DaemonState) (w : World) (o : DiskWorld) → o.ran_out ≡ false → (order_played_by event d w o).world.faults ≤ w.faults + 5
 answer_calls (Sweep moment) d w o out = omega arith
+answer_calls (Hint moment piece) d w o out = omega arith
 answer_calls (Order moment who line) d w o out =
     let c = play (asking d who line) w in
     let b = play_disk (storing d c.0.change) o in
@@ -184,30 +146,32 @@ answer_calls (Order moment who line) d w o out =
     let acts = few_calls (ActsSo kept (is_short_deed done)) (acting who kept done) c.1 4 (acting_ways who kept done (order_can who line d w o out)) (λ ok ms x so. so.few) in
     omega (arith, asks, acts)
 
-swept_fits : (n : ℕ) (a : DaemonState) (m : World) (faults : ℕ) → n < 1048576 → Holds a.sweep.standings a.sweep.next m → a.event ≤ n + 1 → a.sweep.next ≤ 65536 * n + 1 → a.sweep.judge.next ≤ n + 65538 → m.faults ≤ 2199023255552 * n + 5 → faults ≤ 2 * n + 2 → Fits (n + 1) (play (event.handling a) m).0.event (play (event.handling a) m).0.sweep.next (play (event.handling a) m).0.sweep.judge.next (play (event.handling a) m).1.faults faults
-swept_fits n a m faults lt h old_event old_next old_id old_faults few_disk =
+swept_fits : (n : ℕ) (a : DaemonState) (m : World) (faults : ℕ) → n < 1048576 → Holds a.sweep.standings a.sweep.next m → length a.sweep.standings ≤ most_standings → standings_due a.due ≤ longest_piece → a.event ≤ n + 1 → a.sweep.next ≤ 1048576 * n + 1 → a.sweep.judge.next ≤ n + 65538 → m.faults ≤ 2199023255552 * n + 5 → faults ≤ 2 * n + 2 → Fits (n + 1) (play (event.handling a) m).0.event (play (event.handling a) m).0.sweep.next (play (event.handling a) m).0.sweep.judge.next (play (event.handling a) m).1.faults faults
+swept_fits n a m faults lt h stands names old_event old_next old_id old_faults few_disk =
     let u : State Judging = a.sweep in
-    let p = sweeping policy_answer policy_later u in
+    let p = event.settling_due a.due u in
     let v : State Judging = (play p m).0 in
     let t : World = (play p m).1 in
-    let went : Went Gives (λ ok ms x. Spends (found ms) (1 + (17 * found ms + 17 * length u.standings)) u ms x) m v t = ways_run Gives (λ ok ms x. Spends (found ms) (1 + (17 * found ms + 17 * length u.standings)) u ms x) p m v t (sweeping_spends u) (play_runs p m) in
+    let went : Went Gives (SpendsDue a.due u) m v t = ways_run Gives (SpendsDue a.due u) p m v t (due_spends a.due u) (play_runs p m) in
     let listed = found_few went.made m t h.sound went.along in
-    let stands = stand_few m.kernel a.sweep.standings a.sweep.next h.stand in
+    let low = due_low a.due went.made u names listed stands in
+    let few_next = low.0 in
+    let few_calls = low.1 in
     let faults = along_faults went.made m t went.along in
     let next = went.so.next in
     let made = went.so.made in
     let id = went.so.id in
     rw (plays_sweep a m) (record {
       few_events = omega (arith, old_event);
-      few_numbers = omega (arith, next, listed, old_next);
+      few_numbers = omega (arith, next, few_next, old_next);
       few_ids = omega (arith, id, old_id);
-      few_faults = omega (arith, lt, faults, made, listed, stands, old_next, old_faults);
+      few_faults = omega (arith, faults, made, few_calls, old_faults);
       few_disk_faults = omega (arith, few_disk);
     })
 
 -- an event
-pub event_fits : (n : ℕ) (event : Event) (d : DaemonState) (w : World) (o : DiskWorld) → n < 1048576 → Holds d.sweep.standings d.sweep.next w → o.ran_out ≡ false → FitsOf n d w o → FitsOf (n + 1) (event_from event d w o).daemon (event_from event d w o).world (event_from event d w o).disk
-event_fits n event d w o lt h out f =
+pub event_fits : (n : ℕ) (event : Event) (d : DaemonState) (w : World) (o : DiskWorld) → n < 1048576 → Holds d.sweep.standings d.sweep.next w → o.ran_out ≡ false → coming_in w ≤ most_standings → FitsEvent event → d.stream.messages ≡ [] → FitsOf n d w o → FitsOf (n + 1) (event_from event d w o).daemon (event_from event d w o).world (event_from event d w o).disk
+event_fits n event d w o lt h out coming fits none f =
     let r : DaemonState = ready event (tried_by d o).0 d in
     let q : DiskWorld = (tried_by d o).1 in
     let still : q.ran_out ≡ false = play_stays_told (trying d) o out in
@@ -226,7 +190,7 @@ event_fits n event d w o lt h out f =
     let old_id = f.few_ids in
     let old_faults = f.few_faults in
     let old_disk = f.few_disk_faults in
-    swept_fits n a.daemon (halted a.disk a.world) a.disk.faults lt (halted_holds a.daemon a.disk a.world (answered_holds event d w o h)) (omega (arith, same_event, old_event)) (omega (arith, same_next, old_next)) (omega (arith, more_ids, old_id)) (omega (arith, calls, start, middle, old_faults)) (omega (arith, tried, saved, old_disk))
+    swept_fits n a.daemon (halted a.disk a.world) a.disk.faults lt (halted_holds a.daemon a.disk a.world (answered_holds event d w o h)) (event_few event d w o h coming).0 (answered_few event r (start_of d w o) q fits none refl) (omega (arith, same_event, old_event)) (omega (arith, same_next, old_next)) (omega (arith, more_ids, old_id)) (omega (arith, calls, start, middle, old_faults)) (omega (arith, tried, saved, old_disk))
 
 -- a daemon that has had no event, or isn't there yet
 pub started_fits : (n event : ℕ) (rules : List Marked) (faults disk_faults : ℕ) → event ≤ n + 1 → length rules ≤ 65536 → faults ≤ 2199023255552 * n → disk_faults ≤ 2 * n → Fits n event 1 (length rules + 1) faults disk_faults
@@ -237,20 +201,22 @@ started_fits n event rules faults disk_faults first few low few_disk = record { 
 low : (n : ℕ) → n ≤ 2 ^ 64 - 1 - 4194304 → is_low n ≡ true
 low n le = grind (arith, nat_tests, le)
 
-all_true : (a b c d e : Bool) → a ≡ true → b ≡ true → c ≡ true → d ≡ true → e ≡ true → (a && b && c && d && e) ≡ true
-all_true true true true true true p q r s t = refl
-all_true true true true true false p q r s t = t
-all_true true true true false e p q r s t = s
-all_true true true false d e p q r s t = r
-all_true true false c d e p q r s t = q
-all_true false b c d e p q r s t = p
+all_true : (a b c d e f : Bool) → a ≡ true → b ≡ true → c ≡ true → d ≡ true → e ≡ true → f ≡ true → (a && b && c && d && e && f) ≡ true
+all_true true true true true true true p q r s t u = refl
+all_true true true true true true false p q r s t u = u
+all_true true true true true false f p q r s t u = t
+all_true true true true false e f p q r s t u = s
+all_true true true false d e f p q r s t u = r
+all_true true false c d e f p q r s t u = q
+all_true false b c d e f p q r s t u = p
 
-pub fits_numbers : (n : ℕ) (d : DaemonState) (w : World) (o : DiskWorld) → n ≤ 1048576 → FitsOf n d w o → has_numbers d w.faults o.faults ≡ true
-fits_numbers n d w o le f =
+pub fits_numbers : (n : ℕ) (d : DaemonState) (w : World) (o : DiskWorld) → n ≤ 1048576 → length d.sweep.standings ≤ most_standings → FitsOf n d w o → has_numbers d w.faults o.faults ≡ true
+fits_numbers n d w o le stands f =
     let a = f.few_events in
     let b = f.few_numbers in
     let c = f.few_ids in
     let e = f.few_faults in
     let g = f.few_disk_faults in
     let id : d.sweep.judge.next < 2 ^ 64 - 1 = omega (arith, le, c) in
-    all_true (is_low d.sweep.next) (is_low d.event) (is_low w.faults) (is_low o.faults) (nat_lt d.sweep.judge.next (2 ^ 64 - 1)) (low d.sweep.next (omega (arith, le, b))) (low d.event (omega (arith, le, a))) (low w.faults (omega (arith, le, e))) (low o.faults (omega (arith, le, g))) (grind (arith, nat_tests, id))
+    all_true (is_low d.sweep.next) (is_low d.event) (is_low w.faults) (is_low o.faults) (nat_le (length d.sweep.standings) most_standings) (nat_lt d.sweep.judge.next (2 ^ 64 - 1))
+    (low d.sweep.next (omega (arith, le, b))) (low d.event (omega (arith, le, a))) (low w.faults (omega (arith, le, e))) (low o.faults (omega (arith, le, g))) (le-leb (length d.sweep.standings) most_standings stands) (grind (arith, nat_tests, id))

@@ -18,7 +18,7 @@ use Rattle.ug_core.specs.Answering.{acting, asking, deed_after}
 use Rattle.ug_core.specs.Event.{DaemonState, handling, ready}
 use Rattle.ug_core.specs.Storing.{stored_with, storing}
 use Rattle.ug_core.specs.declared.daemon.Event.{Event}
-use Rattle.ug_core.specs.declared.daemon.Event.TheVariants.{Sweep, Order}
+use Rattle.ug_core.specs.declared.daemon.Event.TheVariants.{Sweep, Order, Hint}
 use Rattle.ug_script.specs.Laws.{AtEachCall, BehindEach, EachInOrder}
 use Rattle.ug_script.specs.Replay.{order_played_by, answered_from, disk_of, event_from, halted, tried_by}
 use Rattle.ug_script.specs.Script.{Script, daemon_in}
@@ -44,6 +44,7 @@ play_good (Room next) w g = play_good (next true) w g
 
 answered_good : (event : Event) (d : DaemonState) (w : World) (o : DiskWorld) → IsGood w → IsGood (order_played_by event d w o).world
 answered_good (Sweep moment) d w o g = g
+answered_good (Hint moment piece) d w o g = g
 answered_good (Order moment who line) d w o g =
     let c = play (asking d who line) w in
     let b = play_disk (storing d c.0.change) o in
@@ -82,6 +83,7 @@ each_good (Room next) w g = each_good (next true) w g
 
 order_good : (event : Event) (d : DaemonState) (w : World) (o : DiskWorld) → IsGood w → EachInOrder HasOnEntries event d w o
 order_good (Sweep moment) d w o g = g.2
+order_good (Hint moment piece) d w o g = g.2
 order_good (Order moment who line) d w o g =
     let c = play (asking d who line) w in
     let b = play_disk (storing d c.0.change) o in

@@ -1,5 +1,5 @@
 -- What a script fixes of a pending save, of an order, and of its save.
-use Rattle.std.proofs.Common.{◌≡◌, ℕ, ◌+◌, ◌≤◌, nat_le, arith, length, Bool, true, false, ◌||◌, List, [], ◌++◌, Option, Some, None, refl, sym, ◌∙◌, ap, subst, append_assoc, append-nil}
+use Rattle.std.proofs.Common.{◌≡◌, ℕ, ◌+◌, ◌≤◌, nat_le, arith, length, Bool, true, false, ◌||◌, List, [], ◌++◌, map, Result, Option, Some, None, refl, sym, ◌∙◌, ap, subst, append_assoc, append-nil}
 use Rattle.ug_types.specs.Limits.{text_limit}
 use Rattle.ug_types.specs.Principals.{Named}
 use Rattle.ug_types.specs.declared.saved.Saved.{Saved}
@@ -11,22 +11,29 @@ use Rattle.ug_simulation.proofs.Plays.{Fixed, play_way, refused}
 use Rattle.ug_simulation.proofs.Sweeps.{nobody_more}
 use Rattle.ug_simulation.proofs.Wants.{memory_more}
 use Rattle.ug_ruleset.specs.RuleFile.{permanent_text}
+use Rattle.ug_uevent.specs.Faults.{SaidFault}
+use Rattle.ug_uevent.specs.Streams.{Stream, stream_with_piece}
+use Rattle.ug_uevent.specs.declared.hint.Hint as uevent
 use Rattle.ug_store.specs.PlayDisk.{play_disk}
 use Rattle.ug_store.specs.Scripted.{IsUnplanned, DiskWorld}
 use Rattle.ug_store.specs.Store.{Ended, saving, then_disk}
 use Rattle.ug_store.proofs.PlayedDisk.{play_saving_done, play_saving_faults, play_saving_sure, play_stays_told, play_then_disk}
 use Rattle.ug_core.specs.Answering.{acting, asking, deed_after}
 use Rattle.ug_core.specs.Changes.{changed_by, is_saved}
+use Rattle.ug_core.specs.Due.{AreDueInOrder, standings_due}
 use Rattle.ug_core.specs.Event.{DaemonState, if_pending, trying}
+use Rattle.ug_core.specs.Hinting.{FitsEvent, longest_piece, refusals}
 use Rattle.ug_core.specs.Storing.{after_saving, if_fits, if_saved, stored_with, storing}
 use Rattle.ug_core.specs.declared.changes.Change.{Change}
 use Rattle.ug_core.specs.declared.choosing.Choice.{Choice}
 use Rattle.ug_core.specs.declared.choosing.Deed.{Deed}
 use Rattle.ug_core.specs.declared.daemon.Event.{Event}
-use Rattle.ug_core.specs.declared.daemon.Event.TheVariants.{Sweep, Order}
+use Rattle.ug_core.specs.declared.daemon.Event.TheVariants.{Sweep, Order, Hint}
 use Rattle.ug_core.specs.declared.storing.Stored.{Stored}
 use Rattle.ug_core.specs.declared.storing.Stored.TheVariants as stored
+use Rattle.ug_script.specs.Hints.{hint_played, message_said}
 use Rattle.ug_script.specs.Replay.{order_played_by, tried_by}
+use Rattle.ug_script.proofs.HintsRead.{played_few, played_order, refusals_nobody, refusals_sure}
 use Rattle.ug_script.proofs.Answers.{ActsSo, Asks, CanAct, StoredSo, acting_ways, asking_ways, asks_can, asks_short, is_short_deed, stored_can, stored_short, stored_so}
 
 -- ---- a pending save
@@ -111,7 +118,7 @@ pub record AnsweredSo (d a : DaemonState) : Type 0 where
   pub next : a.sweep.next ≡ d.sweep.next
   pub ids : a.sweep.judge.next ≤ d.sweep.judge.next + 1
 
-module _ (who : Named) (line : List ℕ) (d : DaemonState) (w : World) (o : DiskWorld) (told : o.ran_out ≡ false) where
+module _ (who : Named) (line : List ℕ) (d : DaemonState) (w : World) (o : DiskWorld) where
   abbrev Chosen : Choice
   Chosen = (play (asking d who line) w).0
 
@@ -130,8 +137,8 @@ module _ (who : Named) (line : List ℕ) (d : DaemonState) (w : World) (o : Disk
   asked : Fixed (Asks d.sweep.standings) w Chosen
   asked = play_way (Asks d.sweep.standings) (asking d who line) w (asking_ways d who line)
 
-  silent : is_short_deed Done ≡ false
-  silent = stored_short Became Chosen.deed (storing_so d Chosen.change o told).sure (asks_short d.sweep.standings true asked.made Chosen asked.so ∙ asked.sure)
+  silent : o.ran_out ≡ false → is_short_deed Done ≡ false
+  silent told = stored_short Became Chosen.deed (storing_so d Chosen.change o told).sure (asks_short d.sweep.standings true asked.made Chosen asked.so ∙ asked.sure)
 
   can : CanAct Kept.sweep.standings Done
   can = subst (λ (ss : List _). CanAct ss Done) (sym (stored_so d Chosen.change Became).standings) (stored_can d.sweep.standings Became Chosen.deed (asks_can d.sweep.standings true asked.made Chosen asked.so))
@@ -139,8 +146,8 @@ module _ (who : Named) (line : List ℕ) (d : DaemonState) (w : World) (o : Disk
   acted : Fixed (ActsSo Kept (is_short_deed Done)) Behind (play (acting who Kept Done) Behind).0
   acted = play_way (ActsSo Kept (is_short_deed Done)) (acting who Kept Done) Behind (acting_ways who Kept Done can)
 
-  order_so : AnsweredSo d (play (acting who Kept Done) Behind).0
-  order_so =
+  order_so : o.ran_out ≡ false → AnsweredSo d (play (acting who Kept Done) Behind).0
+  order_so told =
       let x : StoredSo d Kept = stored_so d Chosen.change Became in
       let y = acted.so in
       let below = x.ids in
@@ -148,15 +155,21 @@ module _ (who : Named) (line : List ℕ) (d : DaemonState) (w : World) (o : Disk
       record {
         rest = x.rest ++ y.rest;
         entries = y.entries ∙ ap (λ (es : List Entry). es ++ y.rest) x.entries ∙ append_assoc d.sweep.entries x.rest y.rest;
-        wants = memory_more x.rest y.rest ∙ ap (λ (b : Bool). b || tells_memory y.rest) x.wants ∙ y.wants ∙ ap (λ (b : Bool). b || refused true acted.made) silent ∙ acted.sure;
+        wants = memory_more x.rest y.rest ∙ ap (λ (b : Bool). b || tells_memory y.rest) x.wants ∙ y.wants ∙ ap (λ (b : Bool). b || refused true acted.made) (silent told) ∙ acted.sure;
         nobody = nobody_more x.rest y.rest x.nobody y.nobody;
         event = y.event ∙ x.event;
         next = y.next ∙ x.next;
         ids = omega (arith, below, same);
       }
 
-  order_saved : IsUnplanned o → d.pending ≡ false → (play (acting who Kept Done) Behind).0.pending ≡ false
-  order_saved none saved = acted.so.pending ∙ kept_saved Became Chosen.change ((storing_so d Chosen.change o told).calm none) saved
+  order_due : (play (acting who Kept Done) Behind).0.due ≡ d.due
+  order_due = acted.so.due ∙ (stored_so d Chosen.change Became).due
+
+  order_stream : (play (acting who Kept Done) Behind).0.stream ≡ d.stream
+  order_stream = acted.so.stream ∙ (stored_so d Chosen.change Became).stream
+
+  order_saved : o.ran_out ≡ false → IsUnplanned o → d.pending ≡ false → (play (acting who Kept Done) Behind).0.pending ≡ false
+  order_saved told none saved = acted.so.pending ∙ kept_saved Became Chosen.change ((storing_so d Chosen.change o told).calm none) saved
     where
       kept_saved : (became : Stored) (change : Option Change) → ((count : ℕ) → became ≡ stored.Failed count → ⊥) → d.pending ≡ false → (stored_with became change d).pending ≡ false
       kept_saved stored.NotNeeded None calm e = e
@@ -169,23 +182,58 @@ module _ (who : Named) (line : List ℕ) (d : DaemonState) (w : World) (o : Disk
 
 -- what is done behind the save can be done
 pub order_can : (who : Named) (line : List ℕ) (d : DaemonState) (w : World) (o : DiskWorld) → o.ran_out ≡ false → CanAct (stored_with (play_disk (storing d (play (asking d who line) w).0.change) o).0 (play (asking d who line) w).0.change d).sweep.standings (deed_after (play_disk (storing d (play (asking d who line) w).0.change) o).0 (play (asking d who line) w).0.deed)
-order_can who line d w o told = can who line d w o told
+order_can who line d w o told = can who line d w o
+
+hint_so : (piece : List ℕ) (d : DaemonState) → AnsweredSo d (hint_played piece d)
+hint_so piece d =
+    let answers : List (Result uevent.Hint SaidFault) = map message_said (stream_with_piece d.stream piece).messages in
+    record {
+      rest = refusals answers;
+      entries = refl;
+      wants = refusals_sure answers;
+      nobody = refusals_nobody answers;
+      event = refl;
+      next = refl;
+      ids = omega arith;
+    }
 
 pub answered_so : (event : Event) (d : DaemonState) (w : World) (o : DiskWorld) → o.ran_out ≡ false → AnsweredSo d (order_played_by event d w o).daemon
 answered_so (Sweep moment) d w o told = record { rest = []; entries = sym (append-nil d.sweep.entries); wants = refl; nobody = refl; event = refl; next = refl; ids = omega arith }
+answered_so (Hint moment piece) d w o told = hint_so piece d
 answered_so (Order moment who line) d w o told = order_so who line d w o told
+
+-- where names are due, they are in order
+pub answered_order : (event : Event) (d : DaemonState) (w : World) (o : DiskWorld) → AreDueInOrder d.due → AreDueInOrder (order_played_by event d w o).daemon.due
+answered_order (Sweep moment) d w o order = order
+answered_order (Hint moment piece) d w o order = played_order piece d
+answered_order (Order moment who line) d w o order = subst AreDueInOrder (sym (order_due who line d w o)) order
+
+-- no message is left
+pub answered_stream : (event : Event) (d : DaemonState) (w : World) (o : DiskWorld) → d.stream.messages ≡ [] → (order_played_by event d w o).daemon.stream.messages ≡ []
+answered_stream (Sweep moment) d w o none = none
+answered_stream (Hint moment piece) d w o none = refl
+answered_stream (Order moment who line) d w o none = ap (λ (s : Stream). s.messages) (order_stream who line d w o) ∙ none
+
+-- and there are few of the names
+pub answered_few : (event : Event) (d : DaemonState) (w : World) (o : DiskWorld) → FitsEvent event → d.stream.messages ≡ [] → d.due ≡ None → standings_due (order_played_by event d w o).daemon.due ≤ longest_piece
+answered_few (Sweep moment) d w o fits none settled = let no = ap standings_due settled in omega (arith, no)
+answered_few (Hint moment piece) d w o fits none settled = played_few piece d fits none
+answered_few (Order moment who line) d w o fits none settled = let no = ap standings_due (order_due who line d w o ∙ settled) in omega (arith, no)
 
 -- where nothing is planned, no save is left pending
 pub answered_saved : (event : Event) (d : DaemonState) (w : World) (o : DiskWorld) → o.ran_out ≡ false → IsUnplanned o → d.pending ≡ false → (order_played_by event d w o).daemon.pending ≡ false
 answered_saved (Sweep moment) d w o told none saved = saved
+answered_saved (Hint moment piece) d w o told none saved = saved
 answered_saved (Order moment who line) d w o told none saved = order_saved who line d w o told none saved
 
 -- ---- their worlds
 
 pub answered_told : (event : Event) (d : DaemonState) (w : World) (o : DiskWorld) → o.ran_out ≡ false → (order_played_by event d w o).disk.ran_out ≡ false
 answered_told (Sweep moment) d w o told = told
+answered_told (Hint moment piece) d w o told = told
 answered_told (Order moment who line) d w o told = play_stays_told (storing d (play (asking d who line) w).0.change) o told
 
 pub answered_faults : (event : Event) (d : DaemonState) (w : World) (o : DiskWorld) → o.ran_out ≡ false → (order_played_by event d w o).disk.faults ≤ o.faults + 1
 answered_faults (Sweep moment) d w o told = omega arith
+answered_faults (Hint moment piece) d w o told = omega arith
 answered_faults (Order moment who line) d w o told = (storing_so d (play (asking d who line) w).0.change o told).faults

@@ -1,5 +1,5 @@
 -- What a pass leaves of the kernel and of the daemon's standings: devices only come and go.
-use Rattle.std.proofs.Common.{◌≡◌, ℕ, Bool, true, false, List, [], ◌∷◌, Option, Some, None, refl, sym, subst, ◌∙◌}
+use Rattle.std.proofs.Common.{◌≡◌, ℕ, ◌≤◌, Bool, true, false, List, [], ◌∷◌, length, Option, Some, None, refl, sym, ap, subst, ◌∙◌, arith}
 use Rattle.ug_kernel.specs.Kernel.{Kernel, IsKernel, Moves}
 use Rattle.ug_kernel.proofs.Births.{moves_then}
 use Rattle.ug_kernel.proofs.Sounds.{kernel_moves}
@@ -8,6 +8,7 @@ use Rattle.ug_sysfs.specs.Begins.{happen_moves, happened_moves}
 use Rattle.ug_sysfs.specs.Sound.{happened_sound, sound_happen}
 use Rattle.ug_sysfs.specs.Serving.{bus_in, iface_act, iface_answer_from, iface_answer_of, iface_answer_unless, iface_effect, iface_hidden, iface_opened, live_file, put_off}
 use Rattle.ug_sysfs.specs.Interfaces.{place_named}
+use Rattle.ug_sysfs.specs.declared.script.Scheduled.{Scheduled}
 use Rattle.ug_sysfs.specs.World.{World, entered, fate_of, over, shift}
 use Rattle.ug_table.specs.Laws.{Stand}
 use Rattle.ug_table.specs.State.{State}
@@ -25,6 +26,9 @@ use Rattle.ug_core.specs.Event.{DaemonState, handling}
 use Rattle.ug_store.specs.Scripted.{DiskWorld}
 use Rattle.ug_script.specs.Passes.{aims_in, device_pass, pass_behind, pass_over, play_ifaces, walk_from}
 use Rattle.ug_script.specs.Replay.{answered_from, event_from, halted}
+use Rattle.ug_script.specs.Laws.{coming_in}
+use Rattle.ug_script.proofs.FewDevices.{over_few, shift_few}
+use Rattle.ug_script.proofs.LastStages.{last_stage}
 use Rattle.ug_script.proofs.Lawful.{HoldsOf, answered_holds, halted_holds, handled, moves_on}
 
 -- ---- devices only come and go
@@ -33,12 +37,14 @@ pub record IsBehind (w v : World) : Type 0 where
   pub moves : Moves w.kernel v.kernel
   pub sound : IsKernel w.kernel → IsKernel v.kernel
   pub out : v.ran_out ≡ w.ran_out
+  pub few : coming_in v ≤ coming_in w
 
-still : (w v : World) → v.kernel ≡ w.kernel → v.ran_out ≡ w.ran_out → IsBehind w v
-still w v same out = record {
+still : (w v : World) → v.kernel ≡ w.kernel → v.ran_out ≡ w.ran_out → v.moves ≡ w.moves → IsBehind w v
+still w v same out moves = record {
   moves = subst (λ (k : Kernel). Moves w.kernel k) (sym same) (unmoving w.kernel);
   sound = λ s. subst IsKernel (sym same) s;
   out = out;
+  few = let one = ap (λ (k : Kernel). length k.devices) same in let rest = ap (λ (ms : List Scheduled). length ms) moves in omega (arith, one, rest);
 }
 
 behind_then : (w v u : World) → IsBehind w v → IsBehind v u → IsBehind w u
@@ -46,6 +52,7 @@ behind_then w v u g h = record {
   moves = moves_then w.kernel v.kernel u.kernel g.moves h.moves;
   sound = λ s. h.sound (g.sound s);
   out = h.out ∙ g.out;
+  few = let one = g.few in let rest = h.few in omega (arith, one, rest);
 }
 
 shifted : (n : ℕ) (after : Bool) (w : World) → IsBehind w (shift n after w)
@@ -53,6 +60,7 @@ shifted n after w = record {
   moves = happen_moves n after w.moves w.kernel;
   sound = λ s. kernel_moves w.kernel (shift n after w).kernel s (happen_moves n after w.moves w.kernel) (sound_happen n after w.moves w.kernel.devices s.devices);
   out = refl;
+  few = shift_few n after w;
 }
 
 pub over_behind : (w : World) → IsBehind w (over w)
@@ -60,6 +68,7 @@ over_behind w = record {
   moves = happened_moves w.moves w.kernel;
   sound = λ s. happened_sound w.moves w.kernel s;
   out = refl;
+  few = over_few w;
 }
 
 -- ---- a call of interfaces' files does nothing to a device
@@ -100,22 +109,22 @@ from_behind w call =
     let u : World = entered w in
     let v : World = Rattle.ug_sysfs.specs.Serving.with_bus (Rattle.ug_sysfs.specs.World.failure_counted u) (iface_effect (fate_of u) call (bus_in u)).1 in
     behind_then w v (iface_answer_from u call).1
-    (behind_then w u v (shifted (Rattle.ug_kernel.specs.Calls.raised w.calls) false w) (still u v (effect_kernel (fate_of u) call (bus_in u)) refl))
+    (behind_then w u v (shifted (Rattle.ug_kernel.specs.Calls.raised w.calls) false w) (still u v (effect_kernel (fate_of u) call (bus_in u)) refl refl))
     (shifted v.calls true v)
 
 unless_behind : (out : Bool) (w : World) (call : IfaceCall) → IsBehind w (iface_answer_unless out w call).1
-unless_behind out w (Close held) = still w w refl refl
-unless_behind true w (Names_of name) = still w _ refl refl
+unless_behind out w (Close held) = still w w refl refl refl
+unless_behind true w (Names_of name) = still w _ refl refl refl
 unless_behind false w (Names_of name) = from_behind w (Names_of name)
-unless_behind true w (Open name) = still w _ refl refl
+unless_behind true w (Open name) = still w _ refl refl refl
 unless_behind false w (Open name) = from_behind w (Open name)
-unless_behind true w (Read name) = still w _ refl refl
+unless_behind true w (Read name) = still w _ refl refl refl
 unless_behind false w (Read name) = from_behind w (Read name)
-unless_behind true w (Ask_device held) = still w _ refl refl
+unless_behind true w (Ask_device held) = still w _ refl refl refl
 unless_behind false w (Ask_device held) = from_behind w (Ask_device held)
-unless_behind true w (Ask held) = still w _ refl refl
+unless_behind true w (Ask held) = still w _ refl refl refl
 unless_behind false w (Ask held) = from_behind w (Ask held)
-unless_behind true w (Put_off held) = still w _ refl refl
+unless_behind true w (Put_off held) = still w _ refl refl refl
 unless_behind false w (Put_off held) = from_behind w (Put_off held)
 
 pub call_behind : (w : World) (call : IfaceCall) → IsBehind w (iface_answer_of w call).1
@@ -124,7 +133,7 @@ call_behind w call = unless_behind w.ran_out w call
 -- ---- a pass
 
 pub play_behind : {R : Type 0} (p : IfaceProg R) (w : World) → IsBehind w (play_ifaces p w).1
-play_behind (Return value) w = still w w refl refl
+play_behind (Return value) w = still w w refl refl refl
 play_behind (Make call next) w =
     let u : World = (iface_answer_of w call).1 in
     behind_then w u _ (call_behind w call) (play_behind (next (iface_answer_of w call).0) u)
@@ -138,11 +147,11 @@ pub device_behind : (aim : Aim) (w : World) → IsBehind w (device_pass aim w).w
 device_behind aim w = walked_behind aim w (play_ifaces (beginning aim.device.via_port) w) (play_behind (beginning aim.device.via_port) w)
 
 aims_behind : (aims : List Aim) (w : World) → IsBehind w (pass_over aims w).world
-aims_behind [] w = still w w refl refl
+aims_behind [] w = still w w refl refl refl
 aims_behind (aim ∷ aims) w = behind_then w (device_pass aim w).world _ (device_behind aim w) (aims_behind aims (device_pass aim w).world)
 
 pub rules_behind : (rules : List IfaceRule) (d : DaemonState) (w : World) → IsBehind w (pass_behind rules d w).world
-rules_behind [] d w = still w w refl refl
+rules_behind [] d w = still w w refl refl refl
 rules_behind (rule ∷ rules) d w = aims_behind (aims_in (rule ∷ rules) d.sweep.standings) w
 
 -- and what is still to come
@@ -156,10 +165,11 @@ event_ends event d w o h =
     let a = answered_from event d w o in
     let p = event_from event d w o in
     let law = handled event d w o h in
+    let last = last_stage a.daemon.due a.world.kernel a.daemon.sweep p.world.kernel law.swept law.law in
     record {
       told = play_told (handling a.daemon) (halted a.disk a.world) (halted_holds a.daemon a.disk a.world (answered_holds event d w o h)).told;
-      sound = law.law.fair.sound;
-      stand = subst (λ (v : State Rattle.ug_core.specs.Policy.Judging). Stand p.world.kernel v.standings v.next) (sym law.entries) law.law.fair.stand;
+      sound = last.sound;
+      stand = subst (λ (v : State Rattle.ug_core.specs.Policy.Judging). Stand p.world.kernel v.standings v.next) (sym law.entries) last.stand;
     }
 
 pub behind_holds : (d : DaemonState) (w v : World) → IsBehind w v → HoldsOf d w → HoldsOf d v

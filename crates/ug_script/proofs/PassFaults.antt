@@ -1,5 +1,5 @@
 -- How many calls of a pass can fail.
-use Rattle.std.proofs.Common.{◌≡◌, ℕ, ◌+◌, ◌*◌, ◌≤◌, Bool, true, false, cond, if◌then◌else◌, ◌&&◌, List, [], ◌∷◌, ◌++◌, length, map, flat_map, Option, Some, None, refl, sym, ap, subst, ◌∙◌, inl, arith, length-append}
+use Rattle.std.proofs.Common.{◌≡◌, ℕ, ◌+◌, ◌*◌, ◌≤◌, Bool, true, false, cond, if◌then◌else◌, ◌&&◌, List, [], ◌∷◌, length, flat_map, Option, Some, None, refl, ap, ◌∙◌, inl, arith, length-append}
 use Rattle.std.proofs.lemmas.List.{length-map}
 use Rattle.ug_types.specs.declared.record.Judged.{Judged}
 use Rattle.ug_types.specs.declared.record.Judged.TheVariants as judged
@@ -39,8 +39,9 @@ use Rattle.ug_iface.specs.Named.{is_named_off}
 use Rattle.ug_iface.specs.Order.{in_iface_order}
 use Rattle.ug_iface.proofs.Order.{ordered}
 use Rattle.std.proofs.lemmas.List.Sorted.{length_permutation}
-use Rattle.ug_iface.specs.Settle.{Aim, after_listing, after_look, beginning, if_entry_room, leaving, settling_iface, switching, walking}
+use Rattle.ug_iface.specs.Settle.{Aim, after_listing, after_look, beginning, leaving, settling_iface, switching, walking}
 use Rattle.ug_iface.specs.Tree.{IfaceProg, Return, Make, Room, then_iface}
+use Rattle.ug_core.specs.Event as event
 use Rattle.ug_core.specs.Event.{DaemonState}
 use Rattle.ug_core.specs.DeviceRows.{by_number}
 use Rattle.ug_script.specs.Passes.{aims_at, aims_in, device_pass, later_than, pass_behind, pass_over, play_ifaces, walk_from}
@@ -251,7 +252,7 @@ by_number_few : (ss : List Standing) → length (by_number ss) ≡ length ss
 by_number_few [] = refl
 by_number_few (s ∷ ss) = let one = placed_few s (by_number ss) in let rest = by_number_few ss in omega (arith, one, rest)
 
-pub pass_faults : (rules : List IfaceRule) (d : DaemonState) (w : World) → w.ran_out ≡ false → IsSoundWorld w → length d.sweep.standings ≤ 65536 → (pass_behind rules d w).world.faults ≤ w.faults + 335609856
+pub pass_faults : (rules : List IfaceRule) (d : DaemonState) (w : World) → w.ran_out ≡ false → IsSoundWorld w → length d.sweep.standings ≤ event.most_standings → (pass_behind rules d w).world.faults ≤ w.faults + 10739515392
 pass_faults [] d w e s few = omega arith
 pass_faults (rule ∷ rules) d w e s few =
     let ss : List Standing = d.sweep.standings in

@@ -1,5 +1,5 @@
 -- What a sweep takes of the numbers: how many device numbers it gives out, how many calls it makes, and that no rule gets an id.
-use Rattle.std.proofs.Common.{◌≡◌, ℕ, ◌+◌, ◌*◌, ◌≤◌, Bool, is_none, List, [], ◌∷◌, length, Option, Some, None, refl, ◌∙◌, ap, arith}
+use Rattle.std.proofs.Common.{◌≡◌, ℕ, ◌+◌, ◌*◌, ◌≤◌, Bool, is_none, List, [], ◌∷◌, length, Option, Some, None, refl, ◌∙◌, ap, arith, true}
 use Rattle.std.proofs.lemmas.List.{length-map}
 use Rattle.ug_types.specs.Names.{parent_of}
 use Rattle.ug_types.specs.Sweep.{in_sweep_order}
@@ -16,14 +16,17 @@ use Rattle.ug_node.proofs.BindShapes.{count_more}
 use Rattle.ug_audit.specs.declared.entry.Entry.{Entry}
 use Rattle.ug_table.specs.Allowed.{allowed_records}
 use Rattle.ug_table.specs.Parent.{judged_bound}
-use Rattle.ug_table.specs.State.{State, Terms}
-use Rattle.ug_table.specs.Sweep.{names_of, sweeping}
+use Rattle.ug_table.specs.State.{State, Terms, terms_for}
+use Rattle.ug_table.specs.Sweep.{names_of, settling_all, sweeping}
 use Rattle.ug_table.specs.Parts.{AreClosings, unlisted_files, count_listed}
 use Rattle.ug_table.specs.declared.standing.Standing.{Standing}
 use Rattle.ug_table.proofs.Shapes.{judge_after}
 use Rattle.ug_table.proofs.OnePart.{flat_few}
-use Rattle.ug_table.proofs.Chains.{Chain, Over, First, Goes, Listed, Unlisted, Comes, sweeping_by}
+use Rattle.ug_table.proofs.Chains.{Chain, Over, First, Goes, Linked, Listed, Unlisted, Comes, settling_chain, sweeping_by}
 use Rattle.ug_table.proofs.Faults.{chain_next, chain_given, chain_none}
+use Rattle.ug_core.specs.Due.{standings_due}
+use Rattle.ug_core.specs.Event.{most_standings, settling_due}
+use Rattle.ug_core.specs.Hinting.{longest_piece}
 use Rattle.ug_core.specs.Policy.{Judging, later_of, policy_answer, policy_later}
 
 -- a verdict gives no rule an id
@@ -124,7 +127,7 @@ pub record Spends (numbers calls : ℕ) (w : State Judging) (ms : List Made) (v 
   pub made : count_calls ms ≤ calls
   pub id : v.judge.next ≡ w.judge.next
 
-pub sweeping_spends : (w : State Judging)
+sweeping_spends : (w : State Judging)
     → Ways (sweeping policy_answer policy_later w)
     (λ ok ms v. Spends (found ms) (1 + (17 * found ms + 17 * length w.standings)) w ms v)
 sweeping_spends w =
@@ -133,3 +136,38 @@ sweeping_spends w =
     (sweeping policy_answer policy_later w)
     (λ ok ms v x. record { next = goes_next x.1; made = goes_calls x.1; id = goes_id x.1 })
     (sweeping_by policy_answer policy_later w)
+
+names_spends : (names : List (List ℕ)) (terms : Terms) (w : State Judging)
+    → Ways (settling_all policy_answer policy_later names terms w)
+    (λ ok ms v. Spends (length names) (17 * length names) w ms v)
+names_spends names terms w =
+    ways_more (Linked policy_answer policy_later true terms names w)
+    (λ ok ms v. Spends (length names) (17 * length names) w ms v)
+    (settling_all policy_answer policy_later names terms w)
+    (λ ok ms v x.
+    let next = chain_next x.1 in
+    let given = chain_given x.1 in
+    record { next = omega (arith, next, given); made = chain_calls x.1; id = chain_id x.1 })
+    (settling_chain policy_answer policy_later names terms w)
+
+-- of a last stage, where names may be due
+
+abbrev pub numbers_due : Option (List (List ℕ)) → List Made → ℕ
+numbers_due None ms = found ms
+numbers_due (Some names) ms = length names
+
+abbrev pub calls_due : Option (List (List ℕ)) → List Made → State Judging → ℕ
+calls_due None ms w = 1 + (17 * found ms + 17 * length w.standings)
+calls_due (Some names) ms w = 17 * length names
+
+abbrev pub SpendsDue : Option (List (List ℕ)) → State Judging → Bool → List Made → State Judging → Type 0
+SpendsDue due w ok ms v = Spends (numbers_due due ms) (calls_due due ms w) w ms v
+
+pub due_spends : (due : Option (List (List ℕ))) (w : State Judging) → Ways (settling_due due w) (SpendsDue due w)
+due_spends None w = sweeping_spends w
+due_spends (Some names) w = names_spends names (terms_for w) w
+
+-- they are few where there are few names and few standings
+pub due_low : (due : Option (List (List ℕ))) (ms : List Made) (w : State Judging) → standings_due due ≤ longest_piece → found ms ≤ 65536 → length w.standings ≤ most_standings → (numbers_due due ms ≤ longest_piece) × (calls_due due ms w ≤ 36765697)
+due_low None ms w few listed stands = (omega (arith, listed), omega (arith, listed, stands))
+due_low (Some names) ms w few listed stands = (few, omega (arith, few))

@@ -27,6 +27,7 @@ use Rattle.ug_store.specs.declared.disk.Loaded.{Loaded}
 use Rattle.ug_store.specs.declared.disk.Loaded.TheVariants as loaded
 use Rattle.ug_store.specs.declared.store.RecoverFault.{RecoverFault}
 use Rattle.ug_store.specs.declared.store.RecoverFault.TheVariants as recover
+use Rattle.ug_uevent.specs.Streams as uevents
 use Rattle.ug_core.specs.Event.{DaemonState, IsStarted}
 use Rattle.ug_core.specs.Policy.{Judging}
 use Rattle.ug_core.specs.declared.classes.Classes.{Classes}
@@ -42,22 +43,24 @@ use Rattle.ug_script.specs.Script.{fits_folder, fits_rules, no_start_of}
 use Rattle.ug_script.proofs.Folders.{holds_read}
 use Rattle.ug_script.proofs.Setups.{own_rules, setup_folder}
 
-abbrev made : List Standing → ℕ → Bool → Judging → Option Write → List Entry → List Addition → Bool → ℕ → Option Reply → Bool → DaemonState
-made ss next listed judge hub es access pending number reply watch = record { sweep = record { standings = ss; next = next; listed = listed; judge = judge; hub = hub; entries = es }; access = access; pending = pending; event = number; reply = reply; watch = watch }
+abbrev made : List Standing → ℕ → Bool → Judging → Option Write → List Entry → List Addition → Bool → uevents.Stream → Option (List (List ℕ)) → ℕ → Option Reply → Bool → DaemonState
+made ss next listed judge hub es access pending stream due number reply watch = record { sweep = record { standings = ss; next = next; listed = listed; judge = judge; hub = hub; entries = es }; access = access; pending = pending; stream = stream; due = due; event = number; reply = reply; watch = watch }
 
 started_is : (p : Judging) (beside : Beside) (number : ℕ) (d : DaemonState) → IsStarted p beside.hub number d → d.access ≡ beside.access → d ≡ started_at number beside p
 started_is p beside number d h given =
-    ap (λ (x : List Standing). made x d.sweep.next d.sweep.listed d.sweep.judge d.sweep.hub d.sweep.entries d.access d.pending d.event d.reply d.watch) h.standings
-    ∙ ap (λ (x : ℕ). made [] x d.sweep.listed d.sweep.judge d.sweep.hub d.sweep.entries d.access d.pending d.event d.reply d.watch) h.next
-    ∙ ap (λ (x : Bool). made [] 1 x d.sweep.judge d.sweep.hub d.sweep.entries d.access d.pending d.event d.reply d.watch) h.listed
-    ∙ ap (λ (x : Judging). made [] 1 false x d.sweep.hub d.sweep.entries d.access d.pending d.event d.reply d.watch) h.judge
-    ∙ ap (λ (x : Option Write). made [] 1 false p x d.sweep.entries d.access d.pending d.event d.reply d.watch) h.hub
-    ∙ ap (λ (x : List Entry). made [] 1 false p beside.hub x d.access d.pending d.event d.reply d.watch) h.entries
-    ∙ ap (λ (x : List Addition). made [] 1 false p beside.hub [] x d.pending d.event d.reply d.watch) given
-    ∙ ap (λ (x : Bool). made [] 1 false p beside.hub [] beside.access x d.event d.reply d.watch) h.pending
-    ∙ ap (λ (x : ℕ). made [] 1 false p beside.hub [] beside.access false x d.reply d.watch) h.event
-    ∙ ap (λ (x : Option Reply). made [] 1 false p beside.hub [] beside.access false number x d.watch) h.reply
-    ∙ ap (λ (x : Bool). made [] 1 false p beside.hub [] beside.access false number None x) h.watch
+    ap (λ (x : List Standing). made x d.sweep.next d.sweep.listed d.sweep.judge d.sweep.hub d.sweep.entries d.access d.pending d.stream d.due d.event d.reply d.watch) h.standings
+    ∙ ap (λ (x : ℕ). made [] x d.sweep.listed d.sweep.judge d.sweep.hub d.sweep.entries d.access d.pending d.stream d.due d.event d.reply d.watch) h.next
+    ∙ ap (λ (x : Bool). made [] 1 x d.sweep.judge d.sweep.hub d.sweep.entries d.access d.pending d.stream d.due d.event d.reply d.watch) h.listed
+    ∙ ap (λ (x : Judging). made [] 1 false x d.sweep.hub d.sweep.entries d.access d.pending d.stream d.due d.event d.reply d.watch) h.judge
+    ∙ ap (λ (x : Option Write). made [] 1 false p x d.sweep.entries d.access d.pending d.stream d.due d.event d.reply d.watch) h.hub
+    ∙ ap (λ (x : List Entry). made [] 1 false p beside.hub x d.access d.pending d.stream d.due d.event d.reply d.watch) h.entries
+    ∙ ap (λ (x : List Addition). made [] 1 false p beside.hub [] x d.pending d.stream d.due d.event d.reply d.watch) given
+    ∙ ap (λ (x : Bool). made [] 1 false p beside.hub [] beside.access x d.stream d.due d.event d.reply d.watch) h.pending
+    ∙ ap (λ (x : uevents.Stream). made [] 1 false p beside.hub [] beside.access false x d.due d.event d.reply d.watch) h.stream
+    ∙ ap (λ (x : Option (List (List ℕ))). made [] 1 false p beside.hub [] beside.access false (record { messages = []; begun = uevents.nothing_begun }) x d.event d.reply d.watch) h.due
+    ∙ ap (λ (x : ℕ). made [] 1 false p beside.hub [] beside.access false (record { messages = []; begun = uevents.nothing_begun }) None x d.reply d.watch) h.event
+    ∙ ap (λ (x : Option Reply). made [] 1 false p beside.hub [] beside.access false (record { messages = []; begun = uevents.nothing_begun }) None number x d.watch) h.reply
+    ∙ ap (λ (x : Bool). made [] 1 false p beside.hub [] beside.access false (record { messages = []; begun = uevents.nothing_begun }) None number None x) h.watch
 
 -- ---- the rules of a text
 

@@ -26,7 +26,7 @@ use Rattle.ug_core.specs.Policy.{Judging}
 use Rattle.ug_core.specs.Storing.{after_saving, if_fits, if_saved, stored_with, storing}
 use Rattle.ug_core.specs.declared.changes.Change.{Change}
 use Rattle.ug_core.specs.declared.daemon.Event.{Event}
-use Rattle.ug_core.specs.declared.daemon.Event.TheVariants.{Sweep, Order}
+use Rattle.ug_core.specs.declared.daemon.Event.TheVariants.{Sweep, Order, Hint}
 use Rattle.ug_core.specs.declared.storing.Stored.{Stored}
 use Rattle.ug_core.specs.declared.storing.Stored.TheVariants as stored
 use Rattle.ug_script.specs.Laws.{IsLawfulEvent}
@@ -74,6 +74,7 @@ play_unwritten (Room next) w h = play_unwritten (next true) w h
 
 order_unwritten : (event : Event) (d : DaemonState) (w : World) (o : DiskWorld) → w.halted ≡ true → Unwritten w (order_played_by event d w o).world
 order_unwritten (Sweep moment) d w o h = record { halted = h; log = refl }
+order_unwritten (Hint moment piece) d w o h = record { halted = h; log = refl }
 order_unwritten (Order moment who line) d w o h =
     let c = play (asking d who line) w in
     let b = play_disk (storing d c.0.change) o in
@@ -168,12 +169,14 @@ failed_unforced p (Some change) stored.Memory count e h = h
 -- an order whose save failed was refused, and wrote to no device
 refused_log : (event : Event) (k : Kernel) (d : DaemonState) (became : Stored) (l : Kernel) (e : DaemonState) (count : ℕ) → became ≡ stored.Failed count → AnswersEvent event k d became l e → l.log ≡ k.log
 refused_log (Sweep moment) k d became l e count is h = ap (λ (x : Kernel). x.log) h.0
+refused_log (Hint moment piece) k d became l e count is h = ap (λ (x : Kernel). x.log) h.0
 refused_log (Order moment who line) k d became l e count is (inl h) = h.quiet.log
 refused_log (Order moment who line) k d became l e count is (inr (inl h)) = absurd (failed_unforced d.sweep.judge h.1.outcome.change became count is h.1.in_force)
 refused_log (Order moment who line) k d became l e count is (inr (inr h)) = absurd (failed_unforced d.sweep.judge h.change became count is h.in_force)
 
 stored_fails : (event : Event) (d : DaemonState) (w : World) (o : DiskWorld) → o.stopped ≡ false → (order_played_by event d w o).disk.stopped ≡ true → (count : ℕ) × ((order_played_by event d w o).became ≡ stored.Failed count)
 stored_fails (Sweep moment) d w o e f = unstopped o e f
+stored_fails (Hint moment piece) d w o e f = unstopped o e f
 stored_fails (Order moment who line) d w o e f = store_fails d (play (asking d who line) w).0.change o e f
 
 halts : (o : DiskWorld) (w : World) → o.stopped ≡ true → (halted o w).halted ≡ true

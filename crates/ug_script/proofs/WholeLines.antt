@@ -50,7 +50,7 @@ reply_whole : (reply : Option Reply) → IsWhole (reply_lines reply)
 reply_whole None = none_whole
 reply_whole (Some reply) = each_whole quoted (λ line. line_whole (62 ∷ 32 ∷ line)) (lines_of (reply_text reply))
 
-outcome_whole : (outcome : EventOutcome) → IsWhole (outcome_text outcome)
+pub outcome_whole : (outcome : EventOutcome) → IsWhole (outcome_text outcome)
 outcome_whole outcome = both_whole (lines_text outcome.entries) (reply_lines outcome.reply) (each_whole terminated (λ entry. line_whole (entry_line entry)) outcome.entries) (reply_whole outcome.reply)
 
 abbrev pub WritesWhole : {M : Type 0} → LineOutcome M → Type 0

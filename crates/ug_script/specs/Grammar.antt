@@ -1,5 +1,5 @@
 -- What each line of a script asks for.
-use Rattle.std.specs.Prelude.{◌≡◌, ℕ, Bool, true, false, ◌&&◌, ◌||◌, nat_eq, if◌then◌else◌, List, [], ◌∷◌, ◌++◌, length, Option, Some, None, option_and_then, option_map, Result, Ok, Err, codes}
+use Rattle.std.specs.Prelude.{◌≡◌, ℕ, Bool, true, false, ◌&&◌, ◌||◌, nat_eq, nat_le, if◌then◌else◌, List, [], ◌∷◌, ◌++◌, length, Option, Some, None, option_and_then, option_map, Result, Ok, Err, codes}
 use Rattle.std.specs.Cmp.Lexicographic.{pointwise}
 use Rattle.std.specs.List.{starts_with}
 use Rattle.ug_types.specs.Elements.{Has}
@@ -26,8 +26,9 @@ use Rattle.ug_sysfs.specs.declared.script.IfaceMove.TheVariants.{Add, Remove}
 use Rattle.ug_sysfs.specs.declared.script.Move.{Move}
 use Rattle.ug_sysfs.specs.declared.script.Move.TheVariants as move
 use Rattle.ug_sysfs.specs.declared.script.Scheduled.{Scheduled}
+use Rattle.ug_core.specs.Hinting.{FitsEvent, longest_piece}
 use Rattle.ug_core.specs.declared.daemon.Event.{Event}
-use Rattle.ug_core.specs.declared.daemon.Event.TheVariants.{Sweep, Order}
+use Rattle.ug_core.specs.declared.daemon.Event.TheVariants.{Sweep, Order, Hint}
 use Rattle.ug_script.specs.declared.line_word.LineWord.{LineWord}
 use Rattle.ug_script.specs.declared.line_word.LineWord.TheVariants as word
 use Rattle.ug_script.specs.declared.step.AccessLine.{AccessLine}
@@ -41,7 +42,7 @@ use Rattle.ug_script.specs.FolderLines.{HoldsRule}
 use Rattle.ug_script.specs.IfaceLines.{iface_name_of, new_iface_of}
 use Rattle.ug_script.specs.LineWords.{line_word_of}
 use Rattle.ug_script.specs.Plugs.{device_of}
-use Rattle.ug_script.specs.Words.{name_of, moment_word, call_of, cut_by_space, seed_of, offset_of, is_entry, is_one_line}
+use Rattle.ug_script.specs.Words.{bytes_of, name_of, moment_word, call_of, cut_by_space, seed_of, offset_of, is_entry, is_one_line}
 
 -- ---- lines that stand before all others
 
@@ -189,6 +190,18 @@ order_of text =
     cut_by_space (λ moment rest. option_and_then (λ n. order_at n rest) (moment_word moment)) None
     text
 
+-- a piece of recorded uevents that an event can meet
+abbrev pub hint_at : ℕ → List ℕ → Option Event
+hint_at moment piece =
+    if nat_le (length piece) longest_piece then Some (Hint (record { 0 = moment }) piece) else None
+
+-- `MOMENT HEX`
+abbrev pub hint_of : List ℕ → Option Event
+hint_of text =
+    cut_by_space (λ moment digits.
+    option_and_then (λ n. option_and_then (λ piece. hint_at n piece) (bytes_of digits))
+    (moment_word moment)) None text
+
 -- ---- all lines
 
 -- what the text behind a line's first word asks for
@@ -208,6 +221,7 @@ step_behind word.Stop text = option_map (λ p. step.Schedule (plan.OnDisk p)) (s
 step_behind word.Sweep text =
     option_map (λ moment. step.Event (Sweep (record { 0 = moment }))) (moment_word text)
 step_behind word.Order text = option_map step.Event (order_of text)
+step_behind word.Hint text = option_map step.Event (hint_of text)
 step_behind word.Rule text = option_map step.Setup (in_rule (rule_read text))
 step_behind word.Folder text = option_map step.Setup (folder_line_of text)
 step_behind word.Conf text = Some (step.Setup (Conf text))
@@ -233,6 +247,8 @@ AsksForRule (Rule rule) = WellFormed rule
 AsksForRule (Folder line) = HoldsRule line.text
 AsksForRule line = Unit {0}
 
+-- and a piece of recorded uevents is one that an event can meet
 abbrev pub AsksForRules : Step → Type 0
 AsksForRules (step.Setup line) = AsksForRule line
+AsksForRules (step.Event event) = FitsEvent event
 AsksForRules other = Unit {0}

@@ -256,12 +256,18 @@ pub record AreDaemonRuns (beside : Beside) (policy : Judging) (first : RunStart)
   pub ended : AreSuccessive beside policy first runs.ended start
   pub last : IsDaemonRun beside policy start runs.last k p e
 
--- each device that is live at the end of that event was judged just once since the first kernel,
--- and stands as judged
+-- where names are due, the devices of these are settled, else all
+abbrev pub IsToSettle : Option (List (List ℕ)) → List ℕ → Type 0
+IsToSettle None name = Unit {0}
+IsToSettle (Some names) name = Has names name
+
+-- each device that the event settles and that is live at its end was judged just once since the
+-- first kernel, and stands as judged
 pub record JudgesOnce (policy : Judging) (hub : Option Write) (first : Kernel) (file : Disk)
     (hs : List Happened) (h : Happened) : Type 0 where
   pub run : IsRun policy hub first (Some file) (hs ++ h ∷ []) h.kernel_after h.disk_after h.after
   pub each : (i : ℕ) (d : Device) → Live h.kernel_after.devices i d
+      → IsToSettle h.answered.due d.name
       → IsJudgedOnce hub policy (hs ++ h ∷ []) run.steps h.kernel_after h.after.sweep.standings i
 
 -- the step schedules no move, lets no call fail and stops no machine
@@ -281,7 +287,7 @@ AreQuiet (step ∷ steps) = (is_quiet step ≡ true) × AreQuiet steps
 -- lines, and each other one with those of the rule file that the one before left. What was written
 -- is the text of the entries of all, and of the passes. Where no move was scheduled and no call was
 -- to fail, nobody is named as unsettled, no save is pending, and after an event that comes next
--- each live device was judged just once since the last start and stands as judged.
+-- each live device that it settles was judged just once since the last start and stands as judged.
 pub record Recorded (first : World) (lines : List (List ℕ)) (text : List ℕ) (s : Script)
     (w : World) : Type 0 where
   pub beside : Beside

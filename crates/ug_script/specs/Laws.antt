@@ -1,5 +1,5 @@
 -- What holds wherever a script has come to.
-use Rattle.std.specs.Prelude.{◌≡◌, ◌<◌, ◌≤◌, ℕ, true, false, List, [], Option, Some, None}
+use Rattle.std.specs.Prelude.{◌≡◌, ◌<◌, ◌≤◌, ◌+◌, ℕ, length, true, false, List, [], Option, Some, None}
 use Rattle.ug_types.specs.Elements.{AllDistinct}
 use Rattle.ug_kernel.specs.Defaults.{HasOnEntries}
 use Rattle.ug_kernel.specs.Kernel.{IsKernel, Kernel, Moves}
@@ -19,7 +19,7 @@ use Rattle.ug_core.specs.declared.choosing.Choice.{Choice}
 use Rattle.ug_core.specs.declared.storing.Stored.{Stored}
 use Rattle.ug_types.specs.Principals.{Named}
 use Rattle.ug_core.specs.declared.daemon.Event.{Event}
-use Rattle.ug_core.specs.declared.daemon.Event.TheVariants.{Sweep, Order}
+use Rattle.ug_core.specs.declared.daemon.Event.TheVariants.{Sweep, Order, Hint}
 use Rattle.ug_types.specs.declared.saved.Saved.{Saved}
 use Rattle.ug_store.specs.Disk.{IsImage}
 use Rattle.ug_store.specs.PlayDisk.{play_disk}
@@ -79,6 +79,7 @@ EachInDeed holds who d chosen o =
 -- in the order of an event: before the save of its change, and behind it
 abbrev pub EachInOrder : (Kernel → Type 0) → Event → DaemonState → World → DiskWorld → Type 0
 EachInOrder holds (Sweep moment) d w o = holds w.kernel
+EachInOrder holds (Hint moment piece) d w o = holds w.kernel
 EachInOrder holds (Order moment who line) d w o =
     BehindEach holds (asking d who line) w
     × EachInDeed holds who d (play (asking d who line) w) o
@@ -140,9 +141,13 @@ pub record IsLawfulEvent (event : Event) (s : Script) (w : World) : Type 0 where
   pub passed : (event_of event s w).disk.stopped ≡ false
       → HasPass s.setup.ifaces (event_of event s w)
 
--- no failure was counted, and devices and interfaces are sound
+-- how many devices there are, with those that moves may still bring
+abbrev pub coming_in : World → ℕ
+coming_in w = length w.moves + length w.kernel.devices
+
+-- no failure was counted, devices and interfaces are sound, and there are few devices
 abbrev pub IsFaultless : World → Type 0
-IsFaultless w = (w.faults ≡ 0) × IsSoundBus (bus_in w)
+IsFaultless w = (w.faults ≡ 0) × IsSoundBus (bus_in w) × (coming_in w ≤ 1048576)
 
 -- The kernel is sound, and a device that was born while its controller's default was off is on only
 -- after an On entry, if it was so in the first world; and each standing of the daemon, or of the

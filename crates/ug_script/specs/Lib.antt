@@ -3,11 +3,13 @@ pub mod LineExamples
 pub mod LineGrammar
 pub mod LineWords
 pub mod Plugs
+pub mod Hints
 pub mod IfaceLines
 pub mod Words
 pub mod Setup
 pub mod Script
 pub mod Replay
+pub mod Taking
 pub mod Generating
 pub mod Summing
 pub mod Laws

@@ -23,8 +23,9 @@ use Rattle.ug_sysfs.specs.declared.script.Move.TheVariants as move
 use Rattle.ug_sysfs.specs.declared.script.NewDevice.{NewDevice}
 use Rattle.ug_sysfs.specs.declared.script.NewIface.{NewIface}
 use Rattle.ug_sysfs.specs.declared.script.Scheduled.{Scheduled}
+use Rattle.ug_core.specs.Hinting.{longest_piece}
 use Rattle.ug_core.specs.declared.daemon.Event.{Event}
-use Rattle.ug_core.specs.declared.daemon.Event.TheVariants.{Sweep, Order}
+use Rattle.ug_core.specs.declared.daemon.Event.TheVariants.{Sweep, Order, Hint}
 use Rattle.ug_script.specs.declared.step.AccessLine.{AccessLine}
 use Rattle.ug_script.specs.declared.step.FolderLine.{FolderLine}
 use Rattle.ug_script.specs.declared.step.Plan.{Plan}
@@ -194,9 +195,19 @@ pub record IsOrderLine (line : List ℕ) (moment : Moment) (who : Named)
   pub moment_is : IsMoment moment.0
   pub named : is_name who.name ≡ true
 
+-- `hint MOMENT HEX`
+pub record IsHintLine (line : List ℕ) (moment : Moment) (piece : List ℕ) : Type 0 where
+  pub digits : List ℕ
+  pub is : line ≡ codes "hint " ++ (decimal moment.0 ++ 32 ∷ digits)
+  pub moment_is : IsMoment moment.0
+  pub described : AreHexOf piece digits
+  pub some : piece ≢ []
+  pub short : length piece ≤ longest_piece
+
 abbrev pub IsEventLine : List ℕ → Event → Type 0
 IsEventLine line (Sweep moment) = IsSweepLine line moment
 IsEventLine line (Order moment who request) = IsOrderLine line moment who request
+IsEventLine line (Hint moment piece) = IsHintLine line moment piece
 
 -- ---- lines that stand before all others
 

@@ -32,4 +32,5 @@ line_word_of text =
     if pointwise nat_eq text (codes "iface") then Some word.Iface else
     if pointwise nat_eq text (codes "uniface") then Some word.Uniface else
     if pointwise nat_eq text (codes "sweep") then Some word.Sweep else
-    if pointwise nat_eq text (codes "order") then Some word.Order else plan_word_of text
+    if pointwise nat_eq text (codes "order") then Some word.Order else
+    if pointwise nat_eq text (codes "hint") then Some word.Hint else plan_word_of text

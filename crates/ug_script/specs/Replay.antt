@@ -23,7 +23,7 @@ use Rattle.ug_core.specs.declared.storing.Stored.TheVariants as stored
 use Rattle.ug_core.specs.declared.choosing.Choice.{Choice}
 use Rattle.ug_core.specs.Event.{DaemonState, daemon_of, handling, has_numbers, ready, trying}
 use Rattle.ug_core.specs.declared.daemon.Event.{Event}
-use Rattle.ug_core.specs.declared.daemon.Event.TheVariants.{Sweep, Order}
+use Rattle.ug_core.specs.declared.daemon.Event.TheVariants.{Sweep, Order, Hint}
 use Rattle.ug_command_io.specs.Fold.{LineRefusal, LineOutcome, Writes, Refused, BadLine, InputTooLong, is_within}
 use Rattle.ug_command_io.specs.Runs.{Steps}
 use Rattle.ug_command_io.specs.declared.machine.Ran.{Ran}
@@ -42,6 +42,7 @@ use Rattle.ug_script.specs.declared.step.StepFault.TheVariants.{Bad, Memory}
 use Rattle.ug_iface.specs.declared.rules.IfaceRule.{IfaceRule}
 use Rattle.ug_script.specs.Passes.{pass_behind}
 use Rattle.ug_script.specs.Grammar.{step_of_line}
+use Rattle.ug_script.specs.Hints.{hint_played}
 use Rattle.ug_script.specs.Script.{Script, Started, takes_setup, with_setup_closed, daemon_in, disk_in, can_start, fresh, phase_of}
 use Rattle.ug_script.specs.Setup.{SetupState, beside_of, one_line_more, after_reading, policy_of, rules_from, started_at, with_rules}
 
@@ -164,15 +165,17 @@ with_store who d chosen saved =
 abbrev pub with_choice : Named → DaemonState → DiskWorld → Choice × World → OrderPlayed
 with_choice who d o chosen = with_store who d chosen (play_disk (storing d chosen.0.change) o)
 
--- a sweep alone has none
+-- a sweep alone has none, and a piece of uevents is read without a call
 abbrev pub order_played_by : Event → DaemonState → World → DiskWorld → OrderPlayed
 order_played_by (Sweep moment) d w o =
     record { daemon = d; became = stored.NotNeeded; world = w; disk = o }
+order_played_by (Hint moment piece) d w o =
+    record { daemon = hint_played piece d; became = stored.NotNeeded; world = w; disk = o }
 order_played_by (Order moment who line) d w o = with_choice who d o (play (asking d who line) w)
 
 -- An event as the world and the disk fix it, whose calls are numbered anew: a pending save is
--- tried, the order is answered, and then comes the sweep. The kernel is halted as soon as the
--- machine has stopped in a call of the disk.
+-- tried, the order is answered or the piece is read, and then comes the last stage. The kernel is
+-- halted as soon as the machine has stopped in a call of the disk.
 
 abbrev pub halted : DiskWorld → World → World
 halted o w = cond o.stopped (halting w) w

@@ -20,6 +20,7 @@ use Rattle.ug_conf.specs.Texts.{setting_line}
 use Rattle.ug_conf.specs.declared.folder_file.FolderFile.{FolderFile}
 use Rattle.ug_policy.specs.Marks.{is_folder}
 use Rattle.ug_lines.specs.LineReading.{lines_read}
+use Rattle.ug_uevent.specs.Streams.{nothing_begun}
 use Rattle.ug_core.specs.Starting.{Marked, entries_from, start_rules}
 use Rattle.ug_core.specs.Settings.{classes_of, hub_default}
 use Rattle.ug_core.specs.Policy.{Judging}
@@ -201,6 +202,8 @@ started_at number beside policy =
       };
       access = beside.access;
       pending = false;
+      stream = record { messages = []; begun = nothing_begun };
+      due = None;
       event = number;
       reply = None;
       watch = false;

@@ -1,7 +1,9 @@
 -- What each line of a script is to `replay --summary`, and the line that is written behind the
 -- last.
-use Rattle.std.specs.Prelude.{◌≡◌, ℕ, ◌+◌, ◌-◌, ◌^◌, min, nat_eq, List, [], ◌++◌, filter, length, codes, decimal, Option, Some, None}
+use Rattle.std.specs.Prelude.{◌≡◌, ℕ, ◌+◌, ◌-◌, ◌^◌, min, nat_eq, Bool, true, false, List, [], ◌++◌, filter, length, codes, decimal, Option, Some, None}
 use Rattle.std.specs.List.{starts_with}
+use Rattle.ug_audit.specs.declared.entry.Entry.{Entry}
+use Rattle.ug_audit.specs.declared.entry.Entry.TheVariants as entry
 use Rattle.ug_lines.specs.Lines.{lines_of}
 use Rattle.ug_sysfs.specs.World.{World}
 use Rattle.ug_command_io.specs.Fold.{LineRefusal, LineOutcome, Writes, Refused, Going, fault_line, no_memory, plays, read_fault}
@@ -35,6 +37,30 @@ with_lines lines t = record {
 -- those of a whole journal
 abbrev pub totals_of : List ℕ → Totals
 totals_of journal = with_lines (lines_of journal) no_totals
+
+-- ---- kinds of entries
+
+-- an event begins: a sweep, an order, or a piece of recorded uevents
+abbrev pub begins_event : Entry → Bool
+begins_event (entry.Event number moment) = true
+begins_event (entry.Order number moment who) = true
+begins_event (entry.Hint number moment) = true
+begins_event other = false
+
+abbrev pub sets_verdict : Entry → Bool
+sets_verdict (entry.Judged number name held verdict why) = true
+sets_verdict other = false
+
+-- a write was made, and not only intended
+abbrev pub tells_write : Entry → Bool
+tells_write (entry.Wrote number name bytes outcome) = true
+tells_write other = false
+
+-- of a device, or of all
+abbrev pub tells_unsettled : Entry → Bool
+tells_unsettled (entry.Unsettled name why) = true
+tells_unsettled (entry.UnsettledAll why) = true
+tells_unsettled other = false
 
 -- ---- lines of a script
 

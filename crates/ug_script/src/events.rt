@@ -1,8 +1,7 @@
 // Events of a script.
-ghost use Rattle.std.specs.Prelude.{◌≡◌, ◌≤◌, ◌++◌, ◌∷◌, [], true, false, cond, IfOk, List, OnOk, None, Some};
-ghost use Rattle.ug_types.specs.Ends.{Rose};
-ghost use Rattle.ug_command_io.specs.Runs.{Closes, Steps};
+ghost use Rattle.std.specs.Prelude.{◌≡◌, ◌++◌, ◌∷◌, [], true, false, cond, IfOk, List, OnOk, None};
 ghost use Rattle.ug_core.specs.Event.{daemon_of, has_numbers};
+ghost use Rattle.ug_core.specs.Hinting.{FitsEvent};
 ghost use Rattle.ug_core.specs.Stops.{IsReadable};
 ghost use Rattle.ug_simulation.specs.Play.{tells_memory};
 ghost use Rattle.ug_iface.specs.declared.rules.IfaceRule.{IfaceRule};
@@ -15,20 +14,22 @@ ghost use Rattle.ug_script.specs.Replay as replay;
 ghost use Rattle.ug_script.specs.Replay.{IsEventPlayed, came_of, event_by, event_from};
 ghost use Rattle.ug_script.specs.Script.{IsStartedBy};
 ghost use Rattle.ug_script.specs.Setup.{StartsOn, after_reading, rules_from};
+ghost use Rattle.ug_script.specs.Taking.{StepsToTell, ran_of, reported};
 
 use crate::halting::Halting;
 use crate::passes::pass_behind;
 use crate::session::Session;
 use crate::setup::Setup;
 use crate::start::restart_daemon;
-use crate::text::{outcome_text, put, stopped_text, tells_memory};
+use crate::taken::Taken;
+use crate::text::{stopped_text, tells_memory};
 use std::alloc::Global;
 use ug_audit::Panel;
 use ug_command_io::Ran;
-use ug_core::{Event, Report};
+use ug_core::Event;
 use ug_store::{MemDisk, Planned, RuleDisk};
 use ug_sysfs::{SimKernel, Sysfs};
-use ug_types::{NoMemory, Sink};
+use ug_types::NoMemory;
 
 fn plan_failure(disk: &mut MemDisk, planned: &Planned) -> Result<(), NoMemory>
     ensures ok { OnOk result
@@ -62,8 +63,9 @@ fn begin_disk(disk: &mut MemDisk, plan: &[Planned]) -> Result<(), NoMemory>
 
 /// An event, which the script fixes unless it is told that memory was wanting. Nobody but the journal notes it.
 fn handle(alloc: Global, session: &mut Session, event: &Event, kernel: &mut SimKernel)
-    requires { has_numbers (daemon_of session.old.daemon) kernel.old.faults session.old.disk.faults
-        ≡ true }
+    requires numbers { has_numbers (daemon_of session.old.daemon)
+        kernel.old.faults session.old.disk.faults ≡ true }
+    requires piece { FitsEvent event.now }
     ensures played { IsEventPlayed event.now
         (daemon_of session.old.daemon) kernel.old session.old.disk
         (daemon_of session.new.daemon) kernel.new session.new.disk }
@@ -87,71 +89,40 @@ fn handle(alloc: Global, session: &mut Session, event: &Event, kernel: &mut SimK
     );
 }
 
-/// The event's text, and behind it that of the pass.
-fn whole_text(alloc: Global, report: &Report, passed: &[u8]) -> Result<Vec<u8>, NoMemory>
-    ensures { IfOk result (λ text. text.items
-        ≡ replay.outcome_text (record {
-          entries = report.now.entries.entries;
-          reply = report.now.reply;
-        }) ++ passed.now) }
-{
-    let mut text = outcome_text(alloc, report)?;
-    text.extend_from_slice(passed)?;
-    Ok(text)
-}
-
-fn put_outcome<K: Sink>(alloc: Global, report: &Report, passed: &[u8], out: &mut K) -> Ran
-    ensures ran { Closes (Some (replay.outcome_text (record {
-      entries = report.now.entries.entries;
-      reply = report.now.reply;
-    }) ++ passed.now)) (K.held out.old) (K.held out.new) result }
-    ensures taken { (¬ (result ≡ Ran.Bad)) × (¬ (result ≡ Ran.TooLong)) }
-    ensures counted { K.faults out.old ≤ K.faults out.new }
-    ensures cause { result ≡ Ran.SinkFailed → Rose (K.faults out.old) (K.faults out.new) }
-{
-    match whole_text(alloc, report, passed) {
-        Ok(text) => put(out, text.as_slice()),
-        Err(_) => Ran::Memory,
-    }
-}
-
-/// What a crash might have left of the rule file is forgotten, and the event's text is written, with that of its pass.
-fn write_event<K: Sink>(alloc: Global, session: &mut Session, passed: &[u8], out: &mut K) -> Ran
+/// What a crash might have left of the rule file is forgotten, and the text of the event and of its pass is to be written.
+fn leave_event(session: &mut Session, passed: Vec<u8>) -> Taken
     requires { session.old.daemon.report.entries.entries
         ≡ (daemon_of session.old.daemon).sweep.entries }
     ensures ran { (rules : List IfaceRule) (w : World)
-        → passed.now ≡ (pass_behind rules (daemon_of session.old.daemon) w).text
-        → Steps (replay.finished rules
+        → passed.items ≡ (pass_behind rules (daemon_of session.old.daemon) w).text
+        → StepsToTell (replay.finished rules
         (record { daemon = daemon_of session.old.daemon; world = w; disk = session.old.disk }))
         (record {
           daemon = daemon_of session.new.daemon;
           world = over (pass_behind rules (daemon_of session.old.daemon) w).world;
           disk = session.new.disk;
         })
-        (K.held out.old) (K.held out.new) result }
-    ensures taken { (¬ (result ≡ Ran.Bad)) × (¬ (result ≡ Ran.TooLong)) }
-    ensures counted { K.faults out.old ≤ K.faults out.new }
-    ensures cause { result ≡ Ran.SinkFailed → Rose (K.faults out.old) (K.faults out.new) }
+        (reported session.new.daemon.report) result }
+    ensures taken { (¬ (result ≡ Taken.Bad)) × (¬ (result ≡ Taken.TooLong)) }
     ensures before { session.new.before ≡ session.old.before }
 {
     match session.disk.forget() {
-        Ok(()) => put_outcome(alloc, session.daemon.report(), passed, out),
-        Err(_) => Ran::Memory,
+        Ok(()) => Taken::Event(passed),
+        Err(_) => Taken::Memory,
     }
 }
 
 /// The pass behind an event that was handled, and the text of both.
 #[tactic(auto, using(crate::proofs::EventSteps::memory_steps))]
-fn finish_event<K: Sink>(
+fn finish_event(
     alloc: Global,
     setup: &Setup,
     session: &mut Session,
     kernel: &mut SimKernel,
-    out: &mut K,
-) -> Ran
+) -> Taken
     requires { session.old.daemon.report.entries.entries
         ≡ (daemon_of session.old.daemon).sweep.entries }
-    ensures ran { Steps (replay.finished setup.now.ifaces
+    ensures ran { StepsToTell (replay.finished setup.now.ifaces
         (record {
           daemon = daemon_of session.old.daemon;
           world = kernel.old;
@@ -162,21 +133,19 @@ fn finish_event<K: Sink>(
           world = kernel.new;
           disk = session.new.disk;
         })
-        (K.held out.old) (K.held out.new) result }
-    ensures taken { (¬ (result ≡ Ran.Bad)) × (¬ (result ≡ Ran.TooLong)) }
-    ensures counted { K.faults out.old ≤ K.faults out.new }
-    ensures cause { result ≡ Ran.SinkFailed → Rose (K.faults out.old) (K.faults out.new) }
+        (reported session.new.daemon.report) result }
+    ensures taken { (¬ (result ≡ Taken.Bad)) × (¬ (result ≡ Taken.TooLong)) }
     ensures before { session.new.before ≡ session.old.before }
 {
     match pass_behind(alloc, &session.daemon, setup.ifaces.as_slice(), kernel) {
         Ok(passed) => {
             if kernel.ran_out() {
-                return Ran::Memory;
+                return Taken::Memory;
             }
             kernel.end_event();
-            write_event(alloc, session, passed.as_slice(), out)
+            leave_event(session, passed)
         }
-        Err(_) => Ran::Memory,
+        Err(_) => Taken::Memory,
     }
 }
 
@@ -250,91 +219,81 @@ fn restart_behind(
     Ok(text)
 }
 
-/// The same, and the text is written.
+/// The same, and the text is to be written.
 #[tactic(auto, using(crate::proofs::EventSteps::memory_steps))]
-fn stop_event<K: Sink>(
-    alloc: Global,
-    setup: &Setup,
-    session: &mut Session,
-    call: u64,
-    out: &mut K,
-) -> Ran
+fn stop_event(alloc: Global, setup: &Setup, session: &mut Session, call: u64) -> Taken
     requires entries { session.old.daemon.report.entries.entries
         ≡ (daemon_of session.old.daemon).sweep.entries }
     requires session { IsStartedBy setup.now session.old }
-    ensures ran { (w : World) → Steps (replay.stopped_of setup.now call
+    ensures ran { (w : World) → StepsToTell (replay.stopped_of setup.now call
         (record { daemon = daemon_of session.old.daemon; world = w; disk = session.old.disk })
         (rules_from setup.now.folder.count session.old.disk.disk.text))
         (record { daemon = daemon_of session.new.daemon; world = over w; disk = session.new.disk })
-        (K.held out.old) (K.held out.new) result }
-    ensures taken { (¬ (result ≡ Ran.Bad)) × (¬ (result ≡ Ran.TooLong)) }
-    ensures counted { K.faults out.old ≤ K.faults out.new }
-    ensures cause { result ≡ Ran.SinkFailed → Rose (K.faults out.old) (K.faults out.new) }
+        (reported session.new.daemon.report) result }
+    ensures taken { (¬ (result ≡ Taken.Bad)) × (¬ (result ≡ Taken.TooLong)) }
     ensures before { session.new.before ≡ session.old.before }
 {
     match restart_behind(alloc, setup, session, call) {
-        Ok(text) => put(out, text.as_slice()),
-        Err(_) => Ran::Memory,
+        Ok(text) => Taken::Text(text),
+        Err(_) => Taken::Memory,
     }
 }
 
 /// An event over a disk that has begun it, and its text.
 #[tactic(auto, using(crate::proofs::EventSteps::memory_steps))]
-fn play_event<K: Sink>(
+fn play_event(
     alloc: Global,
     setup: &Setup,
     session: &mut Session,
     plan: &[Planned],
     event: &Event,
     kernel: &mut SimKernel,
-    out: &mut K,
-) -> Ran
+) -> Taken
     requires numbers { has_numbers (daemon_of session.old.daemon)
         kernel.old.faults session.old.disk.faults ≡ true }
+    requires piece { FitsEvent event.now }
     requires session { IsStartedBy setup.now session.old }
-    ensures ran { Steps (came_of setup.now plan.now
+    ensures ran { StepsToTell (came_of setup.now plan.now
         (event_from event.now (daemon_of session.old.daemon) kernel.old session.old.disk))
         (record {
           daemon = daemon_of session.new.daemon;
           world = kernel.new;
           disk = session.new.disk;
         })
-        (K.held out.old) (K.held out.new) result }
-    ensures readable { result ≡ Ran.Done → IsReadable (happened_from event.now
+        (reported session.new.daemon.report) result }
+    ensures readable { ran_of result ≡ Ran.Done → IsReadable (happened_from event.now
         (daemon_of session.old.daemon) kernel.old session.old.disk) }
-    ensures taken { (¬ (result ≡ Ran.Bad)) × (¬ (result ≡ Ran.TooLong)) }
-    ensures counted { K.faults out.old ≤ K.faults out.new }
-    ensures cause { result ≡ Ran.SinkFailed → Rose (K.faults out.old) (K.faults out.new) }
+    ensures taken { (¬ (result ≡ Taken.Bad)) × (¬ (result ≡ Taken.TooLong)) }
     ensures before { session.new.before ≡ session.old.before }
 {
     handle(alloc, session, event, kernel);
     let noted = session.daemon.report().entries.as_slice();
     if kernel.ran_out() || session.disk.ran_out() || tells_memory(noted) {
-        return Ran::Memory;
+        return Taken::Memory;
     }
     if session.disk.stopped() {
         kernel.end_event();
         let call = first_stop(plan, session.disk.calls());
-        return stop_event(alloc, setup, session, call, out);
+        return stop_event(alloc, setup, session, call);
     }
-    finish_event(alloc, setup, session, kernel, out)
+    finish_event(alloc, setup, session, kernel)
 }
 
 /// An event and its text.
 #[tactic(auto, using(crate::proofs::EventSteps::memory_steps))]
-fn run_event<K: Sink>(
+fn run_event(
     alloc: Global,
     setup: &Setup,
     session: &mut Session,
     plan: &[Planned],
     event: &Event,
     kernel: &mut SimKernel,
-    out: &mut K,
-) -> Ran
+) -> Taken
     requires numbers { has_numbers (daemon_of session.old.daemon)
         kernel.old.faults session.old.disk.faults ≡ true }
+    requires piece { FitsEvent event.now }
     requires session { IsStartedBy setup.now session.old }
-    ensures ran { Steps
+    ensures ran { StepsToTell
         (came_of setup.now plan.now (event_from event.now (daemon_of session.old.daemon) kernel.old
         (replay.begun_disk plan.now session.old.disk)))
         (record {
@@ -342,54 +301,50 @@ fn run_event<K: Sink>(
           world = kernel.new;
           disk = session.new.disk;
         })
-        (K.held out.old) (K.held out.new) result }
-    ensures readable { result ≡ Ran.Done → IsReadable (happened_from event.now
+        (reported session.new.daemon.report) result }
+    ensures readable { ran_of result ≡ Ran.Done → IsReadable (happened_from event.now
         (daemon_of session.old.daemon) kernel.old (replay.begun_disk plan.now session.old.disk)) }
-    ensures taken { (¬ (result ≡ Ran.Bad)) × (¬ (result ≡ Ran.TooLong)) }
-    ensures counted { K.faults out.old ≤ K.faults out.new }
-    ensures cause { result ≡ Ran.SinkFailed → Rose (K.faults out.old) (K.faults out.new) }
+    ensures taken { (¬ (result ≡ Taken.Bad)) × (¬ (result ≡ Taken.TooLong)) }
     ensures before { session.new.before ≡ session.old.before }
 {
     match begin_disk(&mut session.disk, plan) {
-        Ok(()) => play_event(alloc, setup, session, plan, event, kernel, out),
-        Err(_) => Ran::Memory,
+        Ok(()) => play_event(alloc, setup, session, plan, event, kernel),
+        Err(_) => Taken::Memory,
     }
 }
 
 /// An event and its text, unless the numbers have run out.
-pub fn next_event<K: Sink>(
+pub fn next_event(
     alloc: Global,
     setup: &Setup,
     session: &mut Session,
     plan: &[Planned],
     event: &Event,
     kernel: &mut SimKernel,
-    out: &mut K,
-) -> Ran
+) -> Taken
     requires session { IsStartedBy setup.now session.old }
-    ensures ran { Steps (event_by setup.now event.now plan.now
+    requires piece { FitsEvent event.now }
+    ensures ran { StepsToTell (event_by setup.now event.now plan.now
         (daemon_of session.old.daemon) kernel.old session.old.disk)
         (record {
           daemon = daemon_of session.new.daemon;
           world = kernel.new;
           disk = session.new.disk;
         })
-        (K.held out.old) (K.held out.new) result }
-    ensures readable { result ≡ Ran.Done → IsReadable (happened_from event.now
+        (reported session.new.daemon.report) result }
+    ensures readable { ran_of result ≡ Ran.Done → IsReadable (happened_from event.now
         (daemon_of session.old.daemon) kernel.old (replay.begun_disk plan.now session.old.disk)) }
-    ensures numbers { result ≡ Ran.Bad
+    ensures numbers { result ≡ Taken.Bad
         → has_numbers (daemon_of session.old.daemon) kernel.old.faults session.old.disk.faults
         ≡ false }
-    ensures short { ¬ (result ≡ Ran.TooLong) }
-    ensures counted { K.faults out.old ≤ K.faults out.new }
-    ensures cause { result ≡ Ran.SinkFailed → Rose (K.faults out.old) (K.faults out.new) }
+    ensures short { ¬ (result ≡ Taken.TooLong) }
     ensures before { session.new.before ≡ session.old.before }
 {
     if !session
         .daemon
         .has_numbers(kernel.faults(), session.disk.faults())
     {
-        return Ran::Bad;
+        return Taken::Bad;
     }
-    run_event(alloc, setup, session, plan, event, kernel, out)
+    run_event(alloc, setup, session, plan, event, kernel)
 }

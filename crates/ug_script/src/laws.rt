@@ -21,7 +21,7 @@ ghost use Rattle.ug_sysfs.specs.declared.script.IfaceMove.TheVariants.{Add, Remo
 ghost use Rattle.ug_sysfs.specs.declared.script.Move.{Move};
 ghost use Rattle.ug_sysfs.specs.declared.script.Move.TheVariants as move;
 ghost use Rattle.ug_store.specs.declared.mishap.Mishap.TheVariants as mishap;
-ghost use Rattle.ug_core.specs.declared.daemon.Event.TheVariants.{Order, Sweep};
+ghost use Rattle.ug_core.specs.declared.daemon.Event.TheVariants.{Hint, Order, Sweep};
 ghost use Rattle.ug_script.specs.declared.step.AccessLine.{AccessLine};
 ghost use Rattle.ug_script.specs.declared.step.SetupLine.TheVariants.{Access};
 ghost use Rattle.ug_script.specs.declared.step.SetupLine.TheVariants as setup;
@@ -95,6 +95,8 @@ pub fn line_words_law()
     ensures order { step_of_line (codes "order 7 joe list-rules")
         ≡ Some (step.Event (Order (record { 0 = 7 })
         (record { group = false; name = codes "joe" }) (codes "list-rules"))) }
+    ensures hint { step_of_line (codes "hint 7 4a0B")
+        ≡ Some (step.Event (Hint (record { 0 = 7 }) (74 ∷ 11 ∷ []))) }
     ensures conf { step_of_line (codes "conf HidePII=true")
         ≡ Some (step.Setup (setup.Conf (codes "HidePII=true"))) }
     ensures ahead { step_of_line (codes "zone +01:30") ≡ Some (step.Setup (setup.Zone (pos 5400))) }

@@ -17,6 +17,7 @@ pub enum LineWord {
     Stop,
     Sweep,
     Order,
+    Hint,
     Rule,
     Folder,
     Conf,
@@ -99,6 +100,9 @@ pub fn line_word(text: &[u8]) -> Option<LineWord>
     }
     if text == b"order".as_slice() {
         return Some(LineWord::Order);
+    }
+    if text == b"hint".as_slice() {
+        return Some(LineWord::Hint);
     }
     plan_word(text)
 }

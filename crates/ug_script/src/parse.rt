@@ -3,7 +3,7 @@ ghost use Rattle.ug_script.specs.Grammar as grammar;
 ghost use Rattle.ug_script.specs.Grammar.{step_of_line};
 ghost use Rattle.ug_script.specs.Words.{Parses};
 
-use crate::event_lines::order;
+use crate::event_lines::{hint, order};
 use crate::iface_lines::{iface_name, new_iface};
 use crate::line_word::{LineWord, line_word};
 use crate::plan_lines::{disk_fail, failing, scheduled, stop};
@@ -36,6 +36,7 @@ fn step_behind(alloc: Global, word: LineWord, text: &[u8]) -> Result<Step, StepF
         LineWord::Stop => Ok(Step::Schedule(Plan::OnDisk(stop(text).ok_or(bad)?))),
         LineWord::Sweep => Ok(Step::Event(Event::Sweep(Moment(moment(text).ok_or(bad)?)))),
         LineWord::Order => Ok(Step::Event(order(alloc, text)?)),
+        LineWord::Hint => Ok(Step::Event(hint(alloc, text)?)),
         LineWord::Rule => Ok(Step::Setup(read_rule(alloc, text)?)),
         LineWord::Folder => Ok(Step::Setup(read_folder_line(alloc, text)?)),
         LineWord::Conf => Ok(Step::Setup(SetupLine::Conf(Text::of(alloc, text)?))),
@@ -47,7 +48,7 @@ fn step_behind(alloc: Global, word: LineWord, text: &[u8]) -> Result<Step, StepF
 }
 
 /// Reads a line that is not the first. An empty line and a comment are skipped. `plug`, `unplug`, `iface` and `uniface` tell what the
-/// kernel does by itself; `before`, `after`, `fail`, `disk fail` and `stop` speak of a call of the next event; `sweep` and `order` are events; `restart`
+/// kernel does by itself; `before`, `after`, `fail`, `disk fail` and `stop` speak of a call of the next event; `sweep`, `order` and `hint` are events; `restart`
 /// begins another run of the daemon; `rule`, `folder`, `conf`, `access`, `seed`, `zone` and `iface-rule` stand
 /// before all others.
 #[tactic(auto, unfolding(crate::specs::Grammar::step_of_line))]

@@ -1,11 +1,12 @@
 // A script whose first line was read.
-ghost use Rattle.std.specs.Prelude.{◌≡◌, ◌≤◌, ◌-◌, ◌++◌, ◌∷◌, [], ℕ, false, List, Option, Some, IfOk, OnOk};
-ghost use Rattle.ug_types.specs.Ends.{Rose};
+ghost use Rattle.std.specs.Prelude.{◌≡◌, ◌-◌, ◌++◌, ◌∷◌, [], ℕ, false, List, Option, Some, IfOk, OnOk};
 ghost use Rattle.ug_command_io.specs.Runs.{Steps};
+ghost use Rattle.ug_lines.specs.Lines.{lines_of};
 ghost use Rattle.ug_sysfs.specs.World.{World, carried};
 ghost use Rattle.ug_script.specs.Generating as generating;
 ghost use Rattle.ug_script.specs.Generating.{devices_moved, skimmed, skimmed_if};
 ghost use Rattle.ug_script.specs.Grammar.{AsksForRule, AsksForRules, step_of_line};
+ghost use Rattle.ug_core.specs.Hinting.{FitsEvent};
 ghost use Rattle.ug_core.specs.Stops.{IsReadable};
 ghost use Rattle.ug_script.specs.Journal.{happened_from};
 ghost use Rattle.ug_script.specs.LinesRead.{FirstReads, StepReads};
@@ -13,9 +14,11 @@ ghost use Rattle.ug_script.specs.Replay as replay;
 ghost use Rattle.ug_script.specs.Script as script;
 ghost use Rattle.ug_script.specs.Script.{IsStartedBy, can_start, daemon_in, disk_in, fresh, phase_of, with_setup_closed};
 ghost use Rattle.ug_script.specs.Setup.{rules_from};
+ghost use Rattle.ug_script.specs.Summing.{with_lines};
+ghost use Rattle.ug_script.specs.Taking.{StepsToTell, ran_of, reported, reported_in};
 ghost use Rattle.ug_store.specs.declared.mishap.Planned.{Planned};
 ghost use Rattle.ug_core.specs.Event.{daemon_of, has_numbers};
-ghost use Rattle.ug_script.specs.Replay.{StartsAgain, event_by, event_taken, line_taken, restart_taken, restarted, script_of, started_script, taken, taken_if, with_plan};
+ghost use Rattle.ug_script.specs.Replay.{StartsAgain, event_by, event_taken, line_taken, outcome_text, restart_taken, restarted, script_of, started_script, taken, taken_if, with_plan};
 
 use crate::events::next_event;
 use crate::parse::parse_line;
@@ -24,13 +27,16 @@ use crate::session::Session;
 use crate::setup::Setup;
 use crate::start::{restart_daemon, start_daemon};
 use crate::step::{Plan, SetupLine, Step, StepFault};
+use crate::taken::{Taken, silently};
+use crate::text::whole_text;
+use crate::totals::Totals;
 use std::alloc::Global;
 use ug_command_io::Ran;
 use ug_core::Event;
 use ug_print::RulesTextFault;
 use ug_store::Planned;
 use ug_sysfs::{Move, SimKernel};
-use ug_types::{NoMemory, Sink};
+use ug_types::NoMemory;
 
 fn takes_setup(phase: &Phase) -> bool
     ensures { result ≡ script.takes_setup (phase_of phase.now) }
@@ -53,37 +59,35 @@ fn add_planned(plan: &mut Vec<Planned>, planned: Planned) -> Result<(), NoMemory
 }
 
 /// The next event, which takes what was planned for the disk.
-fn planned_event<K: Sink>(
+fn planned_event(
     alloc: Global,
     setup: &Setup,
     session: &mut Session,
     plan: &mut Vec<Planned>,
     event: &Event,
     kernel: &mut SimKernel,
-    out: &mut K,
-) -> Ran
+) -> Taken
     requires session { IsStartedBy setup.now session.old }
-    ensures ran { Steps (event_by setup.now event.now plan.old.items
+    requires piece { FitsEvent event.now }
+    ensures ran { StepsToTell (event_by setup.now event.now plan.old.items
         (daemon_of session.old.daemon) kernel.old session.old.disk)
         (record {
           daemon = daemon_of session.new.daemon;
           world = kernel.new;
           disk = session.new.disk;
         })
-        (K.held out.old) (K.held out.new) result }
-    ensures readable { result ≡ Ran.Done → IsReadable (happened_from event.now
+        (reported session.new.daemon.report) result }
+    ensures readable { ran_of result ≡ Ran.Done → IsReadable (happened_from event.now
         (daemon_of session.old.daemon) kernel.old
         (replay.begun_disk plan.old.items session.old.disk)) }
-    ensures numbers { result ≡ Ran.Bad
+    ensures numbers { result ≡ Taken.Bad
         → has_numbers (daemon_of session.old.daemon) kernel.old.faults session.old.disk.faults
         ≡ false }
-    ensures short { ¬ (result ≡ Ran.TooLong) }
+    ensures short { ¬ (result ≡ Taken.TooLong) }
     ensures planned { plan.new.items ≡ [] }
-    ensures counted { K.faults out.old ≤ K.faults out.new }
-    ensures cause { result ≡ Ran.SinkFailed → Rose (K.faults out.old) (K.faults out.new) }
     ensures before { session.new.before ≡ session.old.before }
 {
-    let ran = next_event(alloc, setup, session, plan.as_slice(), event, kernel, out);
+    let ran = next_event(alloc, setup, session, plan.as_slice(), event, kernel);
     plan.clear();
     ran
 }
@@ -133,6 +137,36 @@ impl Running {
         self.setup.settings.so_far().with_port
     }
 
+    /// The text of the last event, as the daemon reports it, and another one behind it.
+    pub fn event_text(&self, alloc: Global, passed: &[u8]) -> Result<Vec<u8>, NoMemory>
+        ensures { IfOk result (λ text. text.items
+            ≡ outcome_text (reported_in self.now.phase) ++ passed.now) }
+    {
+        if let Phase::Started(session) = &self.phase {
+            return whole_text(alloc, session.daemon.report(), passed);
+        }
+        let mut text = Vec::new(alloc);
+        text.extend_from_slice(passed)?;
+        Ok(text)
+    }
+
+    /// Numbers with those of that text.
+    pub fn event_totals(
+        &self,
+        alloc: Global,
+        totals: Totals,
+        passed: &[u8],
+    ) -> Result<Totals, NoMemory>
+        ensures { IfOk result (λ t. t
+            ≡ with_lines (lines_of (outcome_text (reported_in self.now.phase) ++ passed.now))
+            totals) }
+    {
+        if let Phase::Started(session) = &self.phase {
+            return totals.with_event(alloc, session.daemon.report(), passed);
+        }
+        Ok(totals.with_text(passed))
+    }
+
     fn close(&mut self)
         ensures { script_of self.new ≡ with_setup_closed (script_of self.old) }
     {
@@ -141,7 +175,7 @@ impl Running {
         }
     }
 
-    /// Takes a line of setup, and writes nothing.
+    /// StepsToTell a line of setup, and writes nothing.
     fn set_up(&mut self, line: SetupLine) -> Ran
         requires { AsksForRule line }
         ensures silent { ¬ (result ≡ Ran.SinkFailed) }
@@ -159,7 +193,7 @@ impl Running {
         }
     }
 
-    /// Takes what the kernel does by itself, and writes nothing.
+    /// StepsToTell what the kernel does by itself, and writes nothing.
     fn carry_out(&mut self, action: Move, kernel: &mut SimKernel) -> Ran
         ensures silent { ¬ (result ≡ Ran.SinkFailed) }
         ensures ran { (held : Option (List ℕ))
@@ -192,38 +226,31 @@ impl Running {
         }
     }
 
-    /// Takes the first event, which starts the daemon.
-    fn first_event<K: Sink>(
-        &mut self,
-        alloc: Global,
-        event: &Event,
-        kernel: &mut SimKernel,
-        out: &mut K,
-    ) -> Ran
-        requires { script.has_started (phase_of self.old.phase) ≡ false }
-        ensures ran { Steps (event_taken event.now (script_of self.old) kernel.old)
-            (Some (script_of self.new), kernel.new) (K.held out.old) (K.held out.new) result }
-        ensures readable { result ≡ Ran.Done
+    /// StepsToTell the first event, which starts the daemon.
+    fn first_event(&mut self, alloc: Global, event: &Event, kernel: &mut SimKernel) -> Taken
+        requires unstarted { script.has_started (phase_of self.old.phase) ≡ false }
+        requires piece { FitsEvent event.now }
+        ensures ran { StepsToTell (event_taken event.now (script_of self.old) kernel.old)
+            (Some (script_of self.new), kernel.new) (reported_in self.new.phase) result }
+        ensures readable { ran_of result ≡ Ran.Done
             → StepReads (Some (Step.Event event.now)) (script_of self.old) kernel.old }
-        ensures numbers { result ≡ Ran.Bad
+        ensures numbers { result ≡ Taken.Bad
             → has_numbers (daemon_in (script_of self.old)) kernel.old.faults
             (disk_in (script_of self.old)).faults ≡ false }
-        ensures short { result ≡ Ran.TooLong
+        ensures short { result ≡ Taken.TooLong
             → can_start (script_of self.old).setup (script_of self.old).phase ≡ false }
-        ensures counted { K.faults out.old ≤ K.faults out.new }
-        ensures cause { result ≡ Ran.SinkFailed → Rose (K.faults out.old) (K.faults out.new) }
     {
         match start_daemon(alloc, &self.setup) {
             Ok(session) => {
                 let mut session = session;
                 let setup = &self.setup;
                 let plan = &mut self.plan;
-                let ran = planned_event(alloc, setup, &mut session, plan, event, kernel, out);
+                let ran = planned_event(alloc, setup, &mut session, plan, event, kernel);
                 self.phase = Phase::Started(session);
                 ran
             }
-            Err(RulesTextFault::TooLong) => Ran::TooLong,
-            Err(RulesTextFault::Memory) => Ran::Memory,
+            Err(RulesTextFault::TooLong) => Taken::TooLong,
+            Err(RulesTextFault::Memory) => Taken::Memory,
         }
     }
 
@@ -268,34 +295,27 @@ impl Running {
         self.first_restart(alloc)
     }
 
-    fn event<K: Sink>(
-        &mut self,
-        alloc: Global,
-        event: &Event,
-        kernel: &mut SimKernel,
-        out: &mut K,
-    ) -> Ran
-        ensures ran { Steps (event_taken event.now (script_of self.old) kernel.old)
-            (Some (script_of self.new), kernel.new) (K.held out.old) (K.held out.new) result }
-        ensures readable { result ≡ Ran.Done
+    fn event(&mut self, alloc: Global, event: &Event, kernel: &mut SimKernel) -> Taken
+        requires piece { FitsEvent event.now }
+        ensures ran { StepsToTell (event_taken event.now (script_of self.old) kernel.old)
+            (Some (script_of self.new), kernel.new) (reported_in self.new.phase) result }
+        ensures readable { ran_of result ≡ Ran.Done
             → StepReads (Some (Step.Event event.now)) (script_of self.old) kernel.old }
-        ensures numbers { result ≡ Ran.Bad
+        ensures numbers { result ≡ Taken.Bad
             → has_numbers (daemon_in (script_of self.old)) kernel.old.faults
             (disk_in (script_of self.old)).faults ≡ false }
-        ensures short { result ≡ Ran.TooLong
+        ensures short { result ≡ Taken.TooLong
             → can_start (script_of self.old).setup (script_of self.old).phase ≡ false }
-        ensures counted { K.faults out.old ≤ K.faults out.new }
-        ensures cause { result ≡ Ran.SinkFailed → Rose (K.faults out.old) (K.faults out.new) }
     {
         if let Phase::Started(session) = &mut self.phase {
             let setup = &self.setup;
             let plan = &mut self.plan;
-            return planned_event(alloc, setup, session, plan, event, kernel, out);
+            return planned_event(alloc, setup, session, plan, event, kernel);
         }
-        self.first_event(alloc, event, kernel, out)
+        self.first_event(alloc, event, kernel)
     }
 
-    /// Takes what is to come at a call of the next event, and writes nothing.
+    /// StepsToTell what is to come at a call of the next event, and writes nothing.
     fn schedule(&mut self, plan: Plan, kernel: &mut SimKernel) -> Ran
         ensures silent { ¬ (result ≡ Ran.SinkFailed) }
         ensures ran { (held : Option (List ℕ))
@@ -315,57 +335,42 @@ impl Running {
         }
     }
 
-    /// Takes a line behind the first, and writes its text.
-    pub fn line<K: Sink>(
-        &mut self,
-        alloc: Global,
-        line: &[u8],
-        kernel: &mut SimKernel,
-        out: &mut K,
-    ) -> Ran
-        ensures ran { Steps (taken_if (step_of_line line.now) (script_of self.old) kernel.old)
-            (Some (script_of self.new), kernel.new) (K.held out.old) (K.held out.new) result }
-        ensures why { StartsAgain (step_of_line line.now) (script_of self.old) kernel.old result }
-        ensures readable { result ≡ Ran.Done
+    /// StepsToTell a line behind the first.
+    pub fn line(&mut self, alloc: Global, line: &[u8], kernel: &mut SimKernel) -> Taken
+        ensures ran { StepsToTell (taken_if (step_of_line line.now) (script_of self.old) kernel.old)
+            (Some (script_of self.new), kernel.new) (reported_in self.new.phase) result }
+        ensures why { StartsAgain (step_of_line line.now) (script_of self.old) kernel.old
+            (ran_of result) }
+        ensures readable { ran_of result ≡ Ran.Done
             → StepReads (step_of_line line.now) (script_of self.old) kernel.old }
-        ensures counted { K.faults out.old ≤ K.faults out.new }
-        ensures cause { result ≡ Ran.SinkFailed → Rose (K.faults out.old) (K.faults out.new) }
     {
         match parse_line(alloc, line) {
-            Ok(step) => self.take(alloc, step, kernel, out),
-            Err(StepFault::Bad) => Ran::Bad,
-            Err(StepFault::Memory) => Ran::Memory,
+            Ok(step) => self.take(alloc, step, kernel),
+            Err(StepFault::Bad) => Taken::Bad,
+            Err(StepFault::Memory) => Taken::Memory,
         }
     }
 
-    /// Takes a line's step, and writes its text.
-    fn take<K: Sink>(
-        &mut self,
-        alloc: Global,
-        step: Step,
-        kernel: &mut SimKernel,
-        out: &mut K,
-    ) -> Ran
+    /// StepsToTell a line's step.
+    fn take(&mut self, alloc: Global, step: Step, kernel: &mut SimKernel) -> Taken
         requires { AsksForRules step }
-        ensures ran { Steps (taken step (script_of self.old) kernel.old)
-            (Some (script_of self.new), kernel.new) (K.held out.old) (K.held out.new) result }
-        ensures why { StartsAgain (Some step) (script_of self.old) kernel.old result }
-        ensures readable { result ≡ Ran.Done
+        ensures ran { StepsToTell (taken step (script_of self.old) kernel.old)
+            (Some (script_of self.new), kernel.new) (reported_in self.new.phase) result }
+        ensures why { StartsAgain (Some step) (script_of self.old) kernel.old (ran_of result) }
+        ensures readable { ran_of result ≡ Ran.Done
             → StepReads (Some step) (script_of self.old) kernel.old }
-        ensures counted { K.faults out.old ≤ K.faults out.new }
-        ensures cause { result ≡ Ran.SinkFailed → Rose (K.faults out.old) (K.faults out.new) }
     {
         match step {
-            Step::Skip => Ran::Done,
-            Step::Setup(line) => self.set_up(line),
-            Step::Move(action) => self.carry_out(action, kernel),
-            Step::Schedule(plan) => self.schedule(plan, kernel),
-            Step::Event(event) => self.event(alloc, &event, kernel, out),
-            Step::Restart => self.restart(alloc),
+            Step::Skip => Taken::Silent,
+            Step::Setup(line) => silently(self.set_up(line)),
+            Step::Move(action) => silently(self.carry_out(action, kernel)),
+            Step::Schedule(plan) => silently(self.schedule(plan, kernel)),
+            Step::Event(event) => self.event(alloc, &event, kernel),
+            Step::Restart => silently(self.restart(alloc)),
         }
     }
 
-    /// Takes a line behind the first for `generate-policy`. It writes nothing.
+    /// StepsToTell a line behind the first for `generate-policy`. It writes nothing.
     pub fn skim(&mut self, alloc: Global, line: &[u8], kernel: &mut SimKernel) -> Ran
         ensures silent { ¬ (result ≡ Ran.SinkFailed) }
         ensures ran { (held : Option (List ℕ))

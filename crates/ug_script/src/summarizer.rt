@@ -1,22 +1,26 @@
 // The machine that counts a script's journal in place of writing it.
-ghost use Rattle.std.specs.Prelude.{◌≡◌, ◌⊎◌, ℕ, List, Some, None, false};
+ghost use Rattle.std.specs.Prelude.{◌≡◌, ◌≤◌, ◌++◌, ◌⊎◌, ℕ, List, Some, None, false};
 ghost use Rattle.ug_types.specs.Ends.{Rose};
 ghost use Rattle.ug_command_io.specs.Statuses.{AnswersLines, status_of};
 ghost use Rattle.ug_command_io.specs.declared.results.Ended.{Ended};
 ghost use Rattle.ug_iface.specs.Bus.{IsSoundBus};
 ghost use Rattle.ug_sysfs.specs.Serving.{bus_in};
 ghost use Rattle.ug_lines.specs.Lines.{lines_of};
+ghost use Rattle.ug_script.specs.Laws.{coming_in};
 ghost use Rattle.ug_script.specs.Against.{LacksNumbers, RefusesScript, SpeaksAgainst};
 ghost use Rattle.ug_script.specs.LinesRead.{LineReads};
-ghost use Rattle.ug_script.specs.Summing.{Summary, TellsSummary, no_totals, summary_end, summary_of, summary_step};
+ghost use Rattle.ug_script.specs.Replay.{outcome_text};
+ghost use Rattle.ug_script.specs.Summing.{Summary, TellsSummary, no_totals, summary_end, summary_of, summary_step, with_lines};
+ghost use Rattle.ug_script.specs.Taking.{reported_by};
 
 use crate::interpreter::Interpreter;
+use crate::taken::Taken;
 use crate::text::put;
 use crate::totals::{Totals, line_of_totals};
 use std::alloc::Global;
 use ug_command_io::{Machine, Ran, run};
 use ug_sysfs::SimKernel;
-use ug_types::{MemSink, Sink, Source};
+use ug_types::{Sink, Source};
 
 /// A machine of `ug_command_io` that runs a script over the kernel that it is lent, and keeps four numbers of its journal.
 #[derive(Drop)]
@@ -32,6 +36,33 @@ impl Summarizer {
         Summarizer {
             script: Interpreter::new(),
             totals: Totals::new(),
+        }
+    }
+
+    fn count_text(&mut self, text: &[u8]) -> Ran
+        ensures done { result ≡ Ran.Done }
+        ensures script { self.new.script ≡ self.old.script }
+        ensures totals { self.new.totals ≡ with_lines (lines_of text.now) self.old.totals }
+    {
+        self.totals = self.totals.with_text(text);
+        Ran::Done
+    }
+
+    /// Counts the last event, and a text behind it.
+    fn count_event(&mut self, alloc: Global, passed: &[u8]) -> Ran
+        ensures done { (result ≡ Ran.Done) ⊎ (result ≡ Ran.Memory) }
+        ensures script { self.new.script ≡ self.old.script }
+        ensures totals { result ≡ Ran.Done → self.new.totals
+            ≡ with_lines
+            (lines_of (outcome_text (reported_by self.old.script.running) ++ passed.now))
+            self.old.totals }
+    {
+        match self.script.event_totals(alloc, self.totals, passed) {
+            Ok(totals) => {
+                self.totals = totals;
+                Ran::Done
+            }
+            Err(_) => Ran::Memory,
         }
     }
 }
@@ -59,17 +90,13 @@ impl Machine<SimKernel> for Summarizer {
         line: &[u8],
         _out: &mut K,
     ) -> Ran {
-        let mut text = MemSink::new(alloc, Vec::new(alloc));
-        match self.script.step(alloc, world, line, &mut text) {
-            Ran::Done => {
-                self.totals = self.totals.with_text(text.bytes());
-                Ran::Done
-            }
-            Ran::Bad => Ran::Bad,
-            Ran::TooLong => Ran::TooLong,
-            // The text finds no memory.
-            Ran::SinkFailed => Ran::Memory,
-            Ran::Memory => Ran::Memory,
+        match self.script.take_line(alloc, world, line) {
+            Taken::Silent => self.count_text(b""),
+            Taken::Event(passed) => self.count_event(alloc, passed.as_slice()),
+            Taken::Text(text) => self.count_text(text.as_slice()),
+            Taken::Bad => Ran::Bad,
+            Taken::TooLong => Ran::TooLong,
+            Taken::Memory => Ran::Memory,
         }
     }
 
@@ -100,6 +127,7 @@ pub fn summarize<S: Source, K: Sink>(
         → TellsSummary kernel.old all base (K.held out.new) result }
     ensures why { (all : List ℕ) → S.left input.old ≡ Some all
         → kernel.old.ran_out ≡ false → IsSoundBus (bus_in kernel.old) → kernel.old.faults ≡ 0
+        → coming_in kernel.old ≤ 1048576
         → result ≡ 2 → RefusesScript kernel.old (lines_of all) }
     ensures ended { (ended : Ended) × (result ≡ status_of ended) }
     ensures read { result ≡ 4 → Rose (S.faults input.old) (S.faults input.new) }

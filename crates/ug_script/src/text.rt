@@ -47,6 +47,19 @@ pub fn outcome_text(alloc: Global, report: &Report) -> Result<Vec<u8>, NoMemory>
     Ok(text)
 }
 
+/// The text of an event, and behind it that of its pass.
+pub fn whole_text(alloc: Global, report: &Report, passed: &[u8]) -> Result<Vec<u8>, NoMemory>
+    ensures { IfOk result (λ text. text.items
+        ≡ replay.outcome_text (record {
+          entries = report.now.entries.entries;
+          reply = report.now.reply;
+        }) ++ passed.now) }
+{
+    let mut text = outcome_text(alloc, report)?;
+    text.extend_from_slice(passed)?;
+    Ok(text)
+}
+
 #[tactic(auto, unfolding(crate::specs::Replay::stopped_line))]
 fn stopped_line(call: u64) -> Line
     ensures { result ≡ replay.stopped_line call }

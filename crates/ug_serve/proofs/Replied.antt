@@ -9,12 +9,10 @@ use Rattle.ug_kernel.specs.Tree.{Prog, Return, Ask, Room, Runs, then}
 use Rattle.ug_proto.specs.declared.reply.Reply.{Reply}
 use Rattle.ug_table.specs.Orders.{ordering}
 use Rattle.ug_table.specs.State.{kept_of}
-use Rattle.ug_table.specs.Sweep.{sweeping}
 use Rattle.ug_core.specs.Answering.{acting, answered_with, deed_after}
-use Rattle.ug_core.specs.Event.{DaemonState, ended, handling, ready}
+use Rattle.ug_core.specs.Event.{DaemonState, ended, handling, ready, settling_due}
 use Rattle.ug_core.specs.Laws.{HandlesEvent}
 use Rattle.ug_core.specs.Storing.{stored_with}
-use Rattle.ug_core.specs.Policy.{policy_answer, policy_later}
 use Rattle.ug_core.specs.declared.choosing.Deed.{Deed}
 use Rattle.ug_core.specs.declared.choosing.Deed.TheVariants as deed
 use Rattle.ug_core.specs.declared.daemon.Event.{Event}
@@ -51,7 +49,7 @@ SameReply d e = e.reply ≡ d.reply
 
 sweep_keeps : (d : DaemonState) → Ends (SameReply d) (handling d)
 unfolding handling
-sweep_keeps d = ends_then (SameReply d) (sweeping policy_answer policy_later d.sweep) (ended d) (λ v. refl)
+sweep_keeps d = ends_then (SameReply d) (settling_due d.due d.sweep) (ended d) (λ v. refl)
 
 module _ {Y D : Type 0} (sysfs : Sysfs.Ghosts Y) (disk : RuleDisk.Ghosts D) where
   open sysfs use {gives}

@@ -1,5 +1,5 @@
 -- What turns tell, and the run that they are.
-use Rattle.std.proofs.Common.{◌≡◌, ℕ, ◌+◌, ◌<◌, Bool, true, false, List, [], ◌∷◌, ◌++◌, Option, Some, inl, inr, length, map, refl, sym, ◌∙◌, ap, subst, append_assoc, append-nil, length-append}
+use Rattle.std.proofs.Common.{◌≡◌, ℕ, ◌+◌, ◌<◌, Bool, true, false, List, [], ◌∷◌, ◌++◌, Option, Some, None, inl, inr, length, map, refl, sym, ◌∙◌, ap, subst, append_assoc, append-nil, length-append}
 use Rattle.std.specs.List.{flat_map}
 use Rattle.ug_kernel.specs.declared.control.Write.{Write}
 use Rattle.ug_types.specs.declared.verdict.Moment.{Moment}
@@ -18,7 +18,7 @@ use Rattle.ug_core.specs.Policy.{Judging}
 use Rattle.ug_core.specs.Event.{DaemonState, IsStarted, ready}
 use Rattle.ug_core.specs.Durable.{KeepsFile}
 use Rattle.ug_core.specs.Pending.{TriesSave}
-use Rattle.ug_core.specs.Laws.{AnswersEvent, Handled}
+use Rattle.ug_core.specs.Laws.{AnswersEvent, Handled, SettlesDue}
 use Rattle.ug_core.specs.Stops.{AllReadable}
 use Rattle.ug_core.specs.Durable.{WritesEvent}
 use Rattle.ug_ruleset.specs.RuleFile.{IsSaveable}
@@ -60,8 +60,13 @@ rests o n is = (n, is, record { text = refl; fresh = refl; synced = refl; left =
 nothing_stands : (k : Kernel) → Stand k [] 1
 nothing_stands k = record { devices = λ s h. absurd h; hashes = λ s h. absurd h; numbers = λ s h. absurd h; names = tt; order = tt; distinct = tt; done = λ control s h e. absurd h }
 
+-- the kernel is sound behind the last stage, and the standings are of its devices
+sound_due : (due : Option (List (List ℕ))) (k : Kernel) (w : State Judging) (l : Kernel) (v : State Judging) → SettlesDue due k w l v → IsKernel l × Stand l v.standings v.next
+sound_due None k w l v s = (s.fair.sound, s.fair.stand)
+sound_due (Some names) k w l v s = (s.0.fair.sound, s.0.fair.stand)
+
 stands_after : (k : Kernel) (d : DaemonState) (m : Kernel) (e : DaemonState) → Handled k d m e → Stand m e.sweep.standings e.sweep.next
-stands_after k d m e h = subst (λ (v : State Judging). Stand m v.standings v.next) (sym h.entries) h.law.fair.stand
+stands_after k d m e h = subst (λ (v : State Judging). Stand m v.standings v.next) (sym h.entries) (sound_due d.due k d.sweep m h.swept h.law).1
 
 stands_first : (policy : Judging) (hub : Option Write) (first : ℕ) (d : DaemonState) (k : Kernel) → IsStarted policy hub first d → Stand k d.sweep.standings d.sweep.next
 stands_first policy hub first d k h = subst (λ (n : ℕ). Stand k d.sweep.standings n) (sym h.next) (subst (λ (ss : List Standing). Stand k ss 1) (sym h.standings) (nothing_stands k))
@@ -149,7 +154,7 @@ module _ {Y D : Type 0} (sysfs : Sysfs.Ghosts Y) (disk : RuleDisk.Ghosts D) wher
             let behind = answered_stands x.event now.0 begins_so h.1.handled.became swept.0 h.1.handled.answered sound stand answers in
             let handled : Handled swept.0 h.1.handled.answered later.0 m.daemon = swept.2 behind.0 behind.1 in
             chained_more x xs h.1.handled.tried now.0 (disk_told c.disk) c.daemon h.1.handled.became swept.0 h.1.handled.answered later.0 (disk_told m.disk) m.daemon l (disk_told d.disk) d.daemon h.1.entries answers handled h.1.handled.file h.1.handled.saveable h.1.handled.written h.1.handled.saveable_after h.1.handled.saves
-            (later.2 handled.law.fair.sound (stands_after swept.0 h.1.handled.answered later.0 m.daemon handled)),
+            (later.2 (sound_due h.1.handled.answered.due swept.0 h.1.handled.answered.sweep later.0 handled.swept handled.law).0 (stands_after swept.0 h.1.handled.answered later.0 m.daemon handled)),
       )
 
   module _ {N W C : Type 0} (net : Links.Ghosts N) (wait : Waiter.Ghosts W) (ticks : Clock.Ghosts C) where

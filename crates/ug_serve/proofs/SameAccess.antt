@@ -1,5 +1,5 @@
 -- Who may do what stays over an event.
-use Rattle.std.proofs.Common.{◌≡◌, Option, Some, None, ◌∙◌, ap}
+use Rattle.std.proofs.Common.{◌≡◌, ℕ, List, Option, Some, None, inl, inr, ◌∙◌, ap}
 use Rattle.ug_types.specs.Principals.{Named}
 use Rattle.ug_refusal.specs.declared.refusal.Refusal.{Refusal}
 use Rattle.ug_kernel.specs.Calls.{Call, Answer}
@@ -9,18 +9,17 @@ use Rattle.ug_store.specs.declared.disk.RuleDisk
 use Rattle.ug_store.specs.DiskCalls.{DiskCall, DiskTold}
 use Rattle.ug_table.specs.State.{Kept, kept_of}
 use Rattle.ug_table.specs.Orders.{ordering}
-use Rattle.ug_table.specs.Sweep.{sweeping}
 use Rattle.ug_table.specs.declared.standing.Settled.{Settled}
 use Rattle.ug_core.specs.Answering.{acting, answered_with, deed_after}
-use Rattle.ug_core.specs.Event.{DaemonState, ended, handling, ready}
+use Rattle.ug_core.specs.Event.{DaemonState, ended, handling, ready, settling_due}
+use Rattle.ug_core.specs.Hinting.{MeetsPiece}
 use Rattle.ug_core.specs.Laws.{HandlesEvent, RunsAnswer}
-use Rattle.ug_core.specs.Policy.{policy_answer, policy_later}
 use Rattle.ug_core.specs.Storing.{if_in_force, noted_save, noted_store, pending_stored, refused_by, stored_with, with_changes}
 use Rattle.ug_core.specs.declared.changes.Change.{Change}
 use Rattle.ug_core.specs.declared.choosing.Deed.{Deed}
 use Rattle.ug_core.specs.declared.choosing.Deed.TheVariants as deed
 use Rattle.ug_core.specs.declared.daemon.Event.{Event}
-use Rattle.ug_core.specs.declared.daemon.Event.TheVariants.{Sweep, Order}
+use Rattle.ug_core.specs.declared.daemon.Event.TheVariants.{Sweep, Order, Hint}
 use Rattle.ug_core.specs.declared.storing.Stored.{Stored}
 use Rattle.ug_core.specs.declared.storing.Stored.TheVariants as stored
 
@@ -33,7 +32,7 @@ run_behind gives q (Room next) f s r t g h = run_behind gives q (next h.0) f s r
 module _ {S : Type 0} (gives : S → (call : Call) → Answer call → S → Type 0) where
   swept_access : (s : S) (d e : DaemonState) (t : S) → Runs gives s (handling d) e t → e.access ≡ d.access
   unfolding handling
-  swept_access s d e t h = run_behind gives (λ (x : DaemonState). x.access ≡ d.access) (sweeping policy_answer policy_later d.sweep) (ended d) s e t (λ v u k. ap (λ (x : DaemonState). x.access) k.0) h
+  swept_access s d e t h = run_behind gives (λ (x : DaemonState). x.access ≡ d.access) (settling_due d.due d.sweep) (ended d) s e t (λ v u k. ap (λ (x : DaemonState). x.access) k.0) h
 
   acted_access : (who : Named) (doing : Deed) (d a : DaemonState) (s t : S) → Runs gives s (acting who d doing) a t → a.access ≡ d.access
   acted_access who (deed.Refuse refused) d a s t h = ap (λ (x : DaemonState). x.access) h.0
@@ -60,9 +59,14 @@ in_force_access None change d = changed_access change d
 stored_access : (became : Stored) (change : Option Change) (d : DaemonState) → (stored_with became change d).access ≡ d.access
 stored_access became change d = in_force_access (refused_by became) change (noted_store became d) ∙ saved_access became (record d { pending = pending_stored became d.pending })
 
+met_access : (piece : List ℕ) (d a : DaemonState) → MeetsPiece piece d a → a.access ≡ d.access
+met_access piece d a (inl h) = ap (λ (x : DaemonState). x.access) h.state
+met_access piece d a (inr h) = ap (λ (x : DaemonState). x.access) h
+
 module _ {S T : Type 0} (gives : S → (call : Call) → Answer call → S → Type 0) (keeps : T → (call : DiskCall) → DiskTold call → T → Type 0) where
   answered_access : (event : Event) (s : S) (o : T) (d : DaemonState) (became : Stored) (t : S) (p : T) (a : DaemonState) → RunsAnswer gives keeps event s o d became t p a → a.access ≡ d.access
   answered_access (Sweep moment) s o d became t p a h = ap (λ (x : DaemonState). x.access) h.3
+  answered_access (Hint moment piece) s o d became t p a h = met_access piece d a h.3
   answered_access (Order moment who line) s o d became t p a h =
       acted_access gives who (deed_after became h.choice.deed) (stored_with became h.choice.change d) a h.behind t h.acts ∙ stored_access became h.choice.change d
 

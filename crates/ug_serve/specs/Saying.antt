@@ -9,7 +9,7 @@ use Rattle.ug_audit.specs.declared.entry.Entry.{Entry}
 use Rattle.ug_proto.specs.declared.reply.Reply.{Reply}
 use Rattle.ug_proto.specs.Replies.{reply_text}
 use Rattle.ug_core.specs.declared.daemon.Event.{Event}
-use Rattle.ug_core.specs.declared.daemon.Event.TheVariants.{Sweep, Order}
+use Rattle.ug_core.specs.declared.daemon.Event.TheVariants.{Sweep, Order, Hint}
 use Rattle.ug_links.specs.declared.step.LinkStep.{LinkStep}
 use Rattle.ug_proto.specs.Lines.{stream_lines}
 use Rattle.ug_sessions.specs.Answering.{may_listen}
@@ -48,6 +48,7 @@ said_in e =
 abbrev pub asked_if : Option LinkId → Event → List (LinkId × List ℕ)
 asked_if (Some id) (Order moment who line) = (id, line) ∷ []
 asked_if (Some id) (Sweep moment) = []
+asked_if (Some id) (Hint moment piece) = []
 asked_if None event = []
 
 -- the line that an event answers, with its session
@@ -67,12 +68,15 @@ abbrev pub HaveAccess : List Addition → List TurnEvent → Type 0
 HaveAccess acl [] = Unit {0}
 HaveAccess acl (e ∷ es) = (e.after.access ≡ acl) × HaveAccess acl es
 
--- an order is of the user or group at whose listener its session came, and a sweep is of no session
+-- an order is of the user or group at whose listener its session came; a sweep is of no session,
+-- and neither is a piece of uevents
 abbrev pub IsAskedBy : List Named → List LinkStep → Option LinkId → Event → Type 0
 IsAskedBy principals calls (Some id) (Order moment who line) = IsWhose principals calls id who
 IsAskedBy principals calls (Some id) (Sweep moment) = ⊥
+IsAskedBy principals calls (Some id) (Hint moment piece) = ⊥
 IsAskedBy principals calls None (Order moment who line) = ⊥
 IsAskedBy principals calls None (Sweep moment) = Unit {0}
+IsAskedBy principals calls None (Hint moment piece) = Unit {0}
 
 abbrev pub AreAskedBy : List Named → List LinkStep → List TurnEvent → Type 0
 AreAskedBy principals calls [] = Unit {0}

@@ -2,6 +2,7 @@
 ghost use Rattle.std.specs.Prelude.{◌≡◌, List, Some, IsTrue};
 ghost use Rattle.ug_audit.specs.Journal.{members};
 ghost use Rattle.ug_core.specs.Event.{daemon_of, has_numbers};
+ghost use Rattle.ug_core.specs.Hinting.{FitsEvent};
 ghost use Rattle.ug_serve.specs.Responses.{ChangesSessions, Responds};
 ghost use Rattle.ug_serve.specs.Turns.{Events, IsHandled, ServesOrders, TurnEvent, core_of, with_server};
 
@@ -38,8 +39,9 @@ fn serve_order<Y: Sysfs, D: RuleDisk>(
     disk: &mut D,
     panel: &mut Panel,
 )
-    requires { IsTrue
+    requires numbers { IsTrue
         (has_numbers (daemon_of daemon.old) (Y.faults sysfs.old) (D.faults disk.old)) }
+    requires piece { FitsEvent order.now }
     ensures { (e : TurnEvent) × (e.asked_by ≡ Some id) × (e.event ≡ order.now)
         × IsHandled Y.Sysfs D.RuleDisk
         (core_of (daemon_of daemon.old) sysfs.old disk.old

@@ -24,7 +24,7 @@ length_put : (write : Write) (o : Option ℕ) (k : Kernel) → length (put_at wr
 length_put write None k = refl
 length_put write (Some i) k = elim (slice_get k.devices i) as (λ (d : Option Device). length (switched_to write i d k.devices) ≡ length k.devices) [ None ↦ refl | Some d ↦ length-set k.devices i _ ]
 
-length_effect : (f : Option Bool) (call : Call) (k : Kernel) → length (effect f call k).1.devices ≡ length k.devices
+pub length_effect : (f : Option Bool) (call : Call) (k : Kernel) → length (effect f call k).1.devices ≡ length k.devices
 length_effect None (Open name control) k = elim (with_file control (find name 0 k.devices) k.devices) as (λ (o : Option ℕ). length (opened_at control o k).1.devices ≡ length k.devices) [ None ↦ refl | Some i ↦ refl ]
 length_effect None (Put held write) k = length_put write (live_held held k.held k.devices) k
 length_effect (Some true) (Put held write) k = length_put write (live_held held k.held k.devices) k

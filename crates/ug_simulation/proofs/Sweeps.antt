@@ -7,11 +7,11 @@ use Rattle.ug_table.proofs.Common.{Terms, in_sweep_order, Held, Names, Made, fai
 use Rattle.ug_kernel.specs.Tree.{Prog, Return, Runs, then}
 use Rattle.ug_kernel.proofs.Ways.{Ways, ways_more, ways_last}
 use Rattle.ug_sysfs.specs.World.{IsUnfailing, World, Gives}
-use Rattle.ug_table.specs.Sweep.{sweeping}
-use Rattle.ug_table.proofs.Standings.{farewells_by}
+use Rattle.ug_table.specs.Sweep.{settling_all, sweeping}
+use Rattle.ug_table.proofs.NamedStandings.{farewells_by}
 use Rattle.ug_table.proofs.Shapes.{told_at}
-use Rattle.ug_table.proofs.Chains.{Chain, Over, First, List_failed, List_short, No_room, Goes, Listed, Unlisted, Comes, sweeping_by, goes_entries}
-use Rattle.ug_table.proofs.Faults.{Thinner, None_left, chain_ending, ending_thin, goes_ending, goes_tells, thin_more, thin_refl}
+use Rattle.ug_table.proofs.Chains.{Chain, Over, First, List_failed, List_short, No_room, Goes, Linked, Listed, Unlisted, Comes, settling_chain, sweeping_by, chain_entries, goes_entries}
+use Rattle.ug_table.proofs.Faults.{Thinner, None_left, chain_ending, chain_tells, ending_thin, goes_ending, goes_tells, thin_more, thin_refl}
 use Rattle.ug_simulation.specs.Play.{play, entry_tells_memory, tells_memory, TellsMemory, IsPlayed, names_somebody, NameNobody}
 use Rattle.ug_table.proofs.PartCalls.{has_want, want_more}
 use Rattle.ug_simulation.proofs.Plays.{refused, play_way, TellsWant, played}
@@ -116,6 +116,28 @@ sweeping_sums answer later w =
       faults = goes_calm x.1;
     })
     (sweeping_by answer later w)
+
+-- the settling of given names
+
+chain_calm : {J : Type 0} {answer : Answers J} {later : Laters J} {binds : Bool} {terms : Terms}
+    {names : List (List ℕ)} {w v : State J} {ok : Bool} {ms : List Made} {es : List Entry}
+    → Chain answer later binds terms names w ok ms es v → failures ms ≡ [] → failures_told es ≡ []
+chain_calm {ms = ms} c e =
+    chain_tells c ∙ thin_calm (failures ms) (failures (chain_ending c)) (chain_thin c) e
+
+pub settling_sums : {J : Type 0} (answer : Answers J) (later : Laters J) (names : List (List ℕ))
+    (terms : Terms) (w : State J)
+    → Ways (settling_all answer later names terms w) (λ ok ms v. Sums w.entries ok ms v.entries)
+settling_sums answer later names terms w =
+    ways_more (Linked answer later true terms names w) (λ ok ms v. Sums w.entries ok ms v.entries)
+    (settling_all answer later names terms w)
+    (λ ok ms v x. record {
+      rest = x.0;
+      entries = chain_entries x.1;
+      wants = chain_wants x.1;
+      faults = chain_calm x.1;
+    })
+    (settling_chain answer later names terms w)
 
 -- what a script fixes of it
 

@@ -12,7 +12,7 @@ use Rattle.ug_node.proofs.UnderShapes.{Under_by, under_by, under_law}
 use Rattle.ug_record.specs.Records.{judged_under}
 use Rattle.ug_record.proofs.Judging.{judged_with_parent}
 use Rattle.ug_table.specs.Parent.{standing_above, judged_beside}
-use Rattle.ug_table.proofs.Agreement.{named_has}
+use Rattle.ug_table.proofs.MapChanges.{named_has}
 use Rattle.ug_table.proofs.Common.{Has, Kernel, IsKernel, Device, Standing, Stand, IsDevice, Bound, Binding, Made, Runs, Ways, Sure, Way, ways_more, calls, parent_of, parent_standing, binding_by, judged_bound, judged_of}
 use Rattle.ug_table.proofs.Standings.{Files, file_same}
 

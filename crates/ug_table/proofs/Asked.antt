@@ -14,7 +14,7 @@ use Rattle.ug_table.proofs.Above.{OfParent, way_under}
 use Rattle.ug_table.proofs.Common.{WritesNothing, parent_of, Held, Control, Authorized, Open, Read, Ask_alive, Put, Close, Probe, ToldAnswer, Call, Closing, Made, made_with, failures, count_calls, failures_more, Bound, Binding, RemoveHold, Fault, FailedCall, Entry, Write, Known, Standing, Settled, OpenFile, open_file, files_after, AreAbout, EndsAtFailure, Behind, behind_more, AreDue, PutMade, puts_of, binding_by, held_of, Way, Unwritten, reads_last, probes, without_asking, ending_calls, control_of}
 use Rattle.ug_table.proofs.PartCalls.{has_want, want_more, failed_by, are_short, puts_more, files_join, behind_after, about_more, ends_more, due_more, CallsOf, calls_are, calls_as, closed_first, binding_faults, binding_files, open_calls, stop_calls, stop_files, stop_unbound, binds_calls, binding_most, IsFound, bound_few, bound_found}
 use Rattle.ug_table.proofs.Shapes.{Valued, Same, Set, OnceMade, Not_held, Put_on, Carried, By_value, And_removal, Brought, Left_open, Let_go, Treated, No_default, And_default, Cut_default, Gone_default}
-use Rattle.ug_table.proofs.Standings.{is_same}
+use Rattle.ug_table.proofs.NamedStandings.{is_same}
 
 -- calls in which no such probe stands
 

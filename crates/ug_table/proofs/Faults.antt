@@ -7,8 +7,9 @@ use Rattle.ug_kernel.specs.Along.{IsAbove}
 use Rattle.ug_table.proofs.Common.{Write, reads_last, probes, without_asking, ending_calls, kept_file, Terms, in_sweep_order, FailedCall, Listing, Call, Names, Answer, Runs, Made, made_with, Along, failure, failures, Rises, Entry, Fault, State, Answers, Laters, lists, farewells, call_told, failures_told, numbers_given, InParts, unlisted_files, AfterListing, GoesInParts, TellsFaults, Standing, names_of, sweeping, failures_more, filter}
 use Rattle.ug_kernel.proofs.Rises.{Counting, along_numbered, along_rises}
 use Rattle.ug_table.proofs.Shapes.{told_at, next_after}
-use Rattle.ug_table.proofs.OnePart.{told_more, given_count, given_more, flat_given, flat_none, flat_is_part}
-use Rattle.ug_table.proofs.Standings.{farewells_by}
+use Rattle.ug_table.proofs.NameEntries.{told_more, given_more}
+use Rattle.ug_table.proofs.OnePart.{given_count, flat_given, flat_none, flat_is_part}
+use Rattle.ug_table.proofs.NamedStandings.{farewells_by}
 use Rattle.ug_table.proofs.Chains.{closings_calm, Chain, Over, First, Without, List_failed, No_room, Goes, Listed, Unlisted, goes_entries, sweeping_run}
 
 -- the calls of a chain's parts whose failure ends them

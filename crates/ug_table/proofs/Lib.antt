@@ -2,9 +2,13 @@ pub mod Common
 pub mod Loops
 pub mod Allowed
 pub mod Devices
+pub mod Distinct
+pub mod NamedStandings
 pub mod Standings
 pub mod Says
+pub mod Accounts
 pub mod Steps
+pub mod FairWrites
 pub mod Fair
 pub mod Defaults
 pub mod Lived
@@ -14,6 +18,7 @@ pub mod Marks
 pub mod Swept
 pub mod PartCalls
 pub mod PartOrders
+pub mod NameEntries
 pub mod OnePart
 pub mod Faults
 pub mod Once
@@ -21,6 +26,7 @@ pub mod Several
 pub mod One
 pub mod Ordered
 pub mod Entries
+pub mod MapChanges
 pub mod Agreement
 pub mod Above
 pub mod Asked

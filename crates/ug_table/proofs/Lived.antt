@@ -7,7 +7,8 @@ use Rattle.ug_node.proofs.Laws.{holding_law}
 use Rattle.ug_node.specs.Bound.{SaysBy}
 use Rattle.ug_types.specs.declared.record.Attrs.{Attrs}
 use Rattle.ug_table.proofs.Above.{ParentsBy, kept_at, for_law}
-use Rattle.ug_table.proofs.Standings.{Others, others_refl, others_trans, others_quiet, others_put, IsOpen, open_name, open_later, IsFileOf, file_later, LiveAs, lives_between, lived, live_same, gone_no, Value, quiet_value, done_value, alive_open, IsHeldAs, once_leaves, file_same, open_named, found, same_is, is_same, missing, Files, files_later, with_files, others_have, tried_files, tried_new, IsRemovedIf, Was, tried_was, did_was, did_files, did_has, default_as, known_as}
+use Rattle.ug_table.proofs.NamedStandings.{found, same_is, is_same, missing}
+use Rattle.ug_table.proofs.Standings.{Others, others_refl, others_trans, others_quiet, others_put, IsOpen, open_name, open_later, IsFileOf, file_later, LiveAs, lives_between, lived, live_same, gone_no, Value, quiet_value, done_value, alive_open, IsHeldAs, once_leaves, file_same, open_named, Files, files_later, with_files, others_have, tried_files, tried_new, IsRemovedIf, Was, tried_was, did_was, did_files, did_has, default_as, known_as}
 use Rattle.ug_kernel.proofs.HeldFiles.{live_before}
 use Rattle.ug_table.proofs.Marks.{known_has}
 use Rattle.ug_types.proofs.Sorting.{to_sweep_order}

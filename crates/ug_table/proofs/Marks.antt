@@ -2,7 +2,8 @@
 use Rattle.std.proofs.Common.{◌≡◌, ℕ, Bool, true, false, not, cond, List, [], ◌∷◌, ◌++◌, map, Option, inl, inr, refl, sym, ◌∙◌, ap, subst, Some, append_assoc, ◌⊎◌, ◌+◌, add-one, true≢false, ◌<◌, ◌≤◌, None, length, min, take, get_or, arith}
 use Rattle.ug_table.proofs.Common.{Has, AllDistinct, Bound, Binding, Entry, State, Answers, Laters, same_name, without, did_default, with_default, Terms, Write, marked, place_for, with_standing, known_of, standing_of, lists, farewells, IsNamed, IsMarked, IsUnlisted, IsListed, swept_before, AreInOrder, Tries, IsMarkedIn, AreMarkedIn, numbers_of, Standing, Known, Settled, Made, Along, Fault, EndsUnsettled, sweep_cmp, in_sweep_place, in_sweep_order, sweep_total, sweep_exact, Kernel, Runs, calls, names_of, parted, sweeping, unsettled_by, kept_standings, tried_standings, dropped, has_left, has_right, has_cases, filter_has, map_has, has_map, cancel, last_is, distinct_filter, distinct_insert, filter, insert, whys, why_of, StandInOrder, KeepsOrder, IsNextNumbered, is_nearer}
 use Rattle.ug_table.proofs.Shapes.{Unbound_end, Absent_so, Flat, Unprobed, Tried, Stopped, Unbound, No_place, Judged_so, opening_absent, flat_rest, new_known}
-use Rattle.ug_table.proofs.Standings.{known_as, did_stands, kept_tried, each_with, farewells_by, is_same, missing, missing_without, found, others_have, tried_own, lists_has, either_listed, same_is, fields_stay}
+use Rattle.ug_table.proofs.NamedStandings.{farewells_by, is_same, missing, missing_without, found, lists_has, either_listed, same_is, fields_stay}
+use Rattle.ug_table.proofs.Standings.{known_as, did_stands, kept_tried, each_with, others_have, tried_own}
 use Rattle.ug_table.proofs.OnePart.{flat_is_part, flat_whys, told_in}
 use Rattle.ug_table.proofs.Says.{Each, NamesOnly, each_has, each_append, each_map, NamesNone, none_named}
 use Rattle.std.specs.Ordering.{is_gt, is_lt, ordering_reverse}

@@ -7,7 +7,8 @@ use Rattle.ug_table.proofs.Says.{none_named}
 use Rattle.ug_table.proofs.Chains.{Chain, Over, First, Goes, Listed, Unlisted, goes_entries, sweeping_run}
 use Rattle.ug_table.proofs.OnePart.{flat_is_part, lacks_needs}
 use Rattle.ug_table.proofs.Shapes.{told_at}
-use Rattle.ug_table.proofs.Standings.{farewells_by, IsFileOf, file_later, LiveAs, lives_between, gone_no, open_named, stands_one, listed_is, listed_stand}
+use Rattle.ug_table.proofs.NamedStandings.{farewells_by, stands_one, listed_is}
+use Rattle.ug_table.proofs.Standings.{IsFileOf, file_later, LiveAs, lives_between, gone_no, open_named, listed_stand}
 use Rattle.ug_table.proofs.Lived.{lives_first, lives_last, stand_files}
 
 pub names_more : (es fs : List Entry) → unsettled_names (es ++ fs) ≡ unsettled_names es ++ unsettled_names fs

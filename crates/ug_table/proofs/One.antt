@@ -6,7 +6,8 @@ use Rattle.std.specs.Cmp.Lexicographic.{bytes_decides}
 use Rattle.ug_table.proofs.Common.{kept_file, Has, AllDistinct, Call, Answer, Runs, calls, Made, Along, Bound, Entry, State, Kept, Answers, Laters, kept_of, with_kept, same_name, known_of, numbered, without, marked, removed_of, Control, Remove, Default, is_done, Terms, terms_of, Write, Known, standing_of, did_default, with_default, default_due, NeedsMemory, with_standing, numbers_of, Tries, none_before, Stand, IsGone, IsNamed, HasStanding, IsAsJudged, Standing, Settled, Device, Kernel, IsKernel, Follows, names_of, stands, tried_standings, settling, resettling, filter_has, map_has, has_map, distinct_one, cancel, is_reject, grows_refl, some_same, resettling_numbered, NeedsRoom, failed_of, whys, why_of, GoesAsPart, LivedAs, SettledOne, SettlesOne, IsOf, ResettledOne, ResettlesOne, told_run, StandInOrder}
 use Rattle.ug_table.specs.Marks.{has_name, has_number, stood_done, LeavesMarks}
 use Rattle.ug_table.proofs.Marks.{keeps_did, names_distinct, unnamed, flat_stands, flat_nobody}
-use Rattle.ug_table.proofs.Standings.{owned_refl, rest_map, known_as, default_as, default_own, default_other, did_stands, is_same, Test, own, rest_of, AreNamed, marked_rest, without_rest, of_name, without_with, each_with, same_is, found, missing, numbered_has, IsFileOf, file_same, file_later, LiveAs, IsOpen, or_none, open_name, open_later, open_named}
+use Rattle.ug_table.proofs.NamedStandings.{is_same, same_is, found, missing, numbered_has, or_none}
+use Rattle.ug_table.proofs.Standings.{owned_refl, rest_map, known_as, default_as, default_own, default_other, did_stands, Test, own, rest_of, AreNamed, marked_rest, without_rest, of_name, without_with, each_with, IsFileOf, file_same, file_later, LiveAs, IsOpen, open_name, open_later, open_named}
 use Rattle.ug_table.proofs.Shapes.{treated_done, Opening, Fresh, Lost, Flat, Unprobed, Tried, Stopped, Unbound, No_place, Judged_so, Piece, opening_absent, opening_rest}
 use Rattle.ug_table.proofs.PartCalls.{failed_by}
 use Rattle.ug_table.proofs.OnePart.{flat_room, tells_why, flat_whys, flat_is_part}

@@ -19,9 +19,11 @@ use Rattle.ug_table.proofs.Defaults.{fair_defaults}
 use Rattle.ug_table.proofs.Lived.{StandsSo, as_judged, brought_own, judged_at, lives_first, lives_last, stand_files}
 use Rattle.ug_table.proofs.Marks.{keeps_map, known_has, names_distinct, tried_nobody}
 use Rattle.ug_table.proofs.One.{AreStood, left_gone, numbered_named, of_number, stood_at, told_of, tried_leaves}
-use Rattle.ug_table.proofs.OnePart.{AreVerdicts, Goes, ToGo, brought_goes, ended_files, tried_so}
+use Rattle.ug_table.proofs.NameEntries.{ended_files}
+use Rattle.ug_table.proofs.OnePart.{AreVerdicts, Goes, ToGo, brought_goes, tried_so}
 use Rattle.ug_table.proofs.Shapes.{Adds, Brought, brought, told_at}
-use Rattle.ug_table.proofs.Standings.{AreNamed, rest_map, IsFileOf, LiveAs, file_later, numbered_has, open_named, stands_one, tried_new, tried_own}
+use Rattle.ug_table.proofs.NamedStandings.{numbered_has, stands_one}
+use Rattle.ug_table.proofs.Standings.{AreNamed, rest_map, IsFileOf, LiveAs, file_later, open_named, tried_new, tried_own}
 use Rattle.ug_table.proofs.Steps.{FairFrom, fair_refl, in_order, stand_by, tried_one}
 
 -- the probe

@@ -2,7 +2,7 @@
 use Rattle.std.proofs.Common.{◌≡◌, ℕ, Bool, true, false, ◌&&◌, List, [], ◌∷◌, ◌++◌, Option, Some, inl, inr, refl, sym, ◌∙◌, ap, subst, append-nil, true≢false}
 use Rattle.std.proofs.lemmas.Bool.{false_from_ne_true}
 use Rattle.ug_table.proofs.Common.{Has, Call, Answer, Kernel, IsKernel, Follows, Runs, calls, failures, Rises, FailedCall, Fault, Entry, State, Answers, Laters, Terms, Standing, lists, failures_told, swept_before, AreInOrder, IsNamed, Stand, NeedsMemory, known_of, settling_all, cancel, along_grows, Ran, ways_run, told_run}
-use Rattle.ug_table.specs.Several.{before_among, IsMarkedAmong, GoesInNames, GoesInOrder, SettledNames, SettlesNames}
+use Rattle.ug_table.specs.Several.{before_among, IsMarkedAmong, GoesInOrder, SettledNames, SettlesNames}
 use Rattle.ug_kernel.proofs.Defaults.{along_logs}
 use Rattle.ug_kernel.proofs.Rises.{Counting, along_numbered, along_rises}
 use Rattle.ug_table.proofs.Chains.{Linked, settling_chain, chain_entries}
@@ -14,7 +14,8 @@ use Rattle.ug_table.proofs.Marks.{AreTried, AreSplit, AreFresh, not_first, names
 use Rattle.ug_table.proofs.Marks.{chain_parts as chain_marks}
 use Rattle.ug_table.proofs.Once.{chain_once, chain_spared}
 use Rattle.ug_table.proofs.Says.{each_has}
-use Rattle.ug_table.proofs.Standings.{owned_refl, listed_is, lists_has, either_listed, open_named, stands_one}
+use Rattle.ug_table.proofs.NamedStandings.{listed_is, lists_has, either_listed, stands_one}
+use Rattle.ug_table.proofs.Standings.{owned_refl, open_named}
 use Rattle.ug_table.proofs.Steps.{fair_refl}
 
 -- the names are tried in their order, and no other is

@@ -5,8 +5,9 @@ use Rattle.ug_table.proofs.Common.{Control, IsOpenable, parent_of, Judged, Held,
 use Rattle.ug_node.specs.Removal.{holding}
 use Rattle.ug_node.proofs.BindShapes.{sure_hold}
 use Rattle.ug_table.proofs.Above.{sure_for, is_above}
-use Rattle.ug_table.proofs.Standings.{known_as, did_without, did_with, missing, without_none, without_own, without_with, with_own, kept_tried, tried_without}
-pub use Rattle.ug_table.proofs.Standings.{told_at}
+use Rattle.ug_table.proofs.NamedStandings.{missing}
+use Rattle.ug_table.proofs.Standings.{known_as, did_without, did_with, without_none, without_own, without_with, with_own, kept_tried, tried_without}
+pub use Rattle.ug_table.proofs.NamedStandings.{told_at}
 
 -- the shapes
 

@@ -11,7 +11,7 @@ use Rattle.ug_table.specs.Allowed.{matches_allowed}
 use Rattle.ug_table.specs.Standings.{named}
 use Rattle.ug_table.specs.Sweep.{names_of}
 use Rattle.ug_table.specs.Watched.{AnswersFor, if_looked, looked_at}
-use Rattle.ug_table.proofs.Agreement.{either_named, named_has, unnamed}
+use Rattle.ug_table.proofs.MapChanges.{either_named, named_has, unnamed}
 
 or_true : (b : Bool) → (b || true) ≡ true
 or_true true = refl

@@ -240,6 +240,16 @@ impl Standings {
         look_again(&mut self.watch, &self.by_name, &name);
     }
 
+    /// How many standings there are.
+    pub fn count_filled(&self) -> usize
+        ensures { result ≡ length self.now.items }
+    {
+        match self.place {
+            Some(_) => self.by_name.len() - 1,
+            None => self.by_name.len(),
+        }
+    }
+
     /// How many standings there are, and places for others.
     pub fn count(&self) -> usize
         ensures most { length self.now.items ≤ result }

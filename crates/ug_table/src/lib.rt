@@ -4,6 +4,7 @@
 mod bring;
 mod judge;
 mod kept;
+mod names;
 mod order;
 mod parent;
 mod query;
@@ -15,5 +16,6 @@ mod table;
 mod watch;
 
 pub use judge::Judge;
+pub use names::in_order;
 pub use standing::{Known, Settled, Standing};
 pub use table::Table;

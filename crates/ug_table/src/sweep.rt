@@ -1,5 +1,5 @@
 // The sweep over all devices.
-ghost use Rattle.std.specs.Prelude.{◌≡◌, ◌≤◌, ◌<◌, ◌+◌, ◌-◌, ◌*◌, ◌^◌, ◌++◌, ◌∷◌, [], min, length, vec_capacity};
+ghost use Rattle.std.specs.Prelude.{◌≡◌, ◌≤◌, ◌<◌, ◌+◌, ◌-◌, ◌*◌, ◌^◌, ◌++◌, ◌∷◌, [], min, length, vec_capacity, IfOk};
 ghost use Rattle.std.specs.List.Sorted.{IsSorted};
 ghost use Rattle.ug_types.specs.Names.{sweep_cmp};
 ghost use Rattle.ug_table.specs.Slots.{filled};
@@ -24,7 +24,7 @@ use std::alloc::Global;
 use ug_audit::{Auditor, Entry, Fault, Journal};
 use ug_kernel::{Listing, Sysfs, Write};
 use ug_node::failed_call;
-use ug_types::{List, NodeName, sort_names};
+use ug_types::{List, NoMemory, NodeName, sort_names};
 
 // An entry for a standing whose name isn't listed.
 fn bid_one(s: &Standing, names: &[NodeName], out: &mut Journal)
@@ -198,6 +198,20 @@ impl Table {
         }
     }
 
+    /// How many entries are noted at most where each standing is settled, and so many names are. Where they are more than memory can
+    /// hold there is none.
+    pub fn places_for(&self, names: usize) -> Result<usize, NoMemory>
+        ensures { IfOk result
+            (λ places. 10 * (length self.now.standings + names) + 65 ≤ places) }
+    {
+        let places = room_for(self.standings.count(), names);
+        if places == usize::MAX {
+            Err(NoMemory)
+        } else {
+            Ok(places)
+        }
+    }
+
     /// Settles each of these names in order, without a listing: the standings of other names stay as they are, and no
     /// other name is told. A device was present at the start where that is said. It is what a sweep does behind its
     /// listing.
@@ -344,7 +358,8 @@ impl Table {
                 return;
             }
         };
-        if out.reserve(room_for(&self.standings, &names)).is_err() {
+        let room = room_for(self.standings.count(), names.len());
+        if out.reserve(room).is_err() {
             self.go_unlisted(alloc, sysfs, Fault::Memory, judge, hub_default, out);
             return;
         }
@@ -356,12 +371,11 @@ impl Table {
     }
 }
 
-// Ten entries for each name, and some for the event.
-fn room_for(standings: &Standings, names: &[NodeName]) -> usize
-    ensures { min (2 ^ 64 - 1) (10 * (length standings.now.items + length names.now) + 65)
-        ≤ result }
+// Ten entries for each, and some for the event.
+fn room_for(standings: usize, names: usize) -> usize
+    ensures { min (2 ^ 64 - 1) (10 * (standings + names) + 65) ≤ result }
 {
-    let count = standings.count() as u128 + names.len() as u128;
+    let count = standings as u128 + names as u128;
     let room = 10 * count + 65;
     if room > usize::MAX as u128 {
         usize::MAX

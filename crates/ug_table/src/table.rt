@@ -1,5 +1,5 @@
 // The list of standings, in sweep order of their names.
-ghost use Rattle.std.specs.Prelude.{◌≡◌, ◌↔◌, [], false, option_copied, IsNone};
+ghost use Rattle.std.specs.Prelude.{◌≡◌, ◌↔◌, [], false, length, option_copied, IsNone};
 ghost use Rattle.ug_types.specs.Elements.{Has};
 ghost use Rattle.ug_table.specs.declared.standing.Standing.{Standing};
 ghost use Rattle.ug_table.specs.Order.{StandInOrder, IsNextNumbered};
@@ -63,6 +63,13 @@ impl Table {
         ensures { result ≡ self.now.listed }
     {
         self.listed
+    }
+
+    /// How many standings there are.
+    pub fn count(&self) -> usize
+        ensures { result ≡ length self.now.standings }
+    {
+        self.standings.count_filled()
     }
 
     /// The number of the next standing: numbers begin with 1, and each is given out once.

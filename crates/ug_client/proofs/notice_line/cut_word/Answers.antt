@@ -3,7 +3,7 @@ use Rattle.std.proofs.lemmas.List.{take_all}
 use Rattle.ug_types.specs.Elements.{Has}
 use Rattle.ug_proto.proofs.Scans.{none_before, end_here}
 use Rattle.ug_client.specs.NoticeLines.{cut_word}
-use Rattle.ug_client.proofs.NoticeLines.{cut_apart, cut_none}
+use Rattle.ug_client.proofs.NoticeWords.{cut_apart, cut_none}
 use Rattle.ug_client.proofs.notice_line.cut_word.Goals as goal
 
 pub returns-then-byte-eq32-clause-some : goal.returns-then-byte-eq32-clause-some

@@ -1,5 +1,5 @@
 use Rattle.std.proofs.Common.{◌∙◌}
-use Rattle.ug_client.proofs.NoticeLines.{name_test}
+use Rattle.ug_client.proofs.NoticeWords.{name_test}
 use Rattle.ug_client.proofs.notice_line.is_name.Goals as goal
 
 pub returns : goal.returns

@@ -1,4 +1,4 @@
-use Rattle.std.proofs.Common.{ℕ, List, Err, Ok, ◌≡◌, ◌<◌, length, sym, ap, subst, ◌∙◌, arith}
+use Rattle.std.proofs.Common.{ℕ, List, Err, Ok, ◌≡◌, sym, ap, subst, ◌∙◌, arith}
 use Rattle.ug_conf.specs.declared.folder_file.FolderFile.{FolderFile}
 use Rattle.ug_lines.specs.LineReading.{LeadsTo, text_read}
 use Rattle.ug_policy.specs.declared.entry.Mark.TheVariants as mark

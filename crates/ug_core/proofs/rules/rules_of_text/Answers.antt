@@ -1,4 +1,4 @@
-use Rattle.ug_core.proofs.Listing.{behind_folder, no_list, text_back, text_saves, text_starts}
+use Rattle.ug_core.proofs.Listing.{behind_folder, text_back, text_saves, text_starts}
 use Rattle.ug_core.proofs.rules.rules_of_text.Goals as goal
 
 pub returns-clause-starts : goal.returns-clause-starts

@@ -1,17 +1,17 @@
 use Rattle.std.proofs.Common.{subst}
 use Rattle.ug_store.specs.Scripted.{DiskWorld}
-use Rattle.ug_command_io.specs.Runs.{Steps}
 use Rattle.ug_core.specs.Event.{daemon_of}
 use Rattle.ug_core.specs.Stops.{IsReadable}
 use Rattle.ug_script.specs.Journal.{happened_from}
 use Rattle.ug_script.specs.Replay.{came_of, event_from}
+use Rattle.ug_script.specs.Taking.{StepsToTell, reported}
 use Rattle.ug_script.proofs.events.run_event.Goals as goal
 
 pub returns-in-Ok-clause-ran : goal.returns-in-Ok-clause-ran
-returns-in-Ok-clause-ran g c =
-    subst (λ (o : DiskWorld). Steps (came_of c.args.setup.now c.args.plan.now (event_from c.args.event.now (daemon_of c.args.session.now.daemon) c.args.kernel.now o)) (record { daemon = daemon_of c.play_event.new.session.daemon; world = c.play_event.new.kernel; disk = c.play_event.new.session.disk }) (g.K.Sink.held c.args.out.now) (g.K.Sink.held c.play_event.new.out) c.play_event.result)
+returns-in-Ok-clause-ran c =
+    subst (λ (o : DiskWorld). StepsToTell (came_of c.args.setup.now c.args.plan.now (event_from c.args.event.now (daemon_of c.args.session.now.daemon) c.args.kernel.now o)) (record { daemon = daemon_of c.play_event.new.session.daemon; world = c.play_event.new.kernel; disk = c.play_event.new.session.disk }) (reported c.play_event.new.session.daemon.report) c.play_event.result)
     c.in-Ok.ensures.ok c.play_event.ensures.ran
 
 pub returns-in-Ok-clause-readable : goal.returns-in-Ok-clause-readable
-returns-in-Ok-clause-readable g c done =
+returns-in-Ok-clause-readable c done =
     subst (λ (o : DiskWorld). IsReadable (happened_from c.args.event.now (daemon_of c.args.session.now.daemon) c.args.kernel.now o)) c.in-Ok.ensures.ok (c.play_event.ensures.readable done)

@@ -71,6 +71,10 @@ pub returns-clause-order : goal.returns-clause-order
 unfolding digits decode_pairs number_in front_of quoted_from tokens_from tokens_of is_effect is_fail left_by step_behind step_of_line line_word_of plan_word_of setup_word_of device_of start_of bytes_of moment_word name_of offset_of
 returns-clause-order c = refl
 
+pub returns-clause-hint : goal.returns-clause-hint
+unfolding digits decode_pairs number_in front_of quoted_from tokens_from tokens_of is_effect is_fail left_by step_behind step_of_line line_word_of plan_word_of setup_word_of device_of start_of bytes_of moment_word name_of offset_of
+returns-clause-hint c = refl
+
 pub returns-clause-conf : goal.returns-clause-conf
 unfolding digits decode_pairs number_in front_of quoted_from tokens_from tokens_of is_effect is_fail left_by step_behind step_of_line line_word_of plan_word_of setup_word_of device_of start_of bytes_of moment_word name_of offset_of
 returns-clause-conf c = refl

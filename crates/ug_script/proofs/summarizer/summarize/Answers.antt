@@ -12,6 +12,6 @@ returns-clause-told g c = λ all base a b.
     summary_told c.args.kernel.now all base _ _ _ _ (rw c.new-summarizer.ensures at (c.run.ensures.answers all base a b))
 
 pub returns-clause-why : goal.returns-clause-why
-returns-clause-why g c = λ all is run sound none e.
+returns-clause-why g c = λ all is run sound none few e.
     let k = c.run.ensures.refused all is e in
-    summary_refused c.args.kernel.now _ k.0 (stays_lawful c.args.kernel.now run sound.kernel) (none, sound) (rw c.new-summarizer.ensures at k.1)
+    summary_refused c.args.kernel.now _ k.0 (stays_lawful c.args.kernel.now run sound.kernel) (none, sound, few) (rw c.new-summarizer.ensures at k.1)

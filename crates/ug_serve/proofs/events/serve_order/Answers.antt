@@ -7,6 +7,6 @@ returns g c = (
   record { asked_by = Some c.args.id; event = c.args.order.now; after = daemon_of c.handle.new.self; entries = c.handle.new.self.report.entries.entries },
   refl,
   refl,
-  record { room = c.requires; handled = c.handle.ensures.handles; after = refl; entries = refl; noted = c.handle.ensures.noted },
+  record { room = c.requires.numbers; handled = c.handle.ensures.handles; after = refl; entries = refl; noted = c.handle.ensures.noted },
   c.respond.ensures,
 )

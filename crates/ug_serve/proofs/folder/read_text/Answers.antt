@@ -1,7 +1,7 @@
 use Rattle.std.proofs.Common.{◌∙◌, subst}
 use Rattle.std.proofs.lemmas.Result.{err_from_is_err_and}
 use Rattle.ug_conf.specs.Files.{Read_at}
-use Rattle.ug_serve.specs.Folders.{ReadsText, Read_once, Without_path}
+use Rattle.ug_serve.specs.Folders.{Read_once, Without_path}
 use Rattle.ug_serve.proofs.folder.read_text.Goals as goal
 
 pub returns-in_err-path-clause-reads : goal.returns-in_err-path-clause-reads

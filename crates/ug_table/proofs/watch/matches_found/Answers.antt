@@ -1,7 +1,7 @@
 use Rattle.std.proofs.Common.{◌∙◌, sym}
 use Rattle.ug_table.specs.Allowed.{matches_allowed}
 use Rattle.ug_table.specs.Slots.{filled}
-use Rattle.ug_table.proofs.Agreement.{named_has}
+use Rattle.ug_table.proofs.MapChanges.{named_has}
 use Rattle.ug_table.proofs.Watched.{any_has}
 use Rattle.ug_table.proofs.watch.matches_found.Goals as goal
 

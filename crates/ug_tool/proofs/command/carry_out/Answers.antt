@@ -1,10 +1,11 @@
-use Rattle.std.proofs.Common.{◌≡◌, false, refl, subst}
+use Rattle.std.proofs.Common.{◌≡◌, ◌≤◌, false, refl, subst, arith}
 use Rattle.ug_iface.specs.Bus.{IsSoundBus}
 use Rattle.ug_sysfs.specs.Serving.{bus_in}
 use Rattle.ug_lines.specs.Lines.{lines_of}
 use Rattle.ug_sysfs.specs.IfaceMoves.{bus_new_sound}
 use Rattle.ug_sysfs.specs.World.{World}
 use Rattle.ug_script.specs.Against.{RefusesScript}
+use Rattle.ug_script.specs.Laws.{coming_in}
 use Rattle.ug_tool.proofs.command.carry_out.Goals as goal
 
 pub returns-in-Replay-clause-replayed : goal.returns-in-Replay-clause-replayed
@@ -30,4 +31,4 @@ returns-in-Summarize-clause-summary g c = λ is all base a b. rw c.new-in-Summar
 
 pub returns-in-Summarize-clause-why_summary : goal.returns-in-Summarize-clause-why_summary
 returns-in-Summarize-clause-why_summary g c = λ is all a.
-    subst (λ (w : World). w.ran_out ≡ false → IsSoundBus (bus_in w) → w.faults ≡ 0 → c.summarize.result ≡ 2 → RefusesScript w (lines_of all)) c.new-in-Summarize.ensures (c.summarize.ensures.why all a) refl bus_new_sound refl
+    subst (λ (w : World). w.ran_out ≡ false → IsSoundBus (bus_in w) → w.faults ≡ 0 → coming_in w ≤ 1048576 → c.summarize.result ≡ 2 → RefusesScript w (lines_of all)) c.new-in-Summarize.ensures (c.summarize.ensures.why all a) refl bus_new_sound refl (omega arith)

@@ -1,5 +1,5 @@
 use Rattle.ug_script.specs.Replay.{interpreter_state}
-use Rattle.std.proofs.Common.{refl}
+use Rattle.std.proofs.Common.{refl, arith}
 use Rattle.ug_sysfs.specs.Sound.{new_sound}
 use Rattle.ug_lines.specs.Lines.{lines_of}
 use Rattle.ug_sysfs.specs.IfaceMoves.{bus_new_sound}
@@ -16,7 +16,7 @@ returns-clause-replayed g c = λ all base a b. (interpreter_state c.run.new.mach
 pub returns-clause-why : goal.returns-clause-why
 returns-clause-why g c = λ all is e.
     let k = c.run.ensures.refused all is e in
-    script_refused new_world _ k.0 (stays_lawful new_world refl new_sound) (refl, bus_new_sound) (rw c.new-interpreter.ensures at (rw c.requires at k.1))
+    script_refused new_world _ k.0 (stays_lawful new_world refl new_sound) (refl, bus_new_sound, omega arith) (rw c.new-interpreter.ensures at (rw c.requires at k.1))
 
 pub returns-clause-too_long : goal.returns-clause-too_long
 returns-clause-too_long g c = λ all base a b.
@@ -24,7 +24,7 @@ returns-clause-too_long g c = λ all base a b.
     (rw c.new-interpreter.ensures at (rw c.requires at (c.run.ensures.answers all base a b)))
     (λ e.
     let k = c.run.ensures.refused all a e in
-    script_refused new_world _ k.0 (stays_lawful new_world refl new_sound) (refl, bus_new_sound) (rw c.new-interpreter.ensures at (rw c.requires at k.1)))
+    script_refused new_world _ k.0 (stays_lawful new_world refl new_sound) (refl, bus_new_sound, omega arith) (rw c.new-interpreter.ensures at (rw c.requires at k.1)))
 
 pub returns-clause-carries : goal.returns-clause-carries
 returns-clause-carries g c = λ all base a b e.

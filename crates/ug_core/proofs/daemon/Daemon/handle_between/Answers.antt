@@ -4,9 +4,11 @@ use Rattle.ug_proto.specs.declared.reply.Reply.{Reply}
 use Rattle.ug_core.specs.Answering.{HasWholeLines}
 use Rattle.ug_store.specs.Store.{RunsDisk}
 use Rattle.ug_table.specs.Order.{StandInOrder}
-use Rattle.ug_core.specs.Laws.{RunsAnswer}
+use Rattle.ug_core.specs.Laws.{PassesEvent, RunsAnswer}
 use Rattle.ug_core.specs.Event.{DaemonState, daemon_of, tried_with, ready, trying}
 use Rattle.ug_core.specs.Durable.{WritesEvent}
+use Rattle.ug_core.specs.Lent.{event_lent}
+use Rattle.ug_core.specs.declared.daemon.Event.{Event}
 use Rattle.ug_audit.proofs.Noting.{live_members}
 use Rattle.ug_audit.proofs.Texts.{all_entries}
 use Rattle.ug_core.proofs.Answered.{answering_made, ready_failures, ready_names}
@@ -18,9 +20,9 @@ use Rattle.ug_core.proofs.Tried.{tries_save}
 use Rattle.ug_core.proofs.Written.{ready_writes}
 use Rattle.ug_core.proofs.daemon.Daemon.handle_between.Goals as goal
 
-pub sweep-requires-clause-nameless : goal.sweep-requires-clause-nameless
-sweep-requires-clause-nameless g c =
-    let event = c.args.event.now in
+pub settle-requires-clause-nameless : goal.settle-requires-clause-nameless
+settle-requires-clause-nameless g c =
+    let event : Event = event_lent c.lend-lent.result in
     let d : DaemonState = daemon_of c.args.self.now in
     let tried = c.save_pending-tried.result in
     let is : daemon_of c.save_pending-tried.new.self ≡ ready event tried d = c.save_pending-tried.ensures.daemon ∙ ap (λ (x : DaemonState). tried_with tried x) c.begin.ensures.daemon in
@@ -33,17 +35,17 @@ sweep-requires-clause-nameless g c =
 pub returns-clause-passes : goal.returns-clause-passes
 unfolding trying
 returns-clause-passes g c =
-    let event = c.args.event.now in
+    let event : Event = event_lent c.lend-lent.result in
     let d : DaemonState = daemon_of c.args.self.now in
     let tried = c.save_pending-tried.result in
     let became = c.answer-stored.result in
     let is : daemon_of c.save_pending-tried.new.self ≡ ready event tried d = c.save_pending-tried.ensures.daemon ∙ ap (λ (x : DaemonState). tried_with tried x) c.begin.ensures.daemon in
     let a : DaemonState = daemon_of c.answer-stored.new.self in
-    let e : DaemonState = daemon_of c.sweep.new.self in
+    let e : DaemonState = daemon_of c.settle.new.self in
     let started = c.pass.new.sysfs in
     let middle = c.answer-stored.new.sysfs in
     let resumed = c.pass-2.new.sysfs in
-    let t = c.sweep.new.sysfs in
+    let t = c.settle.new.sysfs in
     let o = c.args.disk.now in
     let q = c.save_pending-tried.new.disk in
     let p = c.answer-stored.new.disk in
@@ -52,7 +54,8 @@ returns-clause-passes g c =
     let began = g.met.Y.Sysfs.began c.args.sysfs.now c.begin-2.new.self c.begin-2.ensures in
     let none : g.Y.Sysfs.calls started ≡ 0 = c.pass.ensures.calls ∙ began.1 in
     let made = answering_made g.Y.Sysfs.gives g.Y.Sysfs.calls g.Y.Sysfs.faults g.met.Y.Sysfs.counted g.D.RuleDisk.keeps event started q (ready event tried d) became middle p a none (subst (λ (n : ℕ). StandInOrder n c.args.self.now.table.standings) c.next_number-next.ensures.next c.next_number-next.ensures.standings) (ready_failures event tried d) (ready_names event tried d) answers in
-    let adds = sweep_adds g.Y.Sysfs.gives g.Y.Sysfs.calls g.Y.Sysfs.faults resumed a t e c.sweep.ensures.tells in
+    let adds = sweep_adds g.Y.Sysfs.gives g.Y.Sysfs.calls g.Y.Sysfs.faults resumed a t e c.settle.ensures.tells in
+    let passes : PassesEvent g.Y.Sysfs g.D.RuleDisk g.B.Between.goes event c.args.sysfs.now o d t p e =
     record {
       tried = tried;
       disk_tried = q;
@@ -67,25 +70,26 @@ returns-clause-passes g c =
       answers = answers;
       resumed = resumed;
       passes_on = c.pass-2.ensures.goes;
-      runs = c.sweep.ensures.runs;
-      binds = binds_judged g.Y.Sysfs g.met.Y.Sysfs.did [] resumed resumed a t e refl c.sweep.ensures.runs;
+      runs = c.settle.ensures.runs;
+      binds = binds_judged g.Y.Sysfs g.met.Y.Sysfs.did [] resumed resumed a t e refl c.settle.ensures.runs;
       written = ready_writes event tried d became (subst (λ (x : DaemonState). WritesEvent event x became) is c.answer-stored.ensures.written);
       saveable = c.stay_saveable.ensures.saves;
       saveable_after = c.stay_saveable-2.ensures.saves;
       numbered = c.stay_saveable.ensures.numbered;
       numbered_after = c.stay_saveable-2.ensures.numbered;
-      file = kept_event g.Y.Sysfs.gives g.D.RuleDisk.keeps g.D.RuleDisk.told g.met.D.RuleDisk.did event started o d tried q became middle p a e adds.0 tries answers adds.1 (event_keeps_rules g.Y.Sysfs.gives resumed a e t c.sweep.ensures.runs);
-      saves = tries_save g.Y.Sysfs.gives g.Y.Sysfs.calls g.Y.Sysfs.faults g.D.RuleDisk.keeps event o d tried q started became made.made middle p a resumed t e c.sweep.ensures.tells.swept tries answers made.goes c.sweep.ensures.tells.tells.goes c.sweep.ensures.tells.entries (event_keeps_pending g.Y.Sysfs.gives resumed a e t c.sweep.ensures.runs);
-    }
+      file = kept_event g.Y.Sysfs.gives g.D.RuleDisk.keeps g.D.RuleDisk.told g.met.D.RuleDisk.did event started o d tried q became middle p a e adds.0 tries answers adds.1 (event_keeps_rules g.Y.Sysfs.gives resumed a e t c.settle.ensures.runs);
+      saves = tries_save g.Y.Sysfs.gives g.Y.Sysfs.calls g.Y.Sysfs.faults g.D.RuleDisk.keeps event o d tried q started became made.made middle p a resumed t e c.settle.ensures.tells.swept tries answers made.goes c.settle.ensures.tells.goes c.settle.ensures.tells.entries (event_keeps_pending g.Y.Sysfs.gives resumed a e t c.settle.ensures.runs);
+    } in
+    subst (λ (x : Event). PassesEvent g.Y.Sysfs g.D.RuleDisk g.B.Between.goes x c.args.sysfs.now o d t p e) c.lend-lent.ensures passes
 
 pub returns-clause-whole : goal.returns-clause-whole
-returns-clause-whole g c = subst (λ (r : Option Reply). IfSome r (λ (x : Reply). HasWholeLines x)) (sym c.sweep.ensures.reply) c.answer-stored.ensures.whole
+returns-clause-whole g c = subst (λ (r : Option Reply). IfSome r (λ (x : Reply). HasWholeLines x)) (sym c.settle.ensures.reply) c.answer-stored.ensures.whole
 
 pub returns-clause-noted : goal.returns-clause-noted
 returns-clause-noted g c =
-    all_noted _ _ _ _ _ (all_noted _ _ _ _ _ (all_noted _ _ _ _ _ c.begin.ensures.noted c.save_pending-tried.ensures.notes.noted) c.answer-stored.ensures.notes.noted) c.sweep.ensures.noted
+    all_noted _ _ _ _ _ (all_noted _ _ _ _ _ (all_noted _ _ _ _ _ c.begin.ensures.noted c.save_pending-tried.ensures.notes.noted) c.answer-stored.ensures.noted) c.settle.ensures.noted
 
 pub returns-clause-alone : goal.returns-clause-alone
 returns-clause-alone g c none =
     all_entries _ _ [] _ (live_members _ _ _ _ ∙ none)
-    (all_noted _ _ _ _ _ (all_noted _ _ _ _ _ (all_noted _ _ _ _ _ c.begin.ensures.noted c.save_pending-tried.ensures.notes.noted) c.answer-stored.ensures.notes.noted) c.sweep.ensures.noted)
+    (all_noted _ _ _ _ _ (all_noted _ _ _ _ _ (all_noted _ _ _ _ _ c.begin.ensures.noted c.save_pending-tried.ensures.notes.noted) c.answer-stored.ensures.noted) c.settle.ensures.noted)

@@ -16,5 +16,6 @@ returns-clause-notes g c =
       number = search rules;
       next = search rules;
       next_event = search rules;
+      due = search rules;
       standings = search rules;
     }

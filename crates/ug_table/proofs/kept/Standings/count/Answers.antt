@@ -1,6 +1,6 @@
 use Rattle.std.proofs.Common.{arith, length, ap}
 use Rattle.ug_table.specs.Slots.{Store}
-use Rattle.ug_table.proofs.Agreement.{filled_few}
+use Rattle.ug_table.proofs.MapChanges.{filled_few}
 use Rattle.ug_table.proofs.kept.Standings.count.Goals as goal
 
 pub returns-clause-most : goal.returns-clause-most

@@ -3,7 +3,8 @@ use Rattle.ug_types.specs.Elements.{Has}
 use Rattle.ug_table.specs.Slots.{Store}
 use native.Mathlib.Decide.{dec_lt}
 use Prim.{yes, no}
-use Rattle.ug_table.proofs.Agreement.{unnumbered, numbered_has}
+use Rattle.ug_table.proofs.MapChanges.{unnumbered}
+use Rattle.ug_table.proofs.Agreement.{numbered_has}
 use Rattle.ug_table.proofs.kept.Standings.first_after.Goals as goal
 
 pub loop-at-init : goal.loop-at-init

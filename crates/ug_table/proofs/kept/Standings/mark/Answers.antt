@@ -6,7 +6,8 @@ use Rattle.ug_table.specs.Sweep.{names_of}
 use Rattle.ug_table.specs.Watched.{AnswersFor, if_looked}
 use Rattle.ug_table.specs.Standings.{named, marked}
 use Rattle.ug_table.specs.Slots.{Store, filled}
-use Rattle.ug_table.proofs.Agreement.{agree_mark, distinct_names, mark_fits, other_settled}
+use Rattle.ug_table.proofs.MapChanges.{distinct_names, other_settled}
+use Rattle.ug_table.proofs.Agreement.{agree_mark, mark_fits}
 use Rattle.ug_table.proofs.Watched.{answers_again}
 use Rattle.ug_table.proofs.Entries.{map_absent, marked_other}
 use Rattle.ug_table.proofs.kept.Standings.mark.Goals as goal

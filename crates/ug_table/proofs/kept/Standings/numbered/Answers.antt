@@ -5,7 +5,8 @@ use Rattle.ug_types.specs.Elements.{Has}
 use Rattle.ug_table.specs.declared.standing.Standing.{Standing}
 use Rattle.ug_table.specs.Standings.{numbered}
 use Rattle.ug_table.specs.Slots.{Store}
-use Rattle.ug_table.proofs.Agreement.{numbered_unknown, numbered_by}
+use Rattle.ug_table.proofs.MapChanges.{numbered_unknown}
+use Rattle.ug_table.proofs.Agreement.{numbered_by}
 use Rattle.ug_table.proofs.kept.Standings.numbered.Goals as goal
 
 pub returns-in-None : goal.returns-in-None

@@ -7,7 +7,8 @@ use Rattle.ug_table.specs.Slots.{Store, filled}
 use Rattle.std.specs.BTreeMap.{get}
 use Rattle.std.specs.Ordering.{nat_cmp}
 use Rattle.ug_table.specs.declared.standing.Standing.{Standing}
-use Rattle.ug_table.proofs.Agreement.{one_numbered, agree_distinct, numbered_has, order_none, agree_order, distinct_names, unordered}
+use Rattle.ug_table.proofs.MapChanges.{one_numbered, distinct_names}
+use Rattle.ug_table.proofs.Agreement.{agree_distinct, numbered_has, order_none, agree_order, unordered}
 use Rattle.ug_table.proofs.Watched.{answers_again}
 use Rattle.ug_table.proofs.Entries.{name_same, same_refl}
 use Rattle.std.proofs.lemmas.Bool.{both_ways}

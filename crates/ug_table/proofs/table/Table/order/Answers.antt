@@ -6,7 +6,7 @@ use Rattle.ug_table.specs.Orders.{OrdersOne}
 use Rattle.ug_table.specs.Table.{TableState}
 use Rattle.ug_table.proofs.Loops.{same_state}
 use Rattle.ug_table.proofs.Ordered.{order_part, order_marks, order_verdict, order_short, told_orders}
-use Rattle.ug_table.proofs.Standings.{stands_at}
+use Rattle.ug_table.proofs.NamedStandings.{stands_at}
 use Rattle.ug_table.proofs.table.Table.order.Goals as goal
 
 pub returns-clause-part : goal.returns-clause-part

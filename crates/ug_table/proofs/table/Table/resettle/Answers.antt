@@ -3,7 +3,7 @@ use Rattle.ug_audit.specs.Journal.{noted_in}
 use Rattle.ug_table.specs.State.{State, state_of}
 use Rattle.ug_table.specs.One.{ResettlesOne}
 use Rattle.ug_table.proofs.Loops.{same_state}
-use Rattle.ug_table.proofs.Standings.{stands_at}
+use Rattle.ug_table.proofs.NamedStandings.{stands_at}
 use Rattle.ug_table.proofs.One.{numbered_part, told_resettles, numbered_leaves, needs_room}
 use Rattle.ug_table.specs.Table.{TableState}
 use Rattle.ug_table.specs.Order.{StandInOrder}

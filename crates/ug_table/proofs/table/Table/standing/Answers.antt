@@ -1,5 +1,5 @@
 use Rattle.std.proofs.Common.{◌∙◌, ap}
-use Rattle.ug_table.proofs.Standings.{none_numbered}
+use Rattle.ug_table.proofs.NamedStandings.{none_numbered}
 use Rattle.ug_table.specs.Standings.{numbered}
 use Rattle.ug_table.specs.Table.{TableState}
 use Rattle.ug_table.proofs.table.Table.standing.Goals as goal

@@ -1,0 +1,17 @@
+pub mod Still
+pub mod Alike
+pub mod Kin
+pub mod Asking
+pub mod Bindings
+pub mod Writes
+pub mod Filters
+pub mod Parts
+pub mod Frames
+pub mod Rests
+pub mod Gone
+pub mod Departures
+pub mod Walk
+pub mod Comparison
+pub mod Runnable
+pub mod Rules
+pub mod Stages
