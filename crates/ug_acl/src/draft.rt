@@ -11,7 +11,7 @@ use ug_lines::{LineCut, cut_line, without_end, without_front};
 use ug_types::{LineFault, Section};
 
 /// What a line gives.
-#[derive(Clone, Copy, Debug)]
+#[derive(Clone, Copy)]
 pub struct Given {
     pub section: Section,
     pub privileges: Privileges,

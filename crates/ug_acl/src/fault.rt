@@ -4,7 +4,7 @@ ghost use Rattle.std.specs.Prelude.{◌≡◌};
 use ug_types::Numbered;
 
 /// What is wrong with a line, or with the file's name.
-#[derive(Clone, Copy, Debug, PartialEq, Eq)]
+#[derive(Clone, Copy)]
 pub enum FaultKind {
     /// The line has no `=`.
     NoEquals,

@@ -10,7 +10,7 @@ use std::marker::Model;
 use ug_types::{Privilege, Section};
 
 /// The privileges of each section.
-#[derive(Clone, Copy, Debug)]
+#[derive(Clone, Copy)]
 pub struct Kept {
     pub devices: Privileges,
     pub policy: Privileges,

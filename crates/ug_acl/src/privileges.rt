@@ -7,7 +7,7 @@ ghost use Rattle.ug_acl.specs.Words.{given_by_word, no_privileges, has_privilege
 use ug_types::{Privilege, Section};
 
 /// Some of the privileges that a section can have.
-#[derive(Clone, Copy, Debug)]
+#[derive(Clone, Copy)]
 pub struct Privileges {
     pub modify: bool,
     pub list: bool,

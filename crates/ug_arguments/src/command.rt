@@ -27,7 +27,7 @@ pub enum Command {
 }
 
 /// Why words were not read.
-#[derive(Clone, Copy, Debug, PartialEq, Eq)]
+#[derive(Clone, Copy)]
 pub enum WordsFault {
     /// They are no command of usbguard(1).
     Bad,

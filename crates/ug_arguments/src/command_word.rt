@@ -5,7 +5,7 @@ ghost use Rattle.ug_arguments.specs.CommandWords.{asking_word_in, word_in};
 use ug_types::Target;
 
 /// A command, by its first word.
-#[derive(Clone, Copy, Debug)]
+#[derive(Clone, Copy)]
 pub enum CommandWord {
     Replay,
     MakeScript,

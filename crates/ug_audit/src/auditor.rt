@@ -5,7 +5,7 @@ ghost use Rattle.ug_types.specs.Ends.{IsCounted, Rose};
 ghost use Rattle.ug_audit.specs.Auditors.{TakesEntryLine, IsTextTaken};
 
 /// What became of a line that was given to an auditor.
-#[derive(Clone, Copy, Debug, PartialEq, Eq)]
+#[derive(Clone, Copy)]
 pub enum Noted {
     Done,
     Failed,

@@ -5,14 +5,14 @@ use ug_refusal::Refusal;
 use ug_types::{Cause, Moment, NodeName, Principal, Saved, Target};
 
 /// Why a name is unsettled.
-#[derive(Clone, Copy, Debug, PartialEq, Eq)]
+#[derive(Clone, Copy, PartialEq, Eq)]
 pub enum Fault {
     Call(FailedCall),
     Memory,
 }
 
 /// What was done with a rule.
-#[derive(Clone, Copy, Debug, PartialEq, Eq)]
+#[derive(Clone, Copy)]
 pub enum RuleChange {
     Added,
     Removed,

@@ -6,7 +6,7 @@ ghost use Rattle.ug_types.specs.Principals.{is_name_byte};
 use std::marker::Model;
 
 /// The name of a file in a folder of configuration: at most 255 ASCII letters, digits, `_`, `-` and `.`.
-#[derive(Clone, Copy, Debug, PartialEq, Eq)]
+#[derive(Clone, Copy)]
 pub struct FileName {
     bytes: [u8; 255],
     len: u8,

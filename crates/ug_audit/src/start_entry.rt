@@ -3,7 +3,7 @@ use crate::file_name::FileName;
 
 /// A part of the daemon's configuration: usbguard-daemon.conf(5), usbguard-rules.conf(5), the folder of rules, and the files that grant
 /// access.
-#[derive(Clone, Copy, Debug, PartialEq, Eq)]
+#[derive(Clone, Copy)]
 pub enum ConfigPart {
     Settings,
     /// The folder of rules, as a whole.
@@ -15,7 +15,7 @@ pub enum ConfigPart {
 }
 
 /// One line of the journal, before those of the events.
-#[derive(Clone, Copy, Debug, PartialEq, Eq)]
+#[derive(Clone, Copy)]
 pub enum StartEntry {
     /// That line of the settings has a key that isn't used.
     UnusedKey {

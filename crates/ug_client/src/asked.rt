@@ -1,7 +1,7 @@
 // How a call of the client ends.
 
 /// How a request ended. Beside each stands usbguard(1)'s exit status for it.
-#[derive(Clone, Copy, PartialEq, Eq, Debug)]
+#[derive(Clone, Copy)]
 pub enum Asked {
     /// 0: it was done, and the reply's lines are printed.
     Done,

@@ -10,7 +10,7 @@ use ug_proto::{Request, print_request};
 use ug_types::{NoMemory, Put};
 
 /// How a sending ended.
-#[derive(Clone, Copy, PartialEq, Eq, Debug)]
+#[derive(Clone, Copy)]
 pub enum Sent {
     Done,
     Failed,

@@ -9,7 +9,7 @@ use std::alloc::Global;
 use ug_types::Sink;
 
 /// How a step ended.
-#[derive(Clone, Copy, Debug, PartialEq, Eq)]
+#[derive(Clone, Copy)]
 pub enum Ran {
     Done,
     /// The line isn't one that may stand there.

@@ -7,7 +7,7 @@ use std::alloc::Global;
 use ug_types::{Source, Taken, Text};
 
 /// Why an input wasn't read whole.
-#[derive(Clone, Copy, Debug, PartialEq, Eq)]
+#[derive(Clone, Copy)]
 pub enum InputFault {
     /// It has more bytes than the limit. Some of those behind the limit were taken.
     TooLong,

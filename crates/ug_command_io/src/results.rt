@@ -9,7 +9,7 @@ use crate::read::InputFault;
 use ug_types::{Put, Sink};
 
 /// How a call ended.
-#[derive(Clone, Copy, Debug, PartialEq, Eq)]
+#[derive(Clone, Copy)]
 pub enum Ended {
     /// All was read and written.
     Done,

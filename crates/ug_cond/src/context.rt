@@ -2,7 +2,7 @@
 use ug_types::Moment;
 
 /// The moment at which a device is judged.
-#[derive(Clone, Copy, Debug, PartialEq, Eq)]
+#[derive(Clone, Copy)]
 pub struct Context {
     pub moment: Moment,
     /// The second of the local day, from 0 to 86,399.

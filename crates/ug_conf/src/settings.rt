@@ -3,7 +3,7 @@ use ug_parameter::Inserted;
 use ug_types::{List, Principal, Target, Text};
 
 /// PresentDevicePolicy and PresentControllerPolicy: what is done with a device that was there at the start.
-#[derive(Clone, Copy, Debug, PartialEq, Eq)]
+#[derive(Clone, Copy)]
 pub enum Present {
     Allow,
     Block,
@@ -15,7 +15,7 @@ pub enum Present {
 }
 
 /// AuthorizedDefault: what a controller does with a new device by itself.
-#[derive(Clone, Copy, Debug, PartialEq, Eq)]
+#[derive(Clone, Copy)]
 pub enum AuthDefault {
     /// As the controller has it.
     Keep,

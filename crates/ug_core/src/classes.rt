@@ -9,7 +9,7 @@ use ug_parameter::Inserted;
 use ug_types::{Cause, Target};
 
 /// The settings that verdicts and the rules made of devices go by: usbguard-daemon.conf(5).
-#[derive(Clone, Copy, Debug, PartialEq, Eq)]
+#[derive(Clone, Copy)]
 pub struct Classes {
     /// ImplicitPolicyTarget.
     pub implicit: Target,

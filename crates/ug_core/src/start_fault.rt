@@ -4,7 +4,7 @@ use ug_store::RecoverFault;
 use ug_types::{FileFault, NoMemory, TextFault};
 
 /// Why a daemon doesn't start.
-#[derive(Clone, Copy, Debug, PartialEq, Eq)]
+#[derive(Clone, Copy)]
 pub enum StartFault {
     /// The reading failed; the disk's count of faults after it.
     Disk(u64),

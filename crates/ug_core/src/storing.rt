@@ -6,7 +6,7 @@ use ug_refusal::Refusal;
 use ug_store::Saved;
 
 /// What became of an order's change: it is in force exactly where nothing had to be saved, or the save was done.
-#[derive(Clone, Copy, Debug, PartialEq, Eq)]
+#[derive(Clone, Copy)]
 pub enum Stored {
     /// There is no change, or none of permanent rules.
     NotNeeded,

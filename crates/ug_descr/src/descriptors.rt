@@ -24,7 +24,7 @@ pub struct Config {
 }
 
 /// An interface descriptor, one for each alternate setting: USB 2.0, 9.6.5.
-#[derive(Clone, Copy, Debug, PartialEq, Eq)]
+#[derive(Clone, Copy)]
 pub struct IfaceDescr {
     /// bInterfaceNumber.
     pub number: u8,

@@ -2,7 +2,7 @@
 use std::io;
 
 /// What became of the connection that was dialled last.
-#[derive(Clone, Copy, Debug, PartialEq, Eq)]
+#[derive(Clone, Copy, PartialEq, Eq)]
 pub enum Reached {
     /// None was dialled.
     Nowhere,

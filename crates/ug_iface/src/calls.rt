@@ -3,7 +3,7 @@ use crate::name::IfaceName;
 use ug_types::{List, Triple};
 
 /// An `authorized` file of an interface that is held open.
-#[derive(Clone, Copy, Debug, PartialEq, Eq)]
+#[derive(Clone, Copy, PartialEq, Eq)]
 pub struct IfaceHeld(pub u64);
 
 /// The answer to a listing of a device's interfaces.
@@ -17,7 +17,7 @@ pub enum IfaceListing {
 }
 
 /// The answer to an opening.
-#[derive(Clone, Copy, Debug, PartialEq, Eq)]
+#[derive(Clone, Copy)]
 pub enum IfaceOpened {
     Token(IfaceHeld),
     Absent,
@@ -26,7 +26,7 @@ pub enum IfaceOpened {
 }
 
 /// The answer to a reading of class, subclass and protocol.
-#[derive(Clone, Copy, Debug, PartialEq, Eq)]
+#[derive(Clone, Copy)]
 pub enum IfaceRead {
     Is(Triple),
     Absent,

@@ -2,7 +2,7 @@
 use ug_types::Triple;
 
 /// An interface that was made. Its place in the list of interfaces is its identity, and is never used again.
-#[derive(Clone, Copy, Debug, PartialEq, Eq)]
+#[derive(Clone, Copy)]
 pub struct Interface {
     /// The identity of its device.
     pub device: usize,

@@ -19,7 +19,7 @@ use ug_match::matches;
 use ug_types::{DeviceRecord, Iface, List, NodeName, Triple};
 
 /// What is told of an interface, with the number of its device's standing.
-#[derive(Clone, Copy, Debug, PartialEq, Eq)]
+#[derive(Clone, Copy)]
 pub enum IfaceEntry {
     /// It is to be switched off.
     Intent {
@@ -46,7 +46,7 @@ pub enum IfaceEntry {
 }
 
 /// How a pass over a device's interfaces ended.
-#[derive(Clone, Copy, Debug, PartialEq, Eq)]
+#[derive(Clone, Copy, PartialEq, Eq)]
 pub enum Passed {
     Done,
     /// The device is gone.

@@ -5,7 +5,7 @@ ghost use Rattle.ug_index.specs.Reaches as reaches;
 use ug_types::{Id, Op, Query, Values};
 
 /// Which ids a rule can match, as far as the index tells them apart.
-#[derive(Clone, Copy, Debug, PartialEq, Eq)]
+#[derive(Clone, Copy)]
 pub enum Reach {
     /// One id alone, whose vendor and product have that remainder.
     Narrow(u8),

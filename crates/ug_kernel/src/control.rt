@@ -1,7 +1,7 @@
 // The files of a device in sysfs, and what is written to them.
 
 /// A file that is written: sysfs-bus-usb, `authorized`, `remove`, and of a root hub `authorized_default`.
-#[derive(Clone, Copy, Debug, PartialEq, Eq)]
+#[derive(Clone, Copy)]
 pub enum Control {
     Authorized,
     Remove,
@@ -9,7 +9,7 @@ pub enum Control {
 }
 
 /// A file that is read: sysfs-bus-usb, `descriptors`, `product`, `serial` and `port/connect_type`.
-#[derive(Clone, Copy, Debug, PartialEq, Eq)]
+#[derive(Clone, Copy)]
 pub enum Attr {
     Descriptors,
     Product,
@@ -18,7 +18,7 @@ pub enum Attr {
 }
 
 /// What is written: 1 or 0 to `authorized`, 1 to `remove`, 0 or 1 to `authorized_default`.
-#[derive(Clone, Copy, Debug, PartialEq, Eq)]
+#[derive(Clone, Copy)]
 pub enum Write {
     On,
     Off,
@@ -28,5 +28,5 @@ pub enum Write {
 }
 
 /// A sysfs file that is held open.
-#[derive(Clone, Copy, Debug, PartialEq, Eq)]
+#[derive(Clone, Copy, PartialEq, Eq)]
 pub struct Held(pub u64);

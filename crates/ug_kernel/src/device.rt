@@ -27,14 +27,14 @@ pub struct Device {
 }
 
 /// An open file of a device. Its place in the kernel's list is its number.
-#[derive(Clone, Copy, Debug, PartialEq, Eq)]
+#[derive(Clone, Copy)]
 pub struct HeldFile {
     pub device: usize,
     pub control: Control,
 }
 
 /// A write that had its effect.
-#[derive(Clone, Copy, Debug, PartialEq, Eq)]
+#[derive(Clone, Copy)]
 pub struct Effect {
     pub device: usize,
     pub write: Write,

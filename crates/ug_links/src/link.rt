@@ -9,7 +9,7 @@ ghost use Rattle.ug_links.specs.declared.link_call.LinkCall.TheVariants as call;
 use std::alloc::Global;
 use ug_types::{Put, Taken};
 
-#[derive(Clone, Copy, PartialEq, Eq, Debug)]
+#[derive(Clone, Copy)]
 pub enum Dialled {
     Ready,
     Failed,

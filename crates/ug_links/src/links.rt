@@ -9,7 +9,7 @@ use crate::waiter::LinkId;
 use std::alloc::Global;
 use ug_types::Principal;
 
-#[derive(Clone, Copy, Debug, PartialEq, Eq)]
+#[derive(Clone, Copy, PartialEq, Eq)]
 pub enum Listening {
     /// The listener has this number.
     Ready(u32),
@@ -17,7 +17,7 @@ pub enum Listening {
     Memory,
 }
 
-#[derive(Clone, Copy, Debug, PartialEq, Eq)]
+#[derive(Clone, Copy, PartialEq, Eq)]
 pub enum Accepted {
     Session(LinkId),
     NotYet,
@@ -25,7 +25,7 @@ pub enum Accepted {
     Memory,
 }
 
-#[derive(Clone, Copy, Debug, PartialEq, Eq)]
+#[derive(Clone, Copy, PartialEq, Eq)]
 pub enum LinkRead {
     /// So many bytes came.
     Took(usize),
@@ -35,7 +35,7 @@ pub enum LinkRead {
     Failed,
 }
 
-#[derive(Clone, Copy, Debug, PartialEq, Eq)]
+#[derive(Clone, Copy, PartialEq, Eq)]
 pub enum LinkWrote {
     /// So many bytes were sent.
     Sent(usize),

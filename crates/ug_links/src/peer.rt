@@ -19,7 +19,7 @@ pub enum ReadItem {
 }
 
 /// What a write meets. Past the script all is sent.
-#[derive(Clone, Copy, Debug, PartialEq, Eq)]
+#[derive(Clone, Copy)]
 pub enum WriteItem {
     /// At most so many bytes are sent. None are a wait.
     Takes(usize),

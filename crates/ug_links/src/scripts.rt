@@ -14,7 +14,7 @@ use std::marker::Model;
 use ug_types::NoMemory;
 
 /// What a listening meets. Past the script it succeeds.
-#[derive(Clone, Copy, Debug, PartialEq, Eq)]
+#[derive(Clone, Copy)]
 pub enum ListenItem {
     Opens,
     Fails,

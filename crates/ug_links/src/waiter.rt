@@ -6,17 +6,17 @@ ghost use Rattle.ug_links.specs.Waits.{Waited, FitsWait, waited, wait_tokens};
 ghost use Rattle.ug_links.specs.declared.waiter.Ready.{Ready};
 
 /// A session's connection.
-#[derive(Clone, Copy, Debug, PartialEq, Eq)]
+#[derive(Clone, Copy, PartialEq, Eq)]
 pub struct LinkId(pub u64);
 
 /// A socket at which something may have come: a listener by its number, or a session.
-#[derive(Clone, Copy, Debug, PartialEq, Eq)]
+#[derive(Clone, Copy, PartialEq, Eq)]
 pub enum Ready {
     Listener(u32),
     Session(LinkId),
 }
 
-#[derive(Clone, Copy, Debug, PartialEq, Eq)]
+#[derive(Clone, Copy, PartialEq, Eq)]
 pub enum Woken {
     /// So many tokens came.
     Got(usize),

@@ -7,7 +7,7 @@ use crate::implied::is_implied;
 use ug_types::Rule;
 
 /// Why a rule can never decide. Rules are counted from 0.
-#[derive(Clone, Copy, Debug, PartialEq, Eq)]
+#[derive(Clone, Copy)]
 pub enum Finding {
     /// An earlier rule decides wherever this one would.
     Covered { rule: u32, by: u32 },

@@ -5,7 +5,7 @@ ghost use Rattle.ug_match.specs.Covers.{covers_number, covers_id, covers_interfa
 use ug_types::{Id, Iface, Text, Triple};
 
 /// A device's idVendor and idProduct: USB 2.0, 9.6.1.
-#[derive(Clone, Copy, Debug, PartialEq, Eq)]
+#[derive(Clone, Copy)]
 pub struct DeviceId {
     pub vendor: u16,
     pub product: u16,

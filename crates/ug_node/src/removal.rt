@@ -11,7 +11,7 @@ use ug_kernel::{Control, FailedCall, Held, Opened, Probe, Sysfs};
 use ug_types::NodeName;
 
 /// The answer to the opening of a second file of a device. The file is closed on each answer but `Ready`.
-#[derive(Clone, Copy, Debug, PartialEq, Eq)]
+#[derive(Clone, Copy)]
 pub enum RemoveHold {
     /// The file of that very device.
     Ready(Held),

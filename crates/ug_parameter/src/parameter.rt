@@ -5,7 +5,7 @@ ghost use Rattle.ug_parameter.specs.Parameters.{inserted_of, inserted_word, para
 use ug_types::Target;
 
 /// InsertedDevicePolicy of usbguard-daemon.conf(5): what is done with a device that comes later.
-#[derive(Clone, Copy, Debug, PartialEq, Eq)]
+#[derive(Clone, Copy)]
 pub enum Inserted {
     Block,
     Reject,
@@ -14,14 +14,14 @@ pub enum Inserted {
 }
 
 /// The name of such a setting.
-#[derive(Clone, Copy, Debug, PartialEq, Eq)]
+#[derive(Clone, Copy)]
 pub enum ParameterName {
     ImplicitPolicyTarget,
     InsertedDevicePolicy,
 }
 
 /// Such a setting with a value of its own.
-#[derive(Clone, Copy, Debug, PartialEq, Eq)]
+#[derive(Clone, Copy)]
 pub enum Parameter {
     ImplicitPolicyTarget(Target),
     InsertedDevicePolicy(Inserted),

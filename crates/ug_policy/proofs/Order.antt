@@ -15,7 +15,7 @@ use Rattle.ug_policy.specs.declared.entry.Mark.TheVariants as mark
 use Rattle.ug_policy.specs.declared.entry.RuleEntry.{RuleEntry}
 use Rattle.ug_policy.proofs.Changes.{followed_first}
 use Rattle.ug_policy.proofs.Members.{has_ids}
-use Rattle.ug_policy.proofs.Places.{FirstAt, NonePasses}
+use Rattle.ug_policy.proofs.Places.{FirstAt}
 use Rattle.ug_types.proofs.Elements.{has_right}
 
 marks_insert : (es : List RuleEntry) (i : ℕ) (y : RuleEntry) → marks (insert es i y) ≡ insert (marks es) i y.mark
@@ -102,10 +102,6 @@ behind_place id es i e h = ap has_folder (marks_drop (i + 1) es) ∙ ap (λ (n :
     marks_drop zero fs = refl
     marks_drop (suc n) [] = refl
     marks_drop (suc n) (f ∷ fs) = marks_drop n fs
-
-pub none_of_id : (id : ℕ) (es : List RuleEntry) → NonePasses (has_id id) es → folder_behind id es ≡ false
-none_of_id id [] h = refl
-none_of_id id (e ∷ es) h = ap (λ (b : Bool). cond b (has_folder (marks es)) (folder_behind id es)) h.0 ∙ none_of_id id es h.1
 
 pub any_folder : (es : List RuleEntry) → list_any (λ (e : RuleEntry). is_folder e.mark) es ≡ has_folder (marks es)
 any_folder [] = refl

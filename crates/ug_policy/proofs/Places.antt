@@ -1,6 +1,6 @@
 -- The first element that passes a test.
-use Rattle.std.proofs.Common.{◌≡◌, ℕ, zero, suc, ◌<◌, ◌≤◌, ◌+◌, ◌∷◌, [], List, length, get_or, Bool, true, false, not, Some, None, arith, refl, ap, subst}
-use Rattle.std.specs.List.{position, position_or_len}
+use Rattle.std.proofs.Common.{◌≡◌, ℕ, zero, suc, ◌<◌, ◌≤◌, ◌+◌, ◌∷◌, [], List, length, get_or, Bool, true, false, not, ◌||◌, Some, None, arith, refl, ap, ◌∙◌, subst}
+use Rattle.std.specs.List.{list_any, position, position_or_len}
 use Rattle.std.proofs.lemmas.Bool.{cond-true, cond-false}
 use Rattle.std.proofs.lemmas.List.Quantifiers.{position-Some}
 
@@ -36,6 +36,15 @@ none_from {X} p (x ∷ xs) h =
       | false ↦ λ e. let past : suc (length xs) ≤ 1 + position_or_len p xs = subst (λ (n : ℕ). suc (length xs) ≤ n) (cond-true (not (p x)) (1 + position_or_len p xs) 0 (ap not e)) h in (e, none_from p xs (omega arith))
     ] in
     f (p x) refl
+
+pub first_any : {X : Type 0} (p : X → Bool) (xs : List X) (i : ℕ) (x : X) → FirstAt p xs i x → list_any p xs ≡ true
+first_any p [] i x h = absurd h
+first_any p (y ∷ ys) zero x h = ap (λ (b : Bool). b || list_any p ys) h.1
+first_any p (y ∷ ys) (suc i) x h = ap (λ (b : Bool). b || list_any p ys) h.0 ∙ first_any p ys i x h.1
+
+pub none_any : {X : Type 0} (p : X → Bool) (xs : List X) → NonePasses p xs → list_any p xs ≡ false
+none_any p [] h = refl
+none_any p (x ∷ xs) h = ap (λ (b : Bool). b || list_any p xs) h.0 ∙ none_any p xs h.1
 
 pub none_passes : {X : Type 0} (p : X → Bool) (xs : List X) → position p xs ≡ None → NonePasses p xs
 none_passes p xs e = none_from p xs (grind arith)

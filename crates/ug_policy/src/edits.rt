@@ -1,5 +1,5 @@
 // Changes of a list of rules.
-ghost use Rattle.std.specs.Prelude.{◌≡◌, ◌≤◌, ◌<◌, ◌+◌, None, IfSome, IfOk, OnOk, OnErr, insert, remove, length, position, vec_len, vec_capacity};
+ghost use Rattle.std.specs.Prelude.{◌≡◌, ◌≤◌, ◌<◌, ◌+◌, true, false, None, IsSome, IfSome, IfOk, OnOk, OnErr, insert, remove, length, position, vec_len, vec_capacity};
 ghost use Rattle.std.specs.List.{list_any};
 ghost use Rattle.ug_types.specs.Elements.{Has, AllDistinct};
 ghost use Rattle.ug_policy.specs.declared.entry.RuleEntry.{RuleEntry as Entry};
@@ -64,13 +64,15 @@ fn has_folder(entries: &[RuleEntry]) -> bool
     entries.iter().any(|e| e.mark.is_folder())
 }
 
-/// Whether the folder has a rule behind the one with that id.
-pub fn has_folder_behind(entries: &[RuleEntry], id: u64) -> bool
-    ensures { result ≡ folder_behind id entries.now }
+/// Whether the folder has a rule behind the one with that id; None where no rule has it.
+pub fn has_folder_behind(entries: &[RuleEntry], id: u64) -> Option<bool>
+    ensures behind { IfSome result (λ behind. behind ≡ folder_behind id entries.now) }
+    ensures there { IsSome result → list_any (has_id id) entries.now ≡ true }
+    ensures none { result ≡ None → list_any (has_id id) entries.now ≡ false }
 {
     match place_of(entries, id) {
-        Some(place) => has_folder(&entries[place + 1..]),
-        None => false,
+        Some(place) => Some(has_folder(&entries[place + 1..])),
+        None => None,
     }
 }
 

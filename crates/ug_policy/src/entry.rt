@@ -6,7 +6,7 @@ use ug_cond::History;
 use ug_types::Rule;
 
 /// Where a rule of the list comes from: usbguard-daemon.conf(5), RuleFolder. No rule of the rule file stands before one of the folder.
-#[derive(Clone, Copy, Debug, PartialEq, Eq)]
+#[derive(Clone, Copy)]
 pub enum Mark {
     /// A file of the folder, which is never written.
     Folder,
@@ -50,5 +50,5 @@ pub struct RuleEntry {
 }
 
 /// No rule has the id.
-#[derive(Clone, Copy, Debug, PartialEq, Eq)]
+#[derive(Clone, Copy)]
 pub struct NoRule;

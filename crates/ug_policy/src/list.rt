@@ -1,12 +1,13 @@
 // The list of rules.
-ghost use Rattle.std.specs.Prelude.{◌≡◌, ◌≤◌, ◌<◌, ◌↔◌, ℕ, ◌+◌, ◌-◌, ◌^◌, List, [], ◌∷◌, ◌++◌, None, IfOk, IsNone, OnOk, OnErr, All, length, map, take, drop, slice_get, option_copied};
+ghost use Rattle.std.specs.Prelude.{◌≡◌, ◌≤◌, ◌<◌, ◌↔◌, ℕ, ◌+◌, ◌-◌, ◌^◌, true, false, List, [], ◌∷◌, ◌++◌, None, IfOk, IfSome, IsNone, IsSome, OnOk, OnErr, All, length, map, take, drop, slice_get, option_copied};
+ghost use Rattle.std.specs.List.{list_any};
 ghost use Rattle.ug_types.specs.Elements.{Has, AllDistinct};
 ghost use Rattle.ug_cond.specs.Judgements.{Judgement};
 ghost use Rattle.ug_cond.specs.Words.{behind};
 ghost use Rattle.ug_policy.specs.declared.entry.RuleEntry as stored;
 ghost use Rattle.ug_policy.specs.Marks.{FolderFirst};
 ghost use Rattle.ug_policy.specs.Rules.{ids, marks, most_rules};
-ghost use Rattle.ug_policy.specs.Edits.{IsThere, KeepsMarkOrder, folder_behind, inserted, new_entry, removed, retargeted};
+ghost use Rattle.ug_policy.specs.Edits.{IsThere, KeepsMarkOrder, folder_behind, has_id, inserted, new_entry, removed, retargeted};
 ghost use Rattle.ug_policy.specs.Matching.{answered, judged, rule_noted};
 ghost use Rattle.ug_policy.specs.Deciding.{HasNoDecider, IsDecider, Judges, find_decider, judgement_found, seen, words_taken};
 ghost use Rattle.ug_policy.specs.Kept.{StandsFor};
@@ -96,9 +97,11 @@ impl RuleList {
         self.entries.as_slice()
     }
 
-    /// Whether the folder has a rule behind the one of that id.
-    pub fn has_folder_behind(&self, id: u64) -> bool
-        ensures { result ≡ folder_behind id self.now.entries }
+    /// Whether the folder has a rule behind the one of that id; None where no rule has it.
+    pub fn has_folder_behind(&self, id: u64) -> Option<bool>
+        ensures behind { IfSome result (λ behind. behind ≡ folder_behind id self.now.entries) }
+        ensures there { IsSome result → list_any (has_id id) self.now.entries ≡ true }
+        ensures none { result ≡ None → list_any (has_id id) self.now.entries ≡ false }
     {
         has_folder_behind(self.entries.as_slice(), id)
     }

@@ -12,7 +12,7 @@ use std::marker::Model;
 use ug_types::{NoMemory, Rule, TEXT_LIMIT, Text};
 
 /// Why no text is made of rules.
-#[derive(Clone, Copy, Debug, PartialEq, Eq)]
+#[derive(Clone, Copy)]
 pub enum RulesTextFault {
     /// It would have more than 67,108,864 bytes.
     TooLong,

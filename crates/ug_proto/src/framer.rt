@@ -11,7 +11,7 @@ use ug_types::Text;
 const MAX_LINE: usize = 65535;
 
 /// Why a stream is read no further.
-#[derive(Clone, Copy, Debug, PartialEq, Eq)]
+#[derive(Clone, Copy)]
 pub enum FrameFault {
     /// 65,536 bytes stand without a newline.
     TooLong,

@@ -11,7 +11,7 @@ pub enum Reply {
 }
 
 /// Why a text was not read.
-#[derive(Clone, Copy, Debug, PartialEq, Eq)]
+#[derive(Clone, Copy)]
 pub enum ReplyFault {
     /// It is no reply, and none begins so.
     BadReply,

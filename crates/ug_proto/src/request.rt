@@ -40,7 +40,7 @@ pub enum Request {
 }
 
 /// Why a line wasn't read.
-#[derive(Clone, Copy, Debug, PartialEq, Eq)]
+#[derive(Clone, Copy)]
 pub enum RequestFault {
     /// It is no request: the first word that doesn't fit begins at that byte, or the line ends there and a word is missing.
     Bad(u64),

@@ -8,7 +8,7 @@ use ug_numerals::parse_decimal;
 use ug_types::NoMemory;
 
 /// Why no part was taken.
-#[derive(Clone, Copy, Debug, PartialEq, Eq)]
+#[derive(Clone, Copy)]
 pub enum Stop {
     /// It ends before the part does.
     Short,

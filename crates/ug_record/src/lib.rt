@@ -9,4 +9,4 @@ pub use files::text_of;
 pub use laws::{
     child_hash_by_descriptors, judged_by_descriptors, judged_under_child_hash, one_newline_goes,
 };
-pub use records::{child_hash, record_of, record_under};
+pub use records::{parent_hash, record_and_hash, record_of};

@@ -7,7 +7,7 @@ use ug_types::{Line, Privilege, Section};
 /// Why an order was refused. Where several causes stand together, the first of BadRequest, Denied, BadRule, NoDevice for a
 /// number that no device has, ProbeFault, NoDevice for a device that has gone, NoRule, FolderRule, and then the others from
 /// BadParameter to DeviceFault in their order is told; Memory may be told in place of any.
-#[derive(Clone, Copy, Debug, PartialEq, Eq)]
+#[derive(Clone, Copy)]
 pub enum Refusal {
     /// The line is no request: the first word that doesn't fit begins at that byte.
     BadRequest {

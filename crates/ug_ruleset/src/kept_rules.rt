@@ -115,13 +115,11 @@ impl KeptRules {
     fn refuse_behind(&self, id: u64) -> Option<Refusal>
         ensures { result ≡ if_behind id self.now.entries }
     {
-        if !self.has_rule(id) {
-            return Some(Refusal::NoRule { id });
+        match self.list.has_folder_behind(id) {
+            None => Some(Refusal::NoRule { id }),
+            Some(true) => Some(Refusal::FolderRule { id }),
+            Some(false) => None,
         }
-        if self.list.has_folder_behind(id) {
-            return Some(Refusal::FolderRule { id });
-        }
-        None
     }
 
     /// Why the rule of that id isn't taken out.

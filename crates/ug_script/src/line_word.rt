@@ -3,7 +3,7 @@ ghost use Rattle.std.specs.Prelude.{◌≡◌};
 ghost use Rattle.ug_script.specs.LineWords.{line_word_of, plan_word_of, setup_word_of};
 
 /// A line's first word.
-#[derive(Clone, Copy, Debug)]
+#[derive(Clone, Copy)]
 pub enum LineWord {
     Plug,
     Unplug,

@@ -27,7 +27,7 @@ use ug_store::MemDisk;
 use ug_types::{NoMemory, TEXT_LIMIT};
 
 /// Why no daemon starts over a disk.
-#[derive(Clone, Copy, Debug, PartialEq, Eq)]
+#[derive(Clone, Copy)]
 pub enum NoStart {
     /// The rule file isn't in the grammar, or a file of the folder.
     BadRules,

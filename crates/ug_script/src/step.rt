@@ -65,7 +65,7 @@ pub enum Step {
 }
 
 /// Why a line gives no step, or may not stand there.
-#[derive(Clone, Copy, Debug, PartialEq, Eq)]
+#[derive(Clone, Copy)]
 pub enum StepFault {
     /// The line is none of the grammar.
     Bad,

@@ -15,7 +15,7 @@ use ug_lines::next_line;
 use ug_types::{Line, NoMemory};
 
 /// How many events a journal has, and how many verdicts, writes and unsettled devices.
-#[derive(Clone, Copy, Debug, PartialEq, Eq)]
+#[derive(Clone, Copy)]
 pub struct Totals {
     pub events: u64,
     pub judged: u64,

@@ -9,7 +9,7 @@ use ug_links::{Links, Listening};
 use ug_types::Principal;
 
 /// Why a daemon can't listen for its users and groups.
-#[derive(Clone, Copy, Debug, PartialEq, Eq)]
+#[derive(Clone, Copy)]
 pub enum NotListening {
     Failed,
     Memory,

@@ -8,7 +8,7 @@ use ug_core::StartFault;
 use ug_types::{FileFault, NoMemory, Text, TextFault};
 
 /// What keeps a daemon from its first turn.
-#[derive(Clone, Copy, Debug, PartialEq, Eq)]
+#[derive(Clone, Copy)]
 pub enum NotStarted {
     /// That part of the configuration isn't taken, by its first bad line. All numbers are 0 where the part as a whole isn't.
     Refused(ConfigPart, TextFault),

@@ -16,7 +16,7 @@ use ug_sessions::Server;
 use ug_store::RuleDisk;
 
 /// What a turn came to.
-#[derive(Clone, Copy, Debug, PartialEq, Eq)]
+#[derive(Clone, Copy)]
 pub enum TurnEnd {
     Done,
     /// The numbers leave no room for an event.

@@ -10,7 +10,7 @@ use ug_proto::Framer;
 use ug_types::Principal;
 
 /// For what a session is closed.
-#[derive(Clone, Copy, Debug, PartialEq, Eq)]
+#[derive(Clone, Copy)]
 pub enum Why {
     /// Its link said End, its lines are answered and its bytes are sent.
     Ended,
@@ -24,7 +24,7 @@ pub enum Why {
     Memory,
 }
 
-#[derive(Clone, Copy, Debug, PartialEq, Eq)]
+#[derive(Clone, Copy)]
 pub enum Life {
     Open,
     /// Closed; its link isn't yet, and it isn't counted.
@@ -67,7 +67,7 @@ pub struct Listener {
 
 /// How many sessions a call accepted, closed at once since too many were open, and closed for each reason. A count stands
 /// still at its greatest number. `failed` and `memory` also count the accepts that answered so.
-#[derive(Clone, Copy, Debug, PartialEq, Eq)]
+#[derive(Clone, Copy, PartialEq, Eq)]
 pub struct Turn {
     pub accepted: u32,
     pub busy: u32,

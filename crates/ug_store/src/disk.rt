@@ -19,7 +19,7 @@ pub enum Loaded {
 }
 
 /// The answer to a call on the new file.
-#[derive(Clone, Copy, Debug, PartialEq, Eq)]
+#[derive(Clone, Copy)]
 pub enum DiskAnswer {
     Done,
     /// It may have had its effect.

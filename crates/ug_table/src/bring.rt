@@ -80,7 +80,7 @@ fn set_value<Y: Sysfs>(
         name: *name,
         write,
     });
-    let outcome = put(sysfs, known.held, write);
+    let outcome = sysfs.write(known.held, write);
     out.push(Entry::Wrote {
         number,
         name: *name,

@@ -1,21 +1,23 @@
 // A device whose parent has a standing is bound by the parent's held file, and judged under the hash that is kept of it.
-ghost use Rattle.std.specs.Prelude.{◌≡◌, IfOk, IsSome, option_copied};
+ghost use Rattle.std.specs.Prelude.{◌≡◌, IfOk, Some, option_copied};
 ghost use Rattle.ug_types.specs.Names.{parent_of};
 ghost use Rattle.ug_kernel.specs.Tree.{Runs};
-ghost use Rattle.ug_table.specs.Parent.{parent_standing, binding_for, judged_beside, judged_bound, bound_hash};
+ghost use Rattle.ug_table.specs.Parent.{binding_by, bound_hash, judged_beside, parent_standing};
+ghost use Rattle.ug_table.specs.declared.standing.Standing.{Standing};
 
 use crate::kept::Standings;
 use crate::standing::Standing;
 use std::alloc::Global;
 use ug_kernel::Sysfs;
 use ug_node::{Binding, Bound, bind, bind_under};
-use ug_record::{child_hash, record_of, record_under};
-use ug_types::{Attrs, Judged, NoMemory, NodeName, Text};
+use ug_record::{parent_hash, record_and_hash};
+use ug_types::{Judged, NoMemory, NodeName, Text};
 
 /// The standing of a name's parent.
-fn parent_standing<'a>(standings: &'a Standings, name: &NodeName) -> Option<&'a Standing>
+pub fn parent_standing<'a>(standings: &'a Standings, name: &NodeName) -> Option<&'a Standing>
     ensures standing { option_copied result ≡ parent_standing name.now standings.now.items }
-    ensures parent { IsSome result → IsSome (parent_of name.now) }
+    ensures parent { (s : Standing) → option_copied result ≡ Some s
+        → parent_of name.now ≡ Some s.name }
 {
     match name.parent() {
         Some(parent) => standings.named(&parent),
@@ -26,50 +28,47 @@ fn parent_standing<'a>(standings: &'a Standings, name: &NodeName) -> Option<&'a 
 /// Binds a name: by the held file of its parent's standing, where that has one.
 pub fn bind_name<Y: Sysfs>(
     alloc: Global,
-    standings: &Standings,
     sysfs: &mut Y,
     name: &NodeName,
+    parent: Option<&Standing>,
 ) -> Binding
-    ensures { Runs Y.gives sysfs.old (binding_for name.now standings.now.items) result sysfs.new }
+    requires { (s : Standing) → option_copied parent ≡ Some s
+        → parent_of name.now ≡ Some s.name }
+    ensures { Runs Y.gives sysfs.old (binding_by name.now (option_copied parent.entry))
+        result sysfs.new }
 {
-    match parent_standing(standings, name) {
+    match parent {
         Some(parent) => bind_under(alloc, sysfs, name, parent.held),
         None => bind(alloc, sysfs, name),
     }
 }
 
-/// The record of a bound device, with the hash that its children will see.
+/// What is known of a bound device, and the hash that its children will see: under the hash that is kept of its parent, where
+/// none of the parent's files was read, and else under theirs.
+#[tactic(auto, unfolding(ug_record::specs::Records::judged_of))]
 pub fn facts_of(
     alloc: Global,
-    standings: &Standings,
     name: &NodeName,
     bound: &Bound,
-) -> Result<(Judged, Text), NoMemory>
-    ensures { IfOk result
-        (λ made. (made.0 ≡ judged_bound name.now standings.now.items bound.now)
-        × (made.1 ≡ bound_hash bound.now)) }
-{
-    let parent = parent_standing(standings, name);
-    let judged = record_beside(alloc, name, &bound.attrs, parent, bound.parent.as_ref())?;
-    let hash = child_hash(alloc, &bound.attrs, bound.core_long)?;
-    Ok((judged, hash))
-}
-
-// The record under the hash that is kept of the parent, where none of its files was read, and else under theirs.
-fn record_beside(
-    alloc: Global,
-    name: &NodeName,
-    attrs: &Attrs,
     parent: Option<&Standing>,
-    read: Option<&Attrs>,
-) -> Result<Judged, NoMemory>
-    ensures { IfOk result
-        (λ judged. judged
-        ≡ judged_beside name.now attrs.now (option_copied parent.entry)
-        (option_copied read.entry)) }
+) -> Result<(Judged, Text), NoMemory>
+    ensures judged { IfOk result (λ made. made.0
+        ≡ judged_beside name.now bound.now.attrs (option_copied parent.entry) bound.now.parent) }
+    ensures hash { IfOk result (λ made. made.1 ≡ bound_hash bound.now) }
 {
-    match (parent, read) {
-        (Some(above), None) => record_under(alloc, name, attrs, above.hash.bytes()),
-        _ => record_of(alloc, name, attrs, read),
+    match (parent, &bound.parent) {
+        (Some(above), None) => {
+            record_and_hash(
+                alloc,
+                name,
+                &bound.attrs,
+                bound.core_long,
+                above.hash.bytes(),
+            )
+        }
+        (_, read) => {
+            let hash = parent_hash(alloc, read.as_ref())?;
+            record_and_hash(alloc, name, &bound.attrs, bound.core_long, hash.bytes())
+        }
     }
 }

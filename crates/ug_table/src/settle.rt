@@ -1,8 +1,9 @@
 // The settling of one name.
-ghost use Rattle.std.specs.Prelude.{true, false, ◌≡◌, ◌≤◌, ◌<◌, ◌+◌, ◌++◌, ◌∷◌, [], ◌-◌, ◌^◌, length, is_none, IsSome, Some, None};
+ghost use Rattle.std.specs.Prelude.{true, false, IfOk, ◌≡◌, ◌≤◌, ◌<◌, ◌+◌, ◌++◌, ◌∷◌, [], ◌-◌, ◌^◌, length, is_none, IsSome, Some, None};
 ghost use Rattle.ug_types.specs.Names.{parent_of};
 ghost use Rattle.ug_kernel.specs.Tree.{Runs, Room};
 ghost use Rattle.ug_table.specs.Slots.{place_of};
+ghost use Rattle.ug_table.specs.Parent.{bound_hash, judged_bound};
 ghost use Rattle.ug_audit.specs.Journal.{Notes, noted_in};
 ghost use Rattle.ug_audit.specs.declared.entry.Entry.TheVariants.{Unsettled};
 ghost use Rattle.ug_table.specs.State.{state_of, kept_of, terms_of};
@@ -17,14 +18,14 @@ ghost use Rattle.ug_table.specs.Settle.{stopped_by, unsettled_by, stands, kept_s
 use crate::bring::{is_reject, treat};
 use crate::judge::Judge;
 use crate::kept::Standings;
-use crate::parent::{bind_name, facts_of};
+use crate::parent::{bind_name, facts_of, parent_standing};
 use crate::standing::{Known, Settled, Standing};
 use crate::table::{Table, known_of};
 use std::alloc::Global;
 use ug_audit::{Auditor, Entry, Fault, Journal};
 use ug_kernel::{Held, Probe, Sysfs, Write};
 use ug_node::{Binding, Bound, failed_call, reprobe};
-use ug_types::{Judged, NodeName, Text};
+use ug_types::{Judged, NoMemory, NodeName, Text};
 
 // Whether the name is a root hub's.
 fn is_controller(name: &NodeName) -> bool
@@ -208,12 +209,16 @@ impl Table {
         present: bool,
         judge: &mut A,
         bound: Bound,
+        facts: Result<(Judged, Text), NoMemory>,
         hub_default: Option<Write>,
         out: &mut Journal,
     ) -> Settled
         requires room { 9 ≤ (noted_in out.old).spare }
         requires next { self.old.next < 2 ^ 64 - 1 }
         requires absent { standing_of name.now self.old.standings ≡ None }
+        requires judged { IfOk facts
+            (λ facts. facts.0 ≡ judged_bound name.now self.old.standings bound) }
+        requires hash { IfOk facts (λ facts. facts.1 ≡ bound_hash bound) }
         ensures runs { Runs Y.gives sysfs.old
             (admitting A.answer A.later name.now (terms_of present hub_default)
             (state_of hub_default self.old (A.meaning judge.old) (noted_in out.old).entries) bound)
@@ -223,7 +228,7 @@ impl Table {
         ensures len { length self.new.standings ≤ length self.old.standings + 1 }
         ensures next { self.new.next ≤ self.old.next + 1 }
     {
-        let (judged, hash) = match facts_of(alloc, &self.standings, name, &bound) {
+        let (judged, hash) = match facts {
             Ok(facts) => facts,
             Err(_) => return self.lack_memory(sysfs, name, bound.held, judge, hub_default, out),
         };
@@ -265,17 +270,22 @@ impl Table {
         ensures len { length self.new.standings ≤ length self.old.standings + 1 }
         ensures next { self.new.next ≤ self.old.next + 1 }
     {
-        match bind_name(alloc, &self.standings, sysfs, name) {
-            Binding::Bound(bound) => self.admit(
-                alloc,
-                sysfs,
-                name,
-                present,
-                judge,
-                bound,
-                hub_default,
-                out,
-            ),
+        let parent = parent_standing(&self.standings, name);
+        match bind_name(alloc, sysfs, name, parent) {
+            Binding::Bound(bound) => {
+                let facts = facts_of(alloc, name, &bound, parent);
+                self.admit(
+                    alloc,
+                    sysfs,
+                    name,
+                    present,
+                    judge,
+                    bound,
+                    facts,
+                    hub_default,
+                    out,
+                )
+            }
             Binding::Absent => Settled::Nobody,
             Binding::Vanished => Settled::Nobody,
             Binding::Failed(failed) => note_fault(out, name, Fault::Call(failed)),

@@ -42,7 +42,7 @@ pub struct Known {
 }
 
 /// How the settling of a name ended.
-#[derive(Clone, Copy, Debug, PartialEq, Eq)]
+#[derive(Clone, Copy, PartialEq, Eq)]
 pub enum Settled {
     Stands,
     /// Nothing stands for the name.

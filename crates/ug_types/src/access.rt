@@ -3,7 +3,7 @@ ghost use Rattle.std.specs.Prelude.{◌≡◌, ◌≤◌, length};
 ghost use Rattle.ug_types.specs.Access.{section_word, privilege_word, section_of, privilege_of};
 
 /// What a privilege is about.
-#[derive(Clone, Copy, Debug, PartialEq, Eq)]
+#[derive(Clone, Copy)]
 pub enum Section {
     Devices,
     Policy,
@@ -12,7 +12,7 @@ pub enum Section {
 }
 
 /// What is allowed there.
-#[derive(Clone, Copy, Debug, PartialEq, Eq)]
+#[derive(Clone, Copy)]
 pub enum Privilege {
     Modify,
     List,

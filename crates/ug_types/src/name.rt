@@ -20,7 +20,7 @@ use std::marker::Model;
 
 /// The name of a device node: `usbN` for a root hub, `B-P`, `B-P.P` and so on for a device (sysfs-bus-usb).
 /// Bus numbers go from 1 to 999, port numbers from 1 to 255.
-#[derive(Clone, Copy, Debug)]
+#[derive(Clone, Copy)]
 pub struct NodeName {
     bytes: [u8; 31],
     len: u8,
@@ -43,7 +43,7 @@ impl Model for NodeName {
 }
 
 /// Why a text is no `NodeName`.
-#[derive(Clone, Copy, Debug, PartialEq, Eq)]
+#[derive(Clone, Copy)]
 pub enum NameFault {
     /// There are no bytes.
     Empty,

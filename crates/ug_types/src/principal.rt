@@ -11,7 +11,7 @@ use crate::line::Line;
 use std::marker::Model;
 
 /// A user or a group, by a name of 1 to 32 ASCII letters, digits, `_`, `-` and `.`.
-#[derive(Clone, Copy, Debug)]
+#[derive(Clone, Copy)]
 pub struct Principal {
     group: bool,
     bytes: [u8; 32],

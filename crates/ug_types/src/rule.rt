@@ -4,14 +4,14 @@ use crate::text::Text;
 use crate::verdict::Target;
 
 /// A vendor and a product, each of which may be any.
-#[derive(Clone, Copy, Debug, PartialEq, Eq)]
+#[derive(Clone, Copy)]
 pub struct Id {
     pub vendor: Option<u16>,
     pub product: Option<u16>,
 }
 
 /// An interface type, whose subclass and protocol may be any.
-#[derive(Clone, Copy, Debug, PartialEq, Eq)]
+#[derive(Clone, Copy)]
 pub struct Iface {
     pub class: u8,
     pub subclass: Option<u8>,
@@ -19,7 +19,7 @@ pub struct Iface {
 }
 
 /// How a set of values is compared.
-#[derive(Clone, Copy, Debug, PartialEq, Eq)]
+#[derive(Clone, Copy)]
 pub enum Op {
     AllOf,
     OneOf,
@@ -84,7 +84,7 @@ pub struct Rule {
 }
 
 /// Where a rule is put among others: usbguard(1), append-rule.
-#[derive(Clone, Copy, Debug, PartialEq, Eq)]
+#[derive(Clone, Copy)]
 pub enum After {
     End,
     Front,

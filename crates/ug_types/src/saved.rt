@@ -1,7 +1,7 @@
 // What became of a save.
 
 /// What became of a save of the rule file.
-#[derive(Clone, Copy, Debug, PartialEq, Eq)]
+#[derive(Clone, Copy, PartialEq, Eq)]
 pub enum Saved {
     Done,
     /// A call failed; the disk's count of faults after it.

@@ -6,7 +6,7 @@ use crate::no_memory::NoMemory;
 
 /// The first bad line of a text, counted from 1; what is wrong with it; and the byte where that stands, counted from 0 at
 /// the line's first.
-#[derive(Clone, Copy, Debug, PartialEq, Eq)]
+#[derive(Clone, Copy, PartialEq, Eq)]
 pub struct TextFault {
     pub line: u64,
     pub kind: u8,
@@ -14,7 +14,7 @@ pub struct TextFault {
 }
 
 /// Why a text wasn't read.
-#[derive(Clone, Copy, Debug, PartialEq, Eq)]
+#[derive(Clone, Copy, PartialEq, Eq)]
 pub enum FileFault {
     Bad(TextFault),
     Memory,
@@ -29,14 +29,14 @@ pub trait Numbered {
 }
 
 /// What is wrong with a line, and the number of bytes before it.
-#[derive(Clone, Copy, Debug, PartialEq, Eq)]
+#[derive(Clone, Copy, PartialEq, Eq)]
 pub struct Fault<K> {
     pub kind: K,
     pub place: u64,
 }
 
 /// Why a line wasn't read.
-#[derive(Clone, Copy, Debug, PartialEq, Eq)]
+#[derive(Clone, Copy)]
 pub enum LineFault<K> {
     Bad(Fault<K>),
     Memory,

@@ -2,11 +2,11 @@
 use crate::principal::Principal;
 
 /// Seconds since 1970, from 0 to 250,000,000,000.
-#[derive(Clone, Copy, Debug, PartialEq, Eq)]
+#[derive(Clone, Copy)]
 pub struct Moment(pub u64);
 
 /// What is done with a device: usbguard-rules.conf(5), target.
-#[derive(Clone, Copy, Debug, PartialEq, Eq)]
+#[derive(Clone, Copy)]
 pub enum Target {
     Allow,
     Block,
@@ -14,7 +14,7 @@ pub enum Target {
 }
 
 /// Why a verdict was given.
-#[derive(Clone, Copy, Debug, PartialEq, Eq)]
+#[derive(Clone, Copy)]
 pub enum Cause {
     /// The rule with that id was the first that matched.
     Rule(u64),

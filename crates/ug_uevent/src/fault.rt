@@ -6,7 +6,7 @@ ghost use Rattle.ug_types.specs.TextFaults.{fault_of_kind};
 use ug_types::{Fault, Numbered};
 
 /// What is wrong with a message.
-#[derive(Clone, Copy, Debug, PartialEq, Eq)]
+#[derive(Clone, Copy)]
 pub enum UeventKind {
     /// The first string has no `@`, or begins with it, or is missing.
     NoHeader,

@@ -7,7 +7,7 @@ use crate::fault::UeventKind;
 use ug_numerals::parse_decimal;
 
 /// A key whose value is read. Each is set once at most.
-#[derive(Clone, Copy, Debug, PartialEq, Eq)]
+#[derive(Clone, Copy)]
 pub enum Field {
     /// `ACTION`.
     Action,
@@ -20,7 +20,7 @@ pub enum Field {
 }
 
 /// What the strings so far have set.
-#[derive(Clone, Copy, Debug, PartialEq, Eq)]
+#[derive(Clone, Copy)]
 pub struct Found {
     pub action: bool,
     pub path: bool,

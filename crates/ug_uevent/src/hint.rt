@@ -2,7 +2,7 @@
 use ug_types::NodeName;
 
 /// What happened to a device.
-#[derive(Clone, Copy, Debug, PartialEq, Eq)]
+#[derive(Clone, Copy)]
 pub enum Action {
     /// `add`.
     Add,
@@ -15,7 +15,7 @@ pub enum Action {
 }
 
 /// What a message says.
-#[derive(Clone, Copy, Debug, PartialEq, Eq)]
+#[derive(Clone, Copy)]
 pub struct Hint {
     pub action: Action,
     /// The last part of the device's path, where the subsystem is `usb` and that part is a name of

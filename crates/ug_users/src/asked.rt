@@ -7,7 +7,7 @@ use crate::lists::{Listed, is_privilege};
 use ug_types::{Privilege, Section};
 
 /// Privileges that are asked for, by their sections. What a section doesn't have isn't asked for.
-#[derive(Clone, Copy, Debug)]
+#[derive(Clone, Copy)]
 pub struct Asked {
     pub devices: Listed,
     pub policy: Listed,

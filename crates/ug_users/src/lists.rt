@@ -12,7 +12,7 @@ use ug_lines::{without_end, without_front};
 use ug_types::{Privilege, Section};
 
 /// The privileges that a list names.
-#[derive(Clone, Copy, Debug)]
+#[derive(Clone, Copy)]
 pub struct Listed {
     pub modify: bool,
     pub list: bool,
