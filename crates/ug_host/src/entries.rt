@@ -4,12 +4,12 @@ ghost use Rattle.std.specs.List.{list_any};
 ghost use Rattle.ug_conf.specs.Files.{FitsFolder, pointwise};
 ghost use Rattle.ug_host.specs.Names.{AreFewNames, AreNamesIfThere};
 
-use crate::file::{FileFault, plain};
 use std::alloc::Global;
 use std::fs::{self, DirEntry, ReadDir};
 use std::io;
 use std::rt::Files;
 use ug_conf::FolderRead;
+use ug_files::{FileFault, plain};
 use ug_types::{List, Text};
 
 /// The most names that are listed.

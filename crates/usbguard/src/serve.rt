@@ -7,10 +7,11 @@ use std::rc::Rc;
 use std::{env, io, mem};
 use ug_audit::{Auditor, Panel};
 use ug_host::{
-    ConfFolder, JournalOutput, LocalZone, RefusalReader, RuleFile, SocketFolder, SocketWaiter,
-    StartRefusal, SysfsFolder, SystemClock, WriterAuditor, read_seed,
+    ConfFolder, JournalOutput, LocalZone, RefusalReader, RuleFile, StartRefusal, SysfsFolder,
+    SystemClock, WriterAuditor, read_seed,
 };
 use ug_serve::run_daemon;
+use ug_sockets::{SocketFolder, SocketWaiter};
 
 /// Where the devices are, what counts the kernel's announcements, and where the sockets come.
 const DEVICES: &str = "/sys/bus/usb/devices";
