@@ -3,9 +3,9 @@
 
     checks/failing_calls.py [--program PATH] [--only WORD] [--quick]
 
-The calls are those of ug_host: on settings, access files, rules, sockets, devices, and the rule file that an order has saved. A library of
-failing_calls.c, which this builds with cc(1), is preloaded and makes the one call fail; the machine is that of checks/edge.py. What has to
-hold behind each failure:
+The calls are those of ug_files, ug_sockets and ug_host: on settings, access files, rules, sockets, devices, and the rule file that an order
+has saved. A library of failing_calls.c, which this builds with cc(1), is preloaded and makes the one call fail; the machine is that of
+checks/edge.py. What has to hold behind each failure:
 
 - the daemon runs, and blocks a device that comes, within five seconds; or it ended with status 4, 9 or 11 before its first event, or
   with 11 behind it, and the service starts it again. Before its first event it may end with 6 too where the error is want of memory, and

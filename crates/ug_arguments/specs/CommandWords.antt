@@ -4,6 +4,15 @@ use Rattle.ug_types.specs.declared.verdict.Target.TheVariants.{Allow, Block, Rej
 use Rattle.ug_arguments.specs.declared.command_word.CommandWord.{CommandWord}
 use Rattle.ug_arguments.specs.declared.command_word.CommandWord.TheVariants as command
 
+-- the words about rules, and `watch`
+unfoldable pub rule_word_in : List ℕ → Option CommandWord
+rule_word_in text =
+    if bytes_eq text (codes "list-rules") then Some command.ListRules else
+    if bytes_eq text (codes "append-rule") then Some command.AppendRule else
+    if bytes_eq text (codes "remove-rule") then Some command.RemoveRule else
+    if bytes_eq text (codes "watch") then Some command.Watch else None
+
+-- the words that ask the daemon
 unfoldable pub asking_word_in : List ℕ → Option CommandWord
 asking_word_in text =
     if bytes_eq text (codes "get-parameter") then Some command.GetParameter else
@@ -12,10 +21,7 @@ asking_word_in text =
     if bytes_eq text (codes "allow-device") then Some (command.Device Allow) else
     if bytes_eq text (codes "block-device") then Some (command.Device Block) else
     if bytes_eq text (codes "reject-device") then Some (command.Device Reject) else
-    if bytes_eq text (codes "list-rules") then Some command.ListRules else
-    if bytes_eq text (codes "append-rule") then Some command.AppendRule else
-    if bytes_eq text (codes "remove-rule") then Some command.RemoveRule else
-    if bytes_eq text (codes "watch") then Some command.Watch else None
+    rule_word_in text
 
 -- the command that a word chooses
 unfoldable pub word_in : List ℕ → Option CommandWord

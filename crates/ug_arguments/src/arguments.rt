@@ -13,9 +13,13 @@ fn read_by(alloc: Global, word: CommandWord, words: &[&str]) -> Result<Command, 
     ensures ok { IfOk result (λ c. command_by word (map (λ w. w.now) words.now) ≡ Some c) }
     ensures err { IfErr result (NotRead (command_by word (map (λ w. w.now) words.now))) }
 {
-    let command = simple_command(alloc, word)?;
-    let matches = find_values(command, words)?;
-    meaning(alloc, word, &matches)
+    match simple_command(alloc, word) {
+        Ok(command) => match find_values(command, words) {
+            Ok(matches) => meaning(alloc, word, &matches),
+            Err(fault) => Err(fault),
+        },
+        Err(_) => Err(WordsFault::Memory),
+    }
 }
 
 /// The command that the words of a command line are, without the program's name: the first chooses the command, and behind

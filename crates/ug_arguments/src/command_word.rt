@@ -1,6 +1,6 @@
 // The words that choose a command.
 ghost use Rattle.std.specs.Prelude.{◌≡◌};
-ghost use Rattle.ug_arguments.specs.CommandWords.{asking_word_in, word_in};
+ghost use Rattle.ug_arguments.specs.CommandWords.{asking_word_in, rule_word_in, word_in};
 
 use ug_types::Target;
 
@@ -23,6 +23,26 @@ pub enum CommandWord {
     AppendRule,
     RemoveRule,
     Watch,
+}
+
+// The words of the commands about rules, and `watch`.
+#[tactic(auto, unfolding(crate::specs::CommandWords::rule_word_in))]
+fn rule_word(text: &str) -> Option<CommandWord>
+    ensures { result ≡ rule_word_in text.now }
+{
+    if text == "list-rules" {
+        return Some(CommandWord::ListRules);
+    }
+    if text == "append-rule" {
+        return Some(CommandWord::AppendRule);
+    }
+    if text == "remove-rule" {
+        return Some(CommandWord::RemoveRule);
+    }
+    if text == "watch" {
+        return Some(CommandWord::Watch);
+    }
+    None
 }
 
 // The words of the commands that ask the daemon.
@@ -48,19 +68,7 @@ fn asking_word(text: &str) -> Option<CommandWord>
     if text == "reject-device" {
         return Some(CommandWord::Device(Target::Reject));
     }
-    if text == "list-rules" {
-        return Some(CommandWord::ListRules);
-    }
-    if text == "append-rule" {
-        return Some(CommandWord::AppendRule);
-    }
-    if text == "remove-rule" {
-        return Some(CommandWord::RemoveRule);
-    }
-    if text == "watch" {
-        return Some(CommandWord::Watch);
-    }
-    None
+    rule_word(text)
 }
 
 #[tactic(auto, unfolding(crate::specs::CommandWords::word_in))]

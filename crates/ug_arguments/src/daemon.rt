@@ -27,7 +27,11 @@ pub fn read_daemon_words(alloc: Global, words: &[&str]) -> Result<Text, WordsFau
     ensures err { IfErr result (NotRead (settings_path (map (λ w. w.now) words.now))) }
 {
     let all = behind_daemon(alloc, words)?;
-    let command = daemon_command(alloc)?;
-    let matches = find_values(command, all.as_slice())?;
-    settings(alloc, &matches)
+    match daemon_command(alloc) {
+        Ok(command) => match find_values(command, all.as_slice()) {
+            Ok(matches) => settings(alloc, &matches),
+            Err(fault) => Err(fault),
+        },
+        Err(_) => Err(WordsFault::Memory),
+    }
 }

@@ -1,13 +1,13 @@
 // The simple command of each first word.
 ghost use Rattle.std.specs.Prelude.{◌≡◌, IfOk, false};
-ghost use Rattle.clap.specs.Words.{app_of, new_app, rule_of, with_rule};
+ghost use Rattle.clap.specs.Words.{App, Rule, app_of, new_app, rule_of, with_rule};
 ghost use Rattle.ug_arguments.specs.SimpleCommands as simple;
 ghost use Rattle.ug_arguments.specs.SimpleCommands.{add_user_app, append_rule_app, app_of_word, asking_app, daemon_app, device_app, lint_rules_app, make_script_app, replay_app};
 
 use crate::command_word::CommandWord;
 use clap::{Arg, ArgAction, Command};
-use std::alloc::Global;
-use ug_types::{NoMemory, Target};
+use std::alloc::{AllocError, Global};
+use ug_types::Target;
 
 fn required<'a>(alloc: Global, id: &'a str) -> Arg<'a>
     ensures rule { rule_of result ≡ simple.required_word id.entry.now }
@@ -44,112 +44,124 @@ fn long_flag<'a>(alloc: Global, id: &'a str) -> Arg<'a>
     Arg::new(alloc, id).long(id).action(ArgAction::SetTrue)
 }
 
-fn with<'a>(command: Command<'a>, arg: Arg<'a>) -> Result<Command<'a>, NoMemory>
-    requires { arg.global ≡ false }
-    ensures { IfOk result (λ c. app_of c ≡ with_rule (app_of command.entry) (rule_of arg.entry)) }
+// A command that takes no words.
+fn bare<'a>(alloc: Global, name: &'a str) -> Result<Command<'a>, AllocError>
+    ensures { IfOk result (λ c. app_of c ≡ new_app name.entry.now) }
 {
-    Ok(command.arg(arg)?)
+    Ok(Command::new(alloc, name))
 }
 
-fn replay<'a>(alloc: Global) -> Result<Command<'a>, NoMemory>
+// The command with one argument more, where the command was made.
+fn with<'a>(
+    command: Result<Command<'a>, AllocError>,
+    arg: Arg<'a>,
+) -> Result<Command<'a>, AllocError>
+    requires { arg.global ≡ false }
+    ensures { (app : App) (rule : Rule) → IfOk command.entry (λ c. app_of c ≡ app)
+        → rule_of arg.entry ≡ rule → IfOk result (λ c. app_of c ≡ with_rule app rule) }
+{
+    match command {
+        Ok(command) => command.arg(arg),
+        Err(fault) => Err(fault),
+    }
+}
+
+fn replay<'a>(alloc: Global) -> Result<Command<'a>, AllocError>
     ensures { IfOk result (λ c. app_of c ≡ replay_app) }
 {
-    with(Command::new(alloc, "replay"), long_flag(alloc, "summary"))
+    with(bare(alloc, "replay"), long_flag(alloc, "summary"))
 }
 
-fn make_script<'a>(alloc: Global) -> Result<Command<'a>, NoMemory>
+fn make_script<'a>(alloc: Global) -> Result<Command<'a>, AllocError>
     ensures { IfOk result (λ c. app_of c ≡ make_script_app) }
 {
-    let command = with(
-        Command::new(alloc, "make-script"),
-        required(alloc, "events"),
-    )?;
+    let command = with(bare(alloc, "make-script"), required(alloc, "events"));
     with(command, required(alloc, "start"))
 }
 
-fn lint_rules<'a>(alloc: Global) -> Result<Command<'a>, NoMemory>
+fn lint_rules<'a>(alloc: Global) -> Result<Command<'a>, AllocError>
     ensures { IfOk result (λ c. app_of c ≡ lint_rules_app) }
 {
-    with(Command::new(alloc, "lint-rules"), long_flag(alloc, "prune"))
+    with(bare(alloc, "lint-rules"), long_flag(alloc, "prune"))
 }
 
-fn add_user<'a>(alloc: Global) -> Result<Command<'a>, NoMemory>
+fn add_user<'a>(alloc: Global) -> Result<Command<'a>, AllocError>
     ensures { IfOk result (λ c. app_of c ≡ add_user_app) }
 {
-    let command = Command::new(alloc, "add-user");
-    let command = with(command, required(alloc, "name"))?;
-    let command = with(command, long_option(alloc, "devices"))?;
-    let command = with(command, long_option(alloc, "policy"))?;
-    let command = with(command, long_option(alloc, "exceptions"))?;
+    let command = bare(alloc, "add-user");
+    let command = with(command, required(alloc, "name"));
+    let command = with(command, long_option(alloc, "devices"));
+    let command = with(command, long_option(alloc, "policy"));
+    let command = with(command, long_option(alloc, "exceptions"));
     with(command, long_option(alloc, "parameters"))
 }
 
 /// A command that asks the daemon.
-fn asking<'a>(alloc: Global, name: &'a str) -> Result<Command<'a>, NoMemory>
+fn asking<'a>(alloc: Global, name: &'a str) -> Result<Command<'a>, AllocError>
     ensures { IfOk result (λ c. app_of c ≡ asking_app name.entry.now) }
 {
-    with(Command::new(alloc, name), long_option(alloc, "socket"))
+    with(bare(alloc, name), long_option(alloc, "socket"))
 }
 
-fn get_parameter<'a>(alloc: Global) -> Result<Command<'a>, NoMemory>
+fn get_parameter<'a>(alloc: Global) -> Result<Command<'a>, AllocError>
     ensures { IfOk result (λ c. app_of c ≡ simple.get_parameter_app) }
 {
-    with(asking(alloc, "get-parameter")?, required(alloc, "name"))
+    with(asking(alloc, "get-parameter"), required(alloc, "name"))
 }
 
-fn set_parameter<'a>(alloc: Global) -> Result<Command<'a>, NoMemory>
+fn set_parameter<'a>(alloc: Global) -> Result<Command<'a>, AllocError>
     ensures { IfOk result (λ c. app_of c ≡ simple.set_parameter_app) }
 {
-    let command = with(asking(alloc, "set-parameter")?, required(alloc, "name"))?;
+    let command = with(asking(alloc, "set-parameter"), required(alloc, "name"));
     with(command, required(alloc, "value"))
 }
 
-fn device<'a>(alloc: Global, name: &'a str) -> Result<Command<'a>, NoMemory>
+fn device<'a>(alloc: Global, name: &'a str) -> Result<Command<'a>, AllocError>
     ensures { IfOk result (λ c. app_of c ≡ device_app name.entry.now) }
 {
-    let command = with(asking(alloc, name)?, required(alloc, "number"))?;
+    let command = with(asking(alloc, name), required(alloc, "number"));
     with(command, flag(alloc, "permanent", 'p'))
 }
 
-fn append_rule<'a>(alloc: Global) -> Result<Command<'a>, NoMemory>
+fn append_rule<'a>(alloc: Global) -> Result<Command<'a>, AllocError>
     ensures { IfOk result (λ c. app_of c ≡ append_rule_app) }
 {
-    let command = with(asking(alloc, "append-rule")?, required(alloc, "rule"))?;
-    let command = with(command, short_option(alloc, "after", 'a'))?;
+    let command = with(asking(alloc, "append-rule"), required(alloc, "rule"));
+    let command = with(command, short_option(alloc, "after", 'a'));
     with(command, flag(alloc, "temporary", 't'))
 }
 
-fn remove_rule<'a>(alloc: Global) -> Result<Command<'a>, NoMemory>
+fn remove_rule<'a>(alloc: Global) -> Result<Command<'a>, AllocError>
     ensures { IfOk result (λ c. app_of c ≡ simple.remove_rule_app) }
 {
-    with(asking(alloc, "remove-rule")?, required(alloc, "id"))
+    with(asking(alloc, "remove-rule"), required(alloc, "id"))
 }
 
-fn watch<'a>(alloc: Global) -> Result<Command<'a>, NoMemory>
+fn watch<'a>(alloc: Global) -> Result<Command<'a>, AllocError>
     ensures { IfOk result (λ c. app_of c ≡ simple.watch_app) }
 {
-    with(asking(alloc, "watch")?, short_option(alloc, "most", 'n'))
+    with(asking(alloc, "watch"), short_option(alloc, "most", 'n'))
 }
 
 /// The command `daemon`, for the words behind it.
-pub fn daemon_command<'a>(alloc: Global) -> Result<Command<'a>, NoMemory>
+pub fn daemon_command<'a>(alloc: Global) -> Result<Command<'a>, AllocError>
     ensures { IfOk result (λ c. app_of c ≡ daemon_app) }
 {
-    with(Command::new(alloc, "daemon"), long_option(alloc, "conf"))
+    with(bare(alloc, "daemon"), long_option(alloc, "conf"))
 }
 
 /// The command of a word, for the words behind it.
 #[tactic(auto, unfolding(crate::specs::SimpleCommands::app_of_word))]
-pub fn simple_command<'a>(alloc: Global, word: CommandWord) -> Result<Command<'a>, NoMemory>
+pub fn simple_command<'a>(alloc: Global, word: CommandWord) -> Result<Command<'a>, AllocError>
     ensures { IfOk result (λ c. app_of c ≡ app_of_word word) }
 {
     match word {
         CommandWord::Replay => replay(alloc),
         CommandWord::MakeScript => make_script(alloc),
-        CommandWord::ReadDescriptor => Ok(Command::new(alloc, "read-descriptor")),
-        CommandWord::CheckRules => Ok(Command::new(alloc, "check-rules")),
+        CommandWord::ReadDescriptor => bare(alloc, "read-descriptor"),
+        CommandWord::CheckRules => bare(alloc, "check-rules"),
         CommandWord::LintRules => lint_rules(alloc),
-        CommandWord::GeneratePolicy => Ok(Command::new(alloc, "generate-policy")),
+        CommandWord::GeneratePolicy => bare(alloc, "generate-policy"),
         CommandWord::AddUser => add_user(alloc),
         CommandWord::GetParameter => get_parameter(alloc),
         CommandWord::SetParameter => set_parameter(alloc),

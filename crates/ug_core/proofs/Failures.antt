@@ -15,7 +15,7 @@ use Rattle.ug_table.proofs.Once.{names_more}
 use Rattle.ug_core.specs.Event.{DaemonState}
 use Rattle.ug_core.specs.Policy.{Judging}
 use Rattle.ug_core.specs.Laws.{GoesAsAnswer, PartsOfDue, TellsSweep, TellsEvent}
-use Rattle.ug_core.specs.declared.daemon.Event.{Event}
+use Rattle.ug_types.specs.declared.event.Event.{Event}
 use Rattle.ug_core.specs.declared.storing.Stored.{Stored}
 
 along_then : {S : Type 0} (gives : S → (call : Call) → Answer call → S → Type 0) (ms ns : List Made) (s u t : S) → Along gives s ms u → Along gives u ns t → Along gives s (ms ++ ns) t

@@ -30,8 +30,8 @@ use Rattle.ug_proto.specs.declared.reply.Reply.TheVariants as reply
 use Rattle.ug_proto.specs.declared.request.Request.{Request}
 use Rattle.ug_core.specs.Event.{DaemonState, if_text, if_pending, trying, ready}
 use Rattle.ug_core.specs.Laws.{TellsSweep, AnswersAtOnce, IsInForce, No_record, No_room, Outcome, RefusesBehind, RunsAnswer, StoreRefuses, TellsEvent, Unstored, Without_memory, change_of, if_watching}
-use Rattle.ug_core.specs.declared.daemon.Event.{Event}
-use Rattle.ug_core.specs.declared.daemon.Event.TheVariants.{Sweep, Order, Hint}
+use Rattle.ug_types.specs.declared.event.Event.{Event}
+use Rattle.ug_types.specs.declared.event.Event.TheVariants.{Sweep, Order, Hint}
 use Rattle.ug_core.specs.Durable.{IsKept, KeepsFile, if_written, unsure_behind, unsure_with, as_list, text_of_change, text_of_request, texts_of}
 use Rattle.ug_core.specs.Chain.{Happened, StaysOnDisk, Chain, IsKeptThroughout, unsure_past}
 use Rattle.ug_core.proofs.Plain.{SameRules}

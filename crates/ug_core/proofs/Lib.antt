@@ -31,3 +31,4 @@ pub mod Written
 pub mod Stopped
 pub mod Tried
 pub mod ValueLines
+pub mod Told

@@ -35,8 +35,8 @@ use Rattle.ug_core.specs.declared.changes.Change.{Change}
 use Rattle.ug_core.specs.declared.changes.Change.TheVariants.{Rules, Set}
 use Rattle.ug_core.specs.Policy.{Judging, policy_answer, policy_later}
 use Rattle.ug_core.specs.Event.{DaemonState, first_entry, moment_of, saved_entries}
-use Rattle.ug_core.specs.declared.daemon.Event.{Event}
-use Rattle.ug_core.specs.declared.daemon.Event.TheVariants.{Sweep, Order, Hint as Hinted}
+use Rattle.ug_types.specs.declared.event.Event.{Event}
+use Rattle.ug_types.specs.declared.event.Event.TheVariants.{Sweep, Order, Hint as Hinted}
 use Rattle.ug_uevent.specs.declared.hint.Hint.{Hint}
 use Rattle.ug_uevent.specs.Faults.{SaidFault}
 use Rattle.ug_core.specs.Hinting.{MeetsPiece, names_due, refusals}

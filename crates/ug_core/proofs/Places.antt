@@ -1,5 +1,5 @@
 -- Rules that are there, and the place of one more.
-use Rattle.std.proofs.Common.{◌≡◌, ℕ, ◌<◌, nat_lt, Bool, true, false, ◌||◌, cond, List, [], ◌∷◌, length, Option, Some, None, inl, inr, refl, arith, sym, subst}
+use Rattle.std.proofs.Common.{◌≡◌, ℕ, ◌<◌, nat_lt, Bool, true, false, ◌||◌, cond, List, [], ◌∷◌, length, Option, Some, None, ◌⊎◌, inl, inr, refl, arith, sym, ap, subst, ◌∙◌}
 use Rattle.std.proofs.lemmas.Bool.{eqb-true}
 use Rattle.ug_types.specs.Elements.{Has}
 use Rattle.ug_refusal.specs.declared.refusal.Refusal.{Refusal}
@@ -17,7 +17,15 @@ use Rattle.ug_ruleset.specs.RuleEdits.{CanEdit, if_room_for}
 use Rattle.ug_ruleset.specs.RulePlaces.{made_rule}
 use Rattle.ug_ruleset.specs.declared.edit.Edit.{Edit}
 use Rattle.ug_ruleset.proofs.MadeRules.{made_there}
-use Rattle.ug_core.specs.Changes.{edit_for, ordered_mark, verdict_edit}
+use Rattle.ug_core.specs.Answering.{by_edit, by_rule, changing, refusing, unless}
+use Rattle.ug_core.specs.Changes.{change_lines, edit_for, ordered_mark, verdict_edit}
+use Rattle.ug_core.specs.declared.changes.Change.TheVariants as change
+use Rattle.ug_core.specs.declared.choosing.Choice.{Choice}
+use Rattle.ug_core.specs.declared.choosing.Deed.TheVariants as deed
+use Rattle.ug_policy.specs.declared.entry.Mark.{Mark}
+use Rattle.ug_ruleset.specs.declared.edit.Edit.TheVariants.{Insert}
+use Rattle.ug_types.specs.declared.rule.Rule.{Rule}
+use Rattle.std.specs.Prelude.{decimal, Ok}
 
 pub rule_there : (id : ℕ) (es : List RuleEntry) → has_rule id es ≡ true → Has (ids es) id
 rule_there id [] h = let none : ⊥ = cc in absurd none
@@ -82,3 +90,23 @@ edit_by device verdict p None made room = (tt, few_below (length p.rules) (few_b
 pub edit_can : (device : DeviceRecord) (verdict : Target) (p : Judging) (edit : Edit) → edit ≡ verdict_edit device verdict p → if_room_for edit p.rules ≡ None → CanEdit edit p.rules
 edit_can device verdict p edit is room =
     subst (λ (e : Edit). CanEdit e p.rules) (sym is) (edit_by device verdict p (made_rule device p.classes.with_port p.rules) refl (subst (λ (e : Edit). if_room_for e p.rules ≡ None) is room))
+
+-- what is chosen where nothing refuses it, and where it is refused
+
+taken : (o : Option Refusal) (chosen : Choice) → o ≡ None → chosen ≡ unless o chosen
+taken o chosen free = ap (λ (p : Option Refusal). unless p chosen) (sym free)
+
+pub refused_so : (o : Option Refusal) (chosen : Choice) (refused : Refusal) → (o ≡ Some refused) ⊎ (refused ≡ refusal.Memory false) → (refusing refused ≡ unless o chosen) ⊎ (refusing refused ≡ refusing (refusal.Memory false))
+refused_so o chosen refused (inl is) = inl (ap (λ (p : Option Refusal). unless p chosen) (sym is))
+refused_so o chosen refused (inr short) = inr (ap (λ (q : Refusal). refusing q) short)
+
+pub edit_taken : (p : Judging) (number : ℕ) (verdict : Target) (on : Bool) (edit : Edit) (lines : List (List ℕ)) → if_room_for edit p.rules ≡ None → lines ≡ change_lines (change.Rules edit) p.next → changing (change.Rules edit) (deed.SetVerdict number verdict on lines) ≡ by_edit p number verdict on edit
+edit_taken p number verdict on edit lines room is =
+    ap (λ (ls : List (List ℕ)). changing (change.Rules edit) (deed.SetVerdict number verdict on ls)) is
+    ∙ taken (if_room_for edit p.rules) (changing (change.Rules edit) (deed.SetVerdict number verdict on (change_lines (change.Rules edit) p.next))) room
+
+pub rule_taken : (p : Judging) (place : After) (permanent : Bool) (rule : Rule) (m : Mark) (lines : List (List ℕ)) → m ≡ ordered_mark permanent → if_taken place p.rules ≡ None → lines ≡ decimal p.next ∷ [] → changing (change.Rules (Insert place rule m)) (deed.Tell lines) ≡ by_rule p place permanent (Ok rule)
+rule_taken p place permanent rule m lines marked room is =
+    ap (λ (k : Mark). changing (change.Rules (Insert place rule k)) (deed.Tell lines)) marked
+    ∙ ap (λ (ls : List (List ℕ)). changing (change.Rules (Insert place rule (ordered_mark permanent))) (deed.Tell ls)) is
+    ∙ taken (if_taken place p.rules) (changing (change.Rules (Insert place rule (ordered_mark permanent))) (deed.Tell (decimal p.next ∷ []))) room

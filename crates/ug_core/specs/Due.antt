@@ -7,7 +7,7 @@ use Rattle.ug_table.specs.State.{State}
 use Rattle.ug_table.specs.Laws.{AreInOrder, Stand}
 use Rattle.ug_table.specs.Parts.{failures_told}
 use Rattle.ug_core.specs.Policy.{Judging}
-use Rattle.ug_core.specs.Hinting.{longest_piece}
+use Rattle.ug_types.specs.Events.{longest_piece}
 use Rattle.ug_core.specs.Laws.{GoesAsDue, SettlesDue}
 
 abbrev pub AreDueInOrder : Option (List (List ℕ)) → Type 0

@@ -23,8 +23,8 @@ use Rattle.ug_uevent.specs.Streams.{Stream, nothing_begun}
 use Rattle.ug_core.specs.Policy.{Judging, judging_of, context_at, policy_answer, policy_later}
 use Rattle.ug_ruleset.specs.RuleFile.{permanent_text}
 use Rattle.ug_core.specs.declared.daemon.Daemon.{Daemon}
-use Rattle.ug_core.specs.declared.daemon.Event.{Event}
-use Rattle.ug_core.specs.declared.daemon.Event.TheVariants.{Sweep, Order, Hint}
+use Rattle.ug_types.specs.declared.event.Event.{Event}
+use Rattle.ug_types.specs.declared.event.Event.TheVariants.{Sweep, Order, Hint}
 
 -- the standings and the judge, with the entries of the last event but for the `dropped` ones; who
 -- may do what; whether a save is pending; what is kept of the stream of recorded uevents; within an

@@ -11,17 +11,6 @@ use Rattle.ug_audit.specs.declared.entry.Entry.TheVariants as entry
 use Rattle.ug_audit.specs.declared.entry.Fault.TheVariants as fault
 use Rattle.ug_table.specs.Laws.{AreInOrder}
 use Rattle.ug_core.specs.Event.{DaemonState, noting}
-use Rattle.ug_core.specs.declared.daemon.Event.{Event}
-use Rattle.ug_core.specs.declared.daemon.Event.TheVariants.{Sweep, Order, Hint as Hinted}
-
--- a piece has at most so many bytes
-abbrev pub longest_piece : ℕ
-longest_piece = 1048576
-
-abbrev pub FitsEvent : Event → Type 0
-FitsEvent (Sweep moment) = Unit {0}
-FitsEvent (Order moment who line) = Unit {0}
-FitsEvent (Hinted moment piece) = length piece ≤ longest_piece
 
 -- a message that is refused has an entry
 

@@ -68,8 +68,8 @@ use Rattle.ug_core.specs.declared.changes.Change.TheVariants.{Rules}
 use Rattle.ug_core.specs.declared.choosing.Choice.{Choice}
 use Rattle.ug_core.specs.declared.storing.Stored.{Stored}
 use Rattle.ug_core.specs.declared.storing.Stored.TheVariants as stored
-use Rattle.ug_core.specs.declared.daemon.Event.{Event}
-use Rattle.ug_core.specs.declared.daemon.Event.TheVariants.{Sweep, Order, Hint}
+use Rattle.ug_types.specs.declared.event.Event.{Event}
+use Rattle.ug_types.specs.declared.event.Event.TheVariants.{Sweep, Order, Hint}
 
 -- ---- the last stage of an event, from the state that the stage before it left
 

@@ -1,6 +1,6 @@
 -- What an event is whose texts are lent.
-use Rattle.ug_core.specs.declared.daemon.Event.{Event}
-use Rattle.ug_core.specs.declared.daemon.Event.TheVariants.{Sweep, Order, Hint}
+use Rattle.ug_types.specs.declared.event.Event.{Event}
+use Rattle.ug_types.specs.declared.event.Event.TheVariants.{Sweep, Order, Hint}
 use Rattle.ug_core.specs.declared.lent.LentEvent.{LentEvent}
 use Rattle.ug_core.specs.declared.lent.LentEvent.TheVariants as lent
 

@@ -5,7 +5,7 @@ use Rattle.ug_types.specs.declared.saved.Saved.TheVariants as saved
 use Rattle.ug_audit.specs.declared.entry.Entry.{Entry}
 use Rattle.ug_audit.specs.declared.entry.Entry.TheVariants as entry
 use Rattle.ug_core.specs.Event.{DaemonState, first_entry}
-use Rattle.ug_core.specs.declared.daemon.Event.{Event}
+use Rattle.ug_types.specs.declared.event.Event.{Event}
 use Rattle.ug_core.specs.declared.storing.Stored.{Stored}
 use Rattle.ug_core.specs.declared.storing.Stored.TheVariants as stored
 

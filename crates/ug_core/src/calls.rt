@@ -5,14 +5,14 @@ ghost use Rattle.ug_audit.specs.Noting.{NotesEntries, tells_drop, without_drops}
 ghost use Rattle.ug_store.specs.Store.{RunsDisk, pending_after};
 ghost use Rattle.ug_core.specs.Answering.{HasWholeLines};
 ghost use Rattle.ug_core.specs.Event.{begun, daemon_of, has_numbers, is_low, noting, NotesAtMost, saving_rules, tried_with, trying};
-ghost use Rattle.ug_core.specs.Hinting.{FitsEvent, longest_piece};
+ghost use Rattle.ug_types.specs.Events.{FitsEvent, longest_piece};
 ghost use Rattle.ug_core.specs.Lent.{event_lent};
 ghost use Rattle.ug_core.specs.Laws.{HandlesEvent, PassesEvent, TellsTried};
-ghost use Rattle.ug_core.specs.declared.daemon.Event.TheVariants.{Hint};
+ghost use Rattle.ug_types.specs.declared.event.Event.TheVariants.{Hint};
 
 use crate::between::Between;
-use crate::daemon::{Daemon, Event};
-use crate::lent::LentEvent;
+use crate::daemon::Daemon;
+use crate::lent::{LentEvent, lend};
 use crate::report::Report;
 use rand_core::Rng;
 use std::alloc::Global;
@@ -20,7 +20,7 @@ use ug_acl::Acl;
 use ug_audit::{Auditor, Entry, Journal, Panel};
 use ug_kernel::Sysfs;
 use ug_store::{RuleDisk, Saved};
-use ug_types::Moment;
+use ug_types::{Event, Moment};
 
 const LOW: u64 = u64::MAX - 4194304;
 
@@ -91,7 +91,7 @@ impl<'z, R: Rng> Daemon<'z, R> {
         ensures alone { live_in panel.old ≡ 0
             → without_drops self.new.report.entries.entries ≡ self.new.report.entries.entries }
     {
-        self.handle_lent(alloc, &event.lend(), sysfs, disk, panel);
+        self.handle_lent(alloc, &lend(event), sysfs, disk, panel);
     }
 
     /// The same for an event with a piece of recorded uevents, which is lent.
@@ -181,7 +181,7 @@ impl<'z, R: Rng> Daemon<'z, R> {
         // The standings are in order, and the permanent rules can be saved.
         let _next = self.table.next_number();
         self.policy.stay_saveable();
-        let lent = event.lend();
+        let lent = lend(event);
         self.begin(&lent, panel);
         let _tried = self.save_pending(alloc, disk, panel);
         sysfs.begin();

@@ -1,5 +1,5 @@
 // What an order comes to, before anything is changed: usbguard(1).
-ghost use Rattle.std.specs.Prelude.{◌≡◌, ◌⊎◌, ◌∷◌, [], ℕ, false, List, IfOk, IsSome, IsSomeAnd, Ok, OnErr, decimal};
+ghost use Rattle.std.specs.Prelude.{◌≡◌, ◌⊎◌, ◌∷◌, [], ℕ, false, List, IfErr, IfOk, IsSome, IsSomeAnd, None, Ok, OnErr, OnOk, Some, decimal};
 ghost use Rattle.ug_kernel.specs.Tree.{Room, Runs};
 ghost use Rattle.ug_lines.specs.Splitting.{AreLines, IsLine};
 ghost use Rattle.ug_rule.specs.Rules.{rule_read};
@@ -8,6 +8,8 @@ ghost use Rattle.ug_core.specs.Answering.{asking, asking_of, by_edit, by_id, by_
 ghost use Rattle.ug_core.specs.Changes.{change_lines, ordered_mark, verdict_edit};
 ghost use Rattle.ug_core.specs.DeviceRows.{device_rows};
 ghost use Rattle.ug_core.specs.Event.{daemon_of};
+ghost use Rattle.ug_ruleset.specs.RuleEdits.{if_room_for};
+ghost use Rattle.ug_ruleset.specs.RulePlaces.{if_taken};
 ghost use Rattle.ug_ruleset.specs.RuleRows.{rule_rows};
 ghost use Rattle.ug_table.specs.Standings.{numbered};
 
@@ -294,20 +296,41 @@ impl<'z, R: Rng> Daemon<'z, R> {
         ensures lines { HasReplyLines result.deed }
         ensures can_make { CanMake (daemon_of self.now).sweep.judge.rules result.change }
     {
-        if let Some(refusal) = self.policy.refuse_rule(after) {
-            return refuse(refusal);
-        }
         // A rule that is kept reads again from its canonical text.
         stay_readable(&rule);
-        let Ok(lines) = id_line(alloc, self.policy.next_id()) else {
-            return refuse(Refusal::Memory { stands: false });
-        };
-        let edit = Edit::Insert {
-            after,
-            rule,
-            mark: ordered_mark(permanent),
-        };
-        change(Change::Rules(edit), Deed::Tell(lines))
+        match self.answer_place(alloc, after) {
+            Ok(lines) => {
+                let edit = Edit::Insert {
+                    after,
+                    rule,
+                    mark: ordered_mark(permanent),
+                };
+                change(Change::Rules(edit), Deed::Tell(lines))
+            }
+            Err(refusal) => {
+                drop(rule);
+                refuse(refusal)
+            }
+        }
+    }
+
+    // The lines of the reply to one rule more behind that place, or why none is put there.
+    fn answer_place(&self, alloc: Global, after: After) -> Result<List<Text>, Refusal>
+        ensures free { OnOk result (if_taken after (daemon_of self.now).sweep.judge.rules ≡ None) }
+        ensures lines { IfOk result
+            (λ lines. lines ≡ decimal (daemon_of self.now).sweep.judge.next ∷ []) }
+        ensures whole { IfOk result (λ lines. AreLines lines) }
+        ensures refused { IfErr result (λ refused.
+            (if_taken after (daemon_of self.now).sweep.judge.rules ≡ Some refused)
+            ⊎ (refused ≡ Refusal.Memory false)) }
+    {
+        if let Some(refusal) = self.policy.refuse_rule(after) {
+            return Err(refusal);
+        }
+        match id_line(alloc, self.policy.next_id()) {
+            Ok(lines) => Ok(lines),
+            Err(_) => Err(Refusal::Memory { stands: false }),
+        }
     }
 
     // A rule is removed.
@@ -424,23 +447,64 @@ impl<'z, R: Rng> Daemon<'z, R> {
         ensures lines { HasReplyLines result.deed }
         ensures can_make { CanMake (daemon_of self.now).sweep.judge.rules result.change }
     {
-        let Ok(edit) = self.policy.verdict_edit(alloc, device, verdict) else {
-            return refuse(Refusal::Memory { stands: false });
-        };
-        if let Some(refusal) = self.policy.refuse_edit(&edit) {
-            return refuse(refusal);
+        match self.policy.verdict_edit(alloc, device, verdict) {
+            Ok(edit) => self.choose_made_edit(alloc, number, verdict, on, edit),
+            Err(_) => refuse(Refusal::Memory { stands: false }),
         }
-        let Ok(lines) = edit_lines(alloc, &edit, self.policy.next_id()) else {
-            return refuse(Refusal::Memory { stands: false });
-        };
-        change(
-            Change::Rules(edit),
-            Deed::SetVerdict {
-                number,
-                verdict,
-                on,
-                lines,
-            },
-        )
+    }
+
+    // An edit that gives the device its verdict.
+    fn choose_made_edit(
+        &self,
+        alloc: Global,
+        number: u64,
+        verdict: Target,
+        on: bool,
+        edit: Edit,
+    ) -> Choice
+        requires stands { IsSome (numbered number (daemon_of self.now).sweep.standings) }
+        requires can { if_room_for edit (daemon_of self.now).sweep.judge.rules ≡ None
+            → CanMake (daemon_of self.now).sweep.judge.rules (Some (Change.Rules edit)) }
+        ensures chosen { (result ≡ by_edit (daemon_of self.now).sweep.judge number verdict on edit)
+            ⊎ (result ≡ refusing (Refusal.Memory false)) }
+        ensures can_do { CanDo (daemon_of self.now) result.deed }
+        ensures lines { HasReplyLines result.deed }
+        ensures can_make { CanMake (daemon_of self.now).sweep.judge.rules result.change }
+    {
+        match self.answer_edit(alloc, &edit) {
+            Ok(lines) => change(
+                Change::Rules(edit),
+                Deed::SetVerdict {
+                    number,
+                    verdict,
+                    on,
+                    lines,
+                },
+            ),
+            Err(refusal) => {
+                drop(edit);
+                refuse(refusal)
+            }
+        }
+    }
+
+    // The lines of the reply to the edit, or why it isn't done.
+    fn answer_edit(&self, alloc: Global, edit: &Edit) -> Result<List<Text>, Refusal>
+        ensures free { OnOk result
+            (if_room_for edit.now (daemon_of self.now).sweep.judge.rules ≡ None) }
+        ensures lines { IfOk result (λ lines. lines
+            ≡ change_lines (Change.Rules edit.now) (daemon_of self.now).sweep.judge.next) }
+        ensures whole { IfOk result (λ lines. AreLines lines) }
+        ensures refused { IfErr result (λ refused.
+            (if_room_for edit.now (daemon_of self.now).sweep.judge.rules ≡ Some refused)
+            ⊎ (refused ≡ Refusal.Memory false)) }
+    {
+        if let Some(refusal) = self.policy.refuse_edit(edit) {
+            return Err(refusal);
+        }
+        match edit_lines(alloc, edit, self.policy.next_id()) {
+            Ok(lines) => Ok(lines),
+            Err(_) => Err(Refusal::Memory { stands: false }),
+        }
     }
 }

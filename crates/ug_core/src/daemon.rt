@@ -8,19 +8,8 @@ use ug_acl::Acl;
 use ug_kernel::Write;
 use ug_store::Store;
 use ug_table::Table;
-use ug_types::{List, Moment, NodeName, Principal, Text};
+use ug_types::{List, NodeName};
 use ug_uevent::Hints;
-
-/// What the daemon is to do.
-#[derive(Drop)]
-pub enum Event {
-    /// All devices are listed, and each is settled.
-    Sweep(Moment),
-    /// A line of a user or a group is answered, which may be any text: usbguard(1). Then all devices are listed and settled.
-    Order(Moment, Principal, Text),
-    /// A piece of recorded uevents, of at most 1,048,576 bytes, is read. Then the devices are settled that its messages name.
-    Hint(Moment, Text),
-}
 
 /// The policy, the standings, what is written to the default of each root hub, the store of the rule file, who may do what, what is kept of
 /// the stream of uevents, and the report of the last event.

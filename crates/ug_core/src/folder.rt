@@ -52,6 +52,7 @@ impl FolderListed {
             (self.new ≡ one_listed (record { mark = Mark.Folder; rule = rule }) self.old) }
     {
         let Some(list) = &mut self.list else {
+            drop(rule);
             return Ok(());
         };
         if list.len() < MAX_RULES {
@@ -59,6 +60,7 @@ impl FolderListed {
             stay_readable(&rule);
             return append(list, rule, Mark::Folder);
         }
+        drop(rule);
         self.list = None;
         Ok(())
     }

@@ -3,7 +3,8 @@ ghost use Rattle.std.specs.Prelude.{◌≡◌, ◌≤◌, ◌<◌, ◌+◌, ◌+
 ghost use Rattle.ug_audit.specs.Journal.{live_in, members, noted_in, Notes};
 ghost use Rattle.ug_core.specs.Due.{FitsDue};
 ghost use Rattle.ug_core.specs.Event.{daemon_of, NotesMore};
-ghost use Rattle.ug_core.specs.Hinting.{MeetsPiece, ReadsMessages, TakesPiece, longest_piece, name_hinted, names_due, refusal_of};
+ghost use Rattle.ug_types.specs.Events.{longest_piece};
+ghost use Rattle.ug_core.specs.Hinting.{MeetsPiece, ReadsMessages, TakesPiece, name_hinted, names_due, refusal_of};
 
 use crate::daemon::Daemon;
 use rand_core::Rng;

@@ -4,9 +4,8 @@ ghost use Rattle.ug_core.specs.Lent.{event_lent};
 ghost use Rattle.ug_core.specs.Event.{first_entry, moment_of};
 ghost use Rattle.ug_audit.specs.Noting.{tells_drop};
 
-use crate::daemon::Event;
 use ug_audit::Entry;
-use ug_types::{Moment, Principal};
+use ug_types::{Event, Moment, Principal};
 
 /// What the daemon is to do, as in `Event`.
 #[derive(Drop)]
@@ -16,15 +15,14 @@ pub enum LentEvent<'a> {
     Hint(Moment, &'a [u8]),
 }
 
-impl Event {
-    pub(crate) fn lend(&self) -> LentEvent<'_>
-        ensures { event_lent result ≡ self.now }
-    {
-        match self {
-            Event::Sweep(moment) => LentEvent::Sweep(*moment),
-            Event::Order(moment, who, line) => LentEvent::Order(*moment, who, line.bytes()),
-            Event::Hint(moment, piece) => LentEvent::Hint(*moment, piece.bytes()),
-        }
+/// The event with its texts lent.
+pub fn lend(event: &Event) -> LentEvent<'_>
+    ensures { event_lent result ≡ event.now }
+{
+    match event {
+        Event::Sweep(moment) => LentEvent::Sweep(*moment),
+        Event::Order(moment, who, line) => LentEvent::Order(*moment, who, line.bytes()),
+        Event::Hint(moment, piece) => LentEvent::Hint(*moment, piece.bytes()),
     }
 }
 

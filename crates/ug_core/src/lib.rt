@@ -27,7 +27,7 @@ mod walking;
 
 pub use between::Between;
 pub use classes::Classes;
-pub use daemon::{Daemon, Event};
+pub use daemon::Daemon;
 pub use laws::{run_law, stop_law, verdict_law};
 pub use list_laws::devices_law;
 pub use privileges::denied;

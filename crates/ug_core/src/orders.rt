@@ -12,7 +12,7 @@ ghost use Rattle.ug_core.specs.Changes.{CanChange, ChangeReads, ChangeSaves, Has
 ghost use Rattle.ug_core.specs.Durable.{WritesEvent, change_ordered};
 ghost use Rattle.ug_core.specs.Due.{FitsDue};
 ghost use Rattle.ug_core.specs.Event.{daemon_of, NotesAtMost, NotesMore};
-ghost use Rattle.ug_core.specs.Hinting.{FitsEvent};
+ghost use Rattle.ug_types.specs.Events.{FitsEvent};
 ghost use Rattle.ug_core.specs.Lent.{event_lent};
 ghost use Rattle.ug_proto.specs.Requests.{request_read};
 ghost use Rattle.ug_core.specs.Laws.{RunsAnswer, RunsOrder};
@@ -190,7 +190,7 @@ impl<'z, R: Rng> Daemon<'z, R> {
         let stored = self.save_change(alloc, disk, &change);
         self.note_stored(stored, panel);
         match stored.refusal() {
-            Some(_) => {}
+            Some(_) => drop(change),
             None => self.put_in_force(change, panel),
         }
         stored

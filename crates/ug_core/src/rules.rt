@@ -28,9 +28,16 @@ pub fn append(list: &mut RuleList, rule: Rule, mark: Mark) -> Result<(), NoMemor
         → StandsFor list.new.entries list.new.next [] }
     ensures err { OnErr result (list.new ≡ list.old) }
 {
-    list.reserve()?;
-    let _id = list.insert(After::End, rule, mark);
-    Ok(())
+    match list.reserve() {
+        Ok(()) => {
+            let _id = list.insert(After::End, rule, mark);
+            Ok(())
+        }
+        Err(error) => {
+            drop(rule);
+            Err(error)
+        }
+    }
 }
 
 /// The folder's rules, and those of the rule file so far, with ids from 1 on. There is no list where they are more than one takes.
@@ -64,11 +71,13 @@ impl RulesListed {
             (self.new ≡ one_listed (record { mark = Mark.File; rule = rule }) self.old) }
     {
         let Some(list) = &mut self.list else {
+            drop(rule);
             return Ok(());
         };
         if list.len() < MAX_RULES {
             return append(list, rule, Mark::File);
         }
+        drop(rule);
         self.list = None;
         Ok(())
     }

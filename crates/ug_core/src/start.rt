@@ -108,8 +108,6 @@ impl<'z, R: Rng + Drop> Daemon<'z, R> {
         ensures saveable { IfOk result (λ d. IsSaveable (daemon_of d).sweep.judge.rules) }
         ensures number { IfOk result (λ d. d.report.event ≡ 0) }
     {
-        let listed = list_folder(alloc, folder.as_slice())?;
-        let loaded = load_rules(alloc, listed, disk)?;
         let beside = Beside {
             classes: Classes::of(&settings),
             hub_default: hub_default(settings.default),
@@ -118,6 +116,23 @@ impl<'z, R: Rng + Drop> Daemon<'z, R> {
             zone,
             first,
         };
-        beside.start(alloc, loaded)
+        drop(settings);
+        match list_folder(alloc, folder.as_slice()) {
+            Ok(listed) => {
+                drop(folder);
+                match load_rules(alloc, listed, disk) {
+                    Ok(loaded) => beside.start(alloc, loaded),
+                    Err(fault) => {
+                        drop(beside);
+                        Err(fault)
+                    }
+                }
+            }
+            Err(fault) => {
+                drop(folder);
+                drop(beside);
+                Err(fault)
+            }
+        }
     }
 }

@@ -1,5 +1,4 @@
 pub mod Added
 pub mod Apart
 pub mod Counting
-pub mod Looked
 mod Written

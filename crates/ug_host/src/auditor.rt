@@ -6,6 +6,7 @@ ghost use Rattle.ug_audit.specs.Auditors.{TakesEntryLine};
 
 use std::io::Write;
 use ug_audit::{Auditor, Noted};
+use ug_files::put_all;
 use ug_types::Put;
 
 /// Writes each line of a journal and a newline behind it, and flushes them before the call returns. It keeps no text. Made over
@@ -14,25 +15,6 @@ use ug_types::Put;
 pub struct WriterAuditor<W> {
     writer: W,
     faults: u64,
-}
-
-/// Writes all of the bytes, in as many pieces as the writer takes.
-pub fn put_all<W: Write>(writer: &mut W, bytes: &[u8]) -> Put
-    ensures { Puts (W.contents writer.old) (W.contents writer.new) bytes.now result }
-{
-    let mut at = 0;
-    while at < bytes.len() {
-        match writer.write(&bytes[at..]) {
-            Ok(n) => {
-                if n == 0 {
-                    return Put::Failed;
-                }
-                at += n;
-            }
-            Err(_) => return Put::Failed,
-        }
-    }
-    Put::Done
 }
 
 // Writes the newline behind a line that was written, and flushes both.

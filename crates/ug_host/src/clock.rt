@@ -1,6 +1,6 @@
 // The machine's clock.
 ghost use Rattle.std.specs.Prelude.{◌≤◌, None, IfOk};
-ghost use Rattle.ug_host.specs.Untold.{untold};
+ghost use Rattle.ug_files.specs.Untold.{untold};
 
 use std::io;
 use std::time::{self, SystemTime};

@@ -2,14 +2,13 @@
 ghost use Rattle.std.specs.Prelude.{◌≡◌, ◌<◌, ◌+◌, ◌-◌, ◌^◌, true, None};
 ghost use Rattle.ug_types.specs.Ends.{IsCounted, Rose};
 ghost use Rattle.ug_conf.specs.Files.{FitsFolder, FitsText};
-ghost use Rattle.ug_host.specs.Untold.{untold};
+ghost use Rattle.ug_files.specs.Untold.{untold};
 
 use crate::entries::list_entries;
-use crate::file::{Content, FileFault};
-use crate::plain::{read_at, text_of};
 use std::alloc::Global;
 use std::rt::Files;
 use ug_conf::{ConfFiles, FileRead, FolderRead};
+use ug_files::{Content, FileFault, read_at, text_of};
 use ug_types::Text;
 
 /// Files and folders of this machine. A link is followed. What it answers is told by the machine alone. A file that another user than

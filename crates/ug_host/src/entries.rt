@@ -1,15 +1,15 @@
 // The names in a folder.
-ghost use Rattle.std.specs.Prelude.{◌≡◌, nat_eq, IfOk, OnOk};
+ghost use Rattle.std.specs.Prelude.{◌≡◌, nat_eq, OnOk};
 ghost use Rattle.std.specs.List.{list_any};
 ghost use Rattle.ug_conf.specs.Files.{FitsFolder, pointwise};
-ghost use Rattle.ug_host.specs.Names.{AreFewNames, AreNamesIfThere};
+ghost use Rattle.ug_host.specs.Names.{AreFewNames};
 
-use crate::file::{FileFault, plain};
 use std::alloc::Global;
 use std::fs::{self, DirEntry, ReadDir};
 use std::io;
 use std::rt::Files;
 use ug_conf::FolderRead;
+use ug_files::{FileFault, plain};
 use ug_types::{List, Text};
 
 /// The most names that are listed.
@@ -34,6 +34,17 @@ fn add_name(names: &mut List<Text>, name: Text) -> Result<(), FileFault>
     Ok(())
 }
 
+// The same of a copy of these bytes.
+fn add_bytes(alloc: Global, names: &mut List<Text>, name: &[u8]) -> Result<(), FileFault>
+    requires { AreFewNames names.old }
+    ensures { OnOk result (AreFewNames names.new) }
+{
+    match Text::of(alloc, name) {
+        Ok(name) => add_name(names, name),
+        Err(_) => Err(FileFault::Memory),
+    }
+}
+
 fn add_entry<R: Files + Drop>(
     alloc: Global,
     names: &mut List<Text>,
@@ -42,34 +53,42 @@ fn add_entry<R: Files + Drop>(
     requires { AreFewNames names.old }
     ensures { OnOk result (AreFewNames names.new) }
 {
-    let entry = plain(entry)?;
-    let name = Text::of(alloc, entry.file_name().as_bytes())?;
-    add_name(names, name)
+    match plain(entry) {
+        Ok(entry) => add_bytes(alloc, names, entry.file_name().as_bytes()),
+        Err(fault) => Err(fault),
+    }
 }
 
 fn add_entries<R: Files + AllocGlobal + Clone + Drop>(
     alloc: Global,
+    names: &mut List<Text>,
     entries: ReadDir<R>,
-) -> Result<List<Text>, FileFault>
-    ensures { IfOk result AreFewNames }
+) -> Result<(), FileFault>
+    requires { AreFewNames names.old }
+    ensures { OnOk result (AreFewNames names.new) }
 {
-    let mut names = List::new(alloc);
     for entry in entries {
-        add_entry(alloc, &mut names, entry)?;
+        add_entry(alloc, names, entry)?;
     }
-    Ok(names)
+    Ok(())
 }
 
-fn read_names<R: Files + AllocGlobal + Clone + Drop>(
+// Adds the names in a folder, and tells whether the folder is there.
+fn add_folder<R: Files + AllocGlobal + Clone + Drop>(
     rt: &R,
     alloc: Global,
+    names: &mut List<Text>,
     folder: &str,
-) -> Result<Option<List<Text>>, FileFault>
-    ensures { IfOk result AreNamesIfThere }
+) -> Result<bool, FileFault>
+    requires { AreFewNames names.old }
+    ensures { OnOk result (AreFewNames names.new) }
 {
     match plain(fs::read_dir(rt, folder)) {
-        Ok(entries) => Ok(Some(add_entries(alloc, entries)?)),
-        Err(FileFault::Missing) => Ok(None),
+        Ok(entries) => {
+            add_entries(alloc, names, entries)?;
+            Ok(true)
+        }
+        Err(FileFault::Missing) => Ok(false),
         Err(fault) => Err(fault),
     }
 }
@@ -82,9 +101,10 @@ pub fn list_entries<R: Files + AllocGlobal + Clone + Drop>(
 ) -> FolderRead
     ensures { FitsFolder result }
 {
-    match read_names(rt, alloc, folder) {
-        Ok(Some(names)) => FolderRead::Names(names),
-        Ok(None) => FolderRead::Absent,
+    let mut names = List::new(alloc);
+    match add_folder(rt, alloc, &mut names, folder) {
+        Ok(true) => FolderRead::Names(names),
+        Ok(false) => FolderRead::Absent,
         Err(FileFault::Memory) => FolderRead::Memory,
         Err(_) => FolderRead::Failed,
     }

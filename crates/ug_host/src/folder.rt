@@ -1,14 +1,13 @@
 // The devices of a folder, and the controls that are held open.
 ghost use Rattle.ug_kernel.specs.Few.{HasFew, AreDistinct};
 
-use crate::file::{
-    Content, FileFault, open_to_write, read_file, read_first, read_number, word_of, write_byte,
-};
+use crate::first_byte::{read_first, write_byte};
 use crate::names::list_devices;
 use crate::port::read_connect_type;
 use std::alloc::Global;
 use std::collections::BTreeMap;
 use std::rt::Files;
+use ug_files::{Content, FileFault, open_to_write, read_file, read_number, word_of};
 use ug_kernel::{Attr, Control, Held, Listing, Opened, Probe, ReadOut, Write, Wrote};
 use ug_types::NodeName;
 

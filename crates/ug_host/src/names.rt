@@ -5,10 +5,10 @@ ghost use Rattle.ug_types.specs.Elements.{AllDistinct};
 ghost use Rattle.ug_types.specs.Names.{sweep_cmp};
 ghost use Rattle.ug_kernel.specs.Few.{HasFew, AreDistinct};
 
-use crate::file::FileFault;
 use std::fs::{self, DirEntry};
 use std::io;
 use std::rt::Files;
+use ug_files::FileFault;
 use ug_kernel::{Listing, MAX_DEVICES};
 use ug_types::{List, NodeName, sort_names};
 

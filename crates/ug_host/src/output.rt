@@ -1,7 +1,7 @@
 // A journal's output, which never waits.
-use crate::at_once::{put_at_once, tell};
 use std::alloc::{AllocError, Global};
 use std::io::{self, Write};
+use ug_files::{put_at_once, tell};
 
 /// The most bytes that wait for the output.
 const MOST: usize = 262_144;

@@ -1,9 +1,9 @@
 // The connect type of the port at which a device hangs: sysfs-bus-usb, `portX/connect_type`.
-use crate::file::{Content, FileFault, read_file, word_of};
 use std::alloc::{AllocError, Global};
 use std::fs::{self, DirEntry};
 use std::io;
 use std::rt::Files;
+use ug_files::{Content, FileFault, read_file, word_of};
 use ug_types::NodeName;
 
 /// The most bytes of a connect type.

@@ -3,16 +3,12 @@ ghost use Rattle.std.specs.Prelude.{◌≡◌, ◌≤◌, ◌<◌, ◌+◌, ◌-
 ghost use Rattle.ug_types.specs.Ends.{IsCounted, Rose};
 ghost use Rattle.ug_store.specs.DiskCalls.{CountsOnDisk, FitsLoaded, NeedsNoMemory, failed_load, failed_answer};
 ghost use Rattle.ug_host.specs.RuleFiles.{CallsAt, same_path};
-ghost use Rattle.ug_host.specs.Untold.{untold};
+ghost use Rattle.ug_files.specs.Untold.{untold};
 
-use crate::at_once::tell;
-use crate::file::{Content, FileFault};
-use crate::fresh::{Fresh, make};
-use crate::plain::{read_at, text_of};
-use crate::same::has_text;
 use std::alloc::{AllocError, Global};
 use std::os::fd::AsRawFd;
 use std::rt::Files;
+use ug_files::{Content, FileFault, Fresh, has_text, make_fresh, read_at, tell, text_of};
 use ug_store::{DiskAnswer, Loaded, RuleDisk};
 use ug_types::{NoMemory, Text};
 
@@ -200,7 +196,7 @@ where
     fn make_new(&self, alloc: Global, text: &[u8]) -> Result<Coming<R::File>, FileFault> {
         let path = text_of(self.path.bytes())?;
         let kept = Text::of(alloc, text)?;
-        let file = make(&self.rt, alloc, path, text)?;
+        let file = make_fresh(&self.rt, alloc, path, text)?;
         Ok(Coming { file, text: kept })
     }
 

@@ -2,7 +2,7 @@
 ghost use Rattle.std.specs.Prelude.{◌≡◌, ◌≤◌, ◌<◌, ◌+◌, ◌-◌, ◌^◌, true, [], None, refl};
 ghost use Rattle.ug_kernel.specs.Calls.{Counts, raised, failed_listing, failed_open, failed_read, is_probe_failed, failed_put};
 ghost use Rattle.ug_kernel.specs.Few.{HasFew, AreDistinct};
-ghost use Rattle.ug_host.specs.Untold.{untold};
+ghost use Rattle.ug_files.specs.Untold.{untold};
 
 use crate::folder::Folder;
 use std::alloc::Global;

@@ -5,11 +5,10 @@ ghost use Rattle.jiff_tz.specs.Tzif.{tzif_view};
 ghost use Rattle.jiff_tz.specs.TzifReader.{read_tzif};
 ghost use Rattle.ug_host.specs.Zones.{IsZoneOf};
 
-use crate::file::Content;
-use crate::plain::read_at;
 use jiff::tz::{TimeZone, Tzif};
 use std::alloc::Global;
 use std::rt::Files;
+use ug_files::{Content, read_at};
 
 /// The zone that the machine's clock on the wall shows. A zone of `jiff` borrows from it.
 #[derive(Drop)]

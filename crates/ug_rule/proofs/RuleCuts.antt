@@ -17,7 +17,7 @@ use Rattle.ug_rule.specs.Grammar.{AreAttributes, AllAttributes, IsConditions, Is
 use Rattle.ug_words.specs.Keywords.{attribute_of, is_if}
 use Rattle.ug_types.specs.Targets.{target_of}
 use Rattle.ug_rule.specs.Queries.{attributes_of, query_of, query_ends, is_empty_query}
-use Rattle.ug_rule.specs.Rules.{end_of, some_conds, conds_of, rule_ends, parts_of, rule_of, rule_read, whole_query, query_read}
+use Rattle.ug_rule.specs.Rules.{end_of, some_conds, conds_of, rule_ends, rule_with, parts_of, rule_of, rule_read, whole_query, query_read}
 use Rattle.ug_rule.specs.Tokens.{word_of, first_word, read_by, tokens_read}
 use Rattle.ug_rule.proofs.AttributeCuts.{attributes_cut, attributes_read, no_word}
 use Rattle.ug_rule.proofs.Cases.{by_step, same_ok, by_found}
@@ -161,9 +161,6 @@ parts_read line ending (Attribute attr ∷ parts) query all found tokens a =
 parts_read line ending (If ∷ parts) query all found tokens a = if_left line ending query all a.0 found parts tokens a.1 a.2 a.4
 
 -- ---- rules
-
-abbrev pub rule_with : Target → Query → Option Conds → Rule
-rule_with target query conds = record { target = target; query = query; conds = conds }
 
 ends_here : (line : List ℕ) (rule all : Rule) (tokens : List Token) → rule_ends line rule tokens ≡ Ok all → (tokens ≡ []) × (rule ≡ all)
 ends_here line rule all [] h = (refl, same_ok rule all h)

@@ -1,10 +1,12 @@
 -- The rules of a text: those of its lines that are neither blank nor comments.
-use Rattle.std.specs.Prelude.{◌≡◌, ℕ, ◌+◌, length, List, [], ◌∷◌, ◌++◌, Option, Some, None, Result, Ok, Err}
+use Rattle.std.specs.Prelude.{◌≡◌, ℕ, Bool, true, false, ◌+◌, length, List, [], ◌∷◌, ◌++◌, Option, Some, None, Result, Ok, Err}
 use Rattle.ug_lex.specs.declared.token.Token.{Token}
 use Rattle.ug_types.specs.declared.rule.Rule.{Rule}
 use Rattle.ug_lines.specs.LineReading.{text_read}
 use Rattle.ug_types.specs.declared.text_fault.TextFault.{TextFault}
 use Rattle.ug_rule.specs.declared.fault.Fault.{Fault}
+use Rattle.ug_rule.specs.declared.fault.Stop.{Stop}
+use Rattle.ug_rule.specs.declared.fault.Stop.TheVariants.{Bad, Memory}
 use Rattle.ug_rule.specs.Faults.{kind_number, on_ok}
 use Rattle.ug_rule.specs.Rules.{rule_of}
 use Rattle.ug_rule.specs.Tokens.{tokens_read}
@@ -16,6 +18,13 @@ rule_in line (token ∷ rest) = on_ok (rule_of line (token ∷ rest)) (λ rule. 
 
 abbrev pub line_read : List ℕ → Result (Option Rule) Fault
 line_read line = on_ok (tokens_read line) (rule_in line)
+
+-- an answer tells whether there is a rule, unless memory was refused
+abbrev pub TellsRule : Result Bool Stop → Result (Option Rule) Fault → Type 0
+TellsRule (Ok true) read = (rule : Rule) × (read ≡ Ok (Some rule))
+TellsRule (Ok false) read = read ≡ Ok None
+TellsRule (Err (Bad fault)) read = read ≡ Err fault
+TellsRule (Err Memory) read = Unit {0}
 
 abbrev pub with_rule : List Rule → Option Rule → List Rule
 with_rule rules None = rules

@@ -36,13 +36,26 @@ abbrev pub rule_ends : List ℕ → Rule → List Token → Result Rule Fault
 rule_ends line rule [] = Ok rule
 rule_ends line rule (token ∷ rest) = Err (stray Repeated line token)
 
+abbrev pub rule_with : Target → Query → Option Conds → Rule
+rule_with target query conds = record { target = target; query = query; conds = conds }
+
+-- attributes, and nothing behind them
+abbrev pub last_attributes : List ℕ → Ending → Target → Query → Option Conds → List Token
+    → Result Rule Fault
+last_attributes line ending target query conds tokens =
+    on_ok (attributes_of line ending query tokens) (λ r.
+    rule_ends line (rule_with target r.0 conds) r.1)
+
+-- conditions or none, attributes, and nothing behind them
+abbrev pub later_parts : List ℕ → Ending → Target → Query → List Token → Result Rule Fault
+later_parts line ending target query tokens =
+    on_ok (conds_of line ending tokens) (λ q. last_attributes line ending target query q.0 q.1)
+
 -- attributes, conditions, attributes: an `if` stands at most once
 unfoldable pub parts_of : List ℕ → Target → List Token → Result Rule Fault
 parts_of line target tokens =
     on_ok (query_of line (end_of line) tokens) (λ p.
-    on_ok (conds_of line (end_of line) p.1) (λ q.
-    on_ok (attributes_of line (end_of line) p.0 q.1) (λ r.
-    rule_ends line (record { target = target; query = r.0; conds = q.0 }) r.1)))
+    later_parts line (end_of line) target p.0 p.1)
 
 -- the rule that tokens are
 unfoldable pub rule_of : List ℕ → List Token → Result Rule Fault

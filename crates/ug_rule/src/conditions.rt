@@ -1,10 +1,12 @@
 // The conditions of a rule: usbguard-rules.conf(5).
-ghost use Rattle.std.specs.Prelude.{◌≡◌, ◌≤◌, [], length};
+ghost use Rattle.std.specs.Prelude.{◌≡◌, ◌≤◌, [], length, Ok};
 ghost use Rattle.ug_rule.specs.Conditions as conditions;
+ghost use Rattle.ug_rule.specs.Faults.{on_ok};
 ghost use Rattle.ug_rule.specs.Tokens.{Reads};
+ghost use Rattle.ug_types.specs.declared.rule.CondKind.TheVariants as kind;
 ghost use Rattle.ug_words.specs.Words.{past_of, chance_of};
 
-use crate::fault::{Ending, FaultKind, Stop, required};
+use crate::fault::{Ending, FaultKind, Stop, required, where_good};
 use crate::queries::{is_blank, query, stray};
 use crate::tokens_left::{Tokens, closes, opens, word};
 use crate::values::{brace, filled, list_of};
@@ -67,14 +69,9 @@ fn localtime(line: &[u8], tokens: &mut Tokens, ending: Ending) -> Result<CondKin
 }
 
 // A query ends at its closing parenthesis, and isn't empty.
-fn close_query(
-    line: &[u8],
-    tokens: &mut Tokens,
-    ending: Ending,
-    query: Query,
-) -> Result<CondKind, Stop>
-    ensures is { Reads result tokens.new
-        (conditions.matches_closed line.now ending query tokens.old) }
+fn close_query(line: &[u8], tokens: &mut Tokens, ending: Ending, query: &Query) -> Result<(), Stop>
+    ensures is { Reads (on_ok result (λ _. Ok (kind.AllowedMatches query.now))) tokens.new
+        (conditions.matches_closed line.now ending query.now tokens.old) }
     ensures shorter { length tokens.new ≤ length tokens.old }
 {
     let Some(token) = tokens.next() else {
@@ -83,10 +80,10 @@ fn close_query(
     if !matches!(token.kind, TokenKind::ParenClose) {
         return Err(stray(FaultKind::ConditionInQuery, line, &token));
     }
-    if is_blank(&query) {
+    if is_blank(query) {
         return Err(Stop::at(FaultKind::BadCondition, token.start as u64));
     }
-    Ok(CondKind::AllowedMatches(query))
+    Ok(())
 }
 
 #[tactic(auto, unfolding(crate::specs::Conditions::matches_of))]
@@ -101,7 +98,8 @@ fn allowed_matches(
 {
     open(tokens, ending)?;
     let query = query(alloc, line, tokens, ending)?;
-    close_query(line, tokens, ending, query)
+    let closed = close_query(line, tokens, ending, &query);
+    where_good(CondKind::AllowedMatches(query), closed)
 }
 
 #[tactic(auto, unfolding(crate::specs::Conditions::argument_of))]

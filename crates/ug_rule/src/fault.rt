@@ -1,5 +1,5 @@
 // Why a text is no rule.
-ghost use Rattle.std.specs.Prelude.{◌≡◌};
+ghost use Rattle.std.specs.Prelude.{◌≡◌, Ok};
 ghost use Rattle.ug_rule.specs.Faults as faults;
 ghost use Rattle.ug_rule.specs.Faults.{kind_number, fault_at, AnswersRead, GivesNumbered};
 
@@ -130,6 +130,16 @@ pub fn required<T: Drop>(found: Option<T>, kind: FaultKind, place: u64) -> Resul
     match found {
         Some(value) => Ok(value),
         None => Err(Stop::at(kind, place)),
+    }
+}
+
+/// A value, where nothing speaks against it.
+pub fn where_good<T: Drop>(value: T, checked: Result<(), Stop>) -> Result<T, Stop>
+    ensures { result ≡ faults.on_ok checked (λ _. Ok value) }
+{
+    match checked {
+        Ok(()) => Ok(value),
+        Err(stop) => Err(stop),
     }
 }
 

@@ -1,5 +1,5 @@
 // Texts of rules, a line each.
-ghost use Rattle.std.specs.Prelude.{◌≡◌, IfOk, IfErr};
+ghost use Rattle.std.specs.Prelude.{◌≡◌, [], ◌∷◌, ◌++◌, Ok, is_some, IfOk, IfErr};
 ghost use Rattle.ug_types.specs.TextFaults.{IsTextFault};
 ghost use Rattle.ug_lines.specs.LineReading.{LeadsTo};
 ghost use Rattle.ug_rule.specs.Faults.{AnswersRead};
@@ -46,16 +46,45 @@ pub fn parse_line(alloc: Global, number: u64, line: &[u8]) -> Result<Option<Rule
     }
 }
 
+fn is_there<T: Drop>(found: Option<T>) -> bool
+    ensures { result ≡ is_some found }
+{
+    found.is_some()
+}
+
+// Whether a line has a rule.
+fn has_rule(alloc: Global, line: &[u8]) -> Result<bool, Stop>
+    ensures { files.TellsRule result (files.line_read line.now) }
+{
+    let found = read_line(alloc, line)?;
+    Ok(is_there(found))
+}
+
+fn push<T: Drop>(item: T, items: &mut Vec<T>) -> Result<(), FileFault>
+    ensures { LeadsTo (Ok (items.old.items ++ item ∷ [])) result items.new.items }
+{
+    match items.push(item) {
+        Ok(()) => Ok(()),
+        Err(_) => Err(FileFault::Memory),
+    }
+}
+
+// Adds a rule, if there is one.
+fn add_found(found: Option<Rule>, rules: &mut Vec<Rule>) -> Result<(), FileFault>
+    ensures { LeadsTo (Ok (files.with_rule rules.old.items found)) result rules.new.items }
+{
+    match found {
+        Some(rule) => push(rule, rules),
+        None => Ok(()),
+    }
+}
+
 // Adds the rule of a line, if it has one.
 fn add_line(alloc: Global, line: &[u8], number: u64, rules: &mut Vec<Rule>) -> Result<(), FileFault>
     ensures { LeadsTo (files.adding_line number rules.old.items line.now) result rules.new.items }
 {
     match read_line(alloc, line) {
-        Ok(Some(rule)) => match rules.push(rule) {
-            Ok(()) => Ok(()),
-            Err(_) => Err(FileFault::Memory),
-        },
-        Ok(None) => Ok(()),
+        Ok(found) => add_found(found, rules),
         Err(Stop::Bad(fault)) => Err(fault_on(number, fault)),
         Err(Stop::Memory) => Err(FileFault::Memory),
     }
@@ -104,12 +133,12 @@ impl LineReader for RulesCounted {
     ghost keeps = { λ number r. r.count + 1 ≤ number };
 
     fn read_line(&mut self, alloc: Global, number: u64, line: &[u8]) -> Result<(), FileFault> {
-        match read_line(alloc, line) {
-            Ok(Some(_)) => {
+        match has_rule(alloc, line) {
+            Ok(true) => {
                 self.count += 1;
                 Ok(())
             }
-            Ok(None) => Ok(()),
+            Ok(false) => Ok(()),
             Err(Stop::Bad(fault)) => Err(fault_on(number, fault)),
             Err(Stop::Memory) => Err(FileFault::Memory),
         }

@@ -1,15 +1,16 @@
 // The attributes of a rule: usbguard-rules.conf(5).
-ghost use Rattle.std.specs.Prelude.{◌≡◌, ◌≤◌, ◌<◌, length, IfSome};
-ghost use Rattle.ug_rule.specs.Faults.{AnswersRead};
+ghost use Rattle.std.specs.Prelude.{◌≡◌, ◌≤◌, ◌<◌, length, IfSome, Some, Ok};
+ghost use Rattle.ug_rule.specs.Faults.{AnswersRead, on_ok};
 ghost use Rattle.ug_rule.specs.Tokens.{Reads, ReadsInto};
 ghost use Rattle.ug_rule.specs.Queries as queries;
+ghost use Rattle.ug_rule.specs.Values as values;
 
 use crate::fault::{Ending, FaultKind, Stop};
 use crate::tokens_left::{Tokens, word};
-use crate::values::{single, text, value};
+use crate::values::{FromToken, single, text, value};
 use std::alloc::Global;
 use ug_lex::{Token, TokenKind};
-use ug_types::{Id, Query, Values};
+use ug_types::{Id, Query, Text, Values};
 use ug_words::{Attr, attribute, is_if};
 
 /// An attribute whose name was read, and where it stands.
@@ -67,6 +68,38 @@ pub fn is_blank(query: &Query) -> bool
         && query.label.is_none()
 }
 
+// Reads a value into its place.
+fn put_value<T: FromToken>(
+    alloc: Global,
+    line: &[u8],
+    tokens: &mut Tokens,
+    ending: Ending,
+    place: &mut Option<Values<T>>,
+) -> Result<(), Stop>
+    ensures is { ReadsInto result place.new tokens.new
+        (on_ok (values.value_of line.now (T.in_token line.now) ending tokens.old)
+        (λ p. Ok (Some p.0, p.1))) }
+    ensures shorter { length tokens.new ≤ length tokens.old }
+{
+    *place = Some(value(alloc, line, tokens, ending)?);
+    Ok(())
+}
+
+// Reads a string into its place.
+fn put_text(
+    line: &[u8],
+    tokens: &mut Tokens,
+    ending: Ending,
+    place: &mut Option<Text>,
+) -> Result<(), Stop>
+    ensures is { ReadsInto result place.new tokens.new
+        (on_ok (values.text_of line.now ending tokens.old) (λ p. Ok (Some p.0, p.1))) }
+    ensures shorter { length tokens.new ≤ length tokens.old }
+{
+    *place = Some(text(line, tokens, ending)?);
+    Ok(())
+}
+
 #[tactic(auto, unfolding(crate::specs::Queries::with_attribute))]
 fn add_attribute(
     alloc: Global,
@@ -81,17 +114,16 @@ fn add_attribute(
     ensures shorter { length tokens.new ≤ length tokens.old }
 {
     match attr {
-        Attr::Id => query.id = Some(value(alloc, line, tokens, ending)?),
-        Attr::Serial => query.serial = Some(value(alloc, line, tokens, ending)?),
-        Attr::Name => query.name = Some(value(alloc, line, tokens, ending)?),
-        Attr::Hash => query.hash = Some(value(alloc, line, tokens, ending)?),
-        Attr::ParentHash => query.parent_hash = Some(value(alloc, line, tokens, ending)?),
-        Attr::ViaPort => query.via_port = Some(value(alloc, line, tokens, ending)?),
-        Attr::Interface => query.interface = Some(value(alloc, line, tokens, ending)?),
-        Attr::Connect => query.connect = Some(value(alloc, line, tokens, ending)?),
-        Attr::Label => query.label = Some(text(line, tokens, ending)?),
+        Attr::Id => put_value(alloc, line, tokens, ending, &mut query.id),
+        Attr::Serial => put_value(alloc, line, tokens, ending, &mut query.serial),
+        Attr::Name => put_value(alloc, line, tokens, ending, &mut query.name),
+        Attr::Hash => put_value(alloc, line, tokens, ending, &mut query.hash),
+        Attr::ParentHash => put_value(alloc, line, tokens, ending, &mut query.parent_hash),
+        Attr::ViaPort => put_value(alloc, line, tokens, ending, &mut query.via_port),
+        Attr::Interface => put_value(alloc, line, tokens, ending, &mut query.interface),
+        Attr::Connect => put_value(alloc, line, tokens, ending, &mut query.connect),
+        Attr::Label => put_text(line, tokens, ending, &mut query.label),
     }
-    Ok(())
 }
 
 // An attribute whose name was read stands for the first time.
@@ -192,6 +224,17 @@ fn bare_id(alloc: Global, line: &[u8], tokens: &mut Tokens) -> Result<Query, Sto
     }
 }
 
+// What was read behind a reference, where nothing speaks against it.
+fn read_into<T: Drop>(value: T, read: Result<(), Stop>) -> Result<T, Stop>
+    ensures { (rest : _) → (asked : _) → ReadsInto read value rest asked → Reads result rest asked }
+{
+    match read {
+        Ok(()) => Ok(value),
+        Err(Stop::Bad(fault)) => Err(Stop::Bad(fault)),
+        Err(Stop::Memory) => Err(Stop::Memory),
+    }
+}
+
 /// A bare id or none, and attributes.
 #[tactic(auto, unfolding(crate::specs::Queries::query_of))]
 pub fn query(alloc: Global, line: &[u8], tokens: &mut Tokens, ending: Ending) -> Result<Query, Stop>
@@ -199,10 +242,8 @@ pub fn query(alloc: Global, line: &[u8], tokens: &mut Tokens, ending: Ending) ->
     ensures shorter { length tokens.new ≤ length tokens.old }
 {
     let mut query = bare_id(alloc, line, tokens)?;
-    match add_attributes(alloc, line, tokens, ending, &mut query) {
-        Ok(()) => Ok(query),
-        Err(stop) => Err(stop),
-    }
+    let added = add_attributes(alloc, line, tokens, ending, &mut query);
+    read_into(query, added)
 }
 
 /// What is wrong with a token that begins no attribute.
@@ -225,17 +266,18 @@ pub fn query_ends(
     line: &[u8],
     tokens: &mut Tokens,
     ending: Ending,
-    query: Query,
-) -> Result<Query, Stop>
-    ensures { AnswersRead result (queries.query_ends line.now ending query tokens.old) }
+    query: &Query,
+) -> Result<(), Stop>
+    ensures { AnswersRead (on_ok result (λ _. Ok query.now))
+        (queries.query_ends line.now ending query.now tokens.old) }
 {
     match tokens.next() {
         Some(token) => Err(stray(FaultKind::ConditionInQuery, line, &token)),
         None => {
-            if is_blank(&query) {
+            if is_blank(query) {
                 return Err(ending.missing(FaultKind::BadValue));
             }
-            Ok(query)
+            Ok(())
         }
     }
 }

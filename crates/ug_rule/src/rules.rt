@@ -1,11 +1,14 @@
 // Rules and queries of whole lines: usbguard-rules.conf(5).
-ghost use Rattle.std.specs.Prelude.{◌≡◌};
-ghost use Rattle.ug_rule.specs.Faults.{AnswersRead, GivesNumbered};
+ghost use Rattle.std.specs.Prelude.{◌≡◌, Option, Ok};
+ghost use Rattle.ug_rule.specs.Faults.{AnswersRead, GivesNumbered, on_ok};
 ghost use Rattle.ug_rule.specs.Rules as rules;
 ghost use Rattle.ug_rule.specs.Tokens.{Reads};
+ghost use Rattle.ug_types.specs.declared.rule.Conds.{Conds};
+ghost use Rattle.ug_types.specs.declared.rule.Rule.{Rule};
+ghost use Rattle.ug_types.specs.declared.verdict.Target.{Target};
 
 use crate::conditions::conditions;
-use crate::fault::{Ending, FaultKind, RuleFault, Stop, answer, required};
+use crate::fault::{Ending, FaultKind, RuleFault, Stop, answer, required, where_good};
 use crate::queries::{add_attributes, query, query_ends, stray};
 use crate::tokens_left::{Tokens, read, word};
 use std::alloc::Global;
@@ -39,12 +42,48 @@ fn conds(
     Ok(Some(conditions(alloc, line, tokens, ending)?))
 }
 
-fn rule_ends(line: &[u8], tokens: &mut Tokens, rule: Rule) -> Result<Rule, Stop>
-    ensures { AnswersRead result (rules.rule_ends line.now rule tokens.old) }
+fn rule_ends(line: &[u8], tokens: &mut Tokens) -> Result<(), Stop>
+    ensures { (rule : Rule) → AnswersRead (on_ok result (λ _. Ok rule))
+        (rules.rule_ends line.now rule tokens.old) }
 {
     match tokens.next() {
         Some(token) => Err(stray(FaultKind::Repeated, line, &token)),
-        None => Ok(rule),
+        None => Ok(()),
+    }
+}
+
+// Adds the attributes behind the conditions, which end the line.
+fn last_attributes(
+    alloc: Global,
+    line: &[u8],
+    tokens: &mut Tokens,
+    ending: Ending,
+    query: &mut Query,
+) -> Result<(), Stop>
+    ensures { (target : Target) → (conds : Option Conds) →
+        AnswersRead (on_ok result (λ _. Ok (rules.rule_with target query.new conds)))
+        (rules.last_attributes line.now ending target query.old conds tokens.old) }
+{
+    add_attributes(alloc, line, tokens, ending, query)?;
+    rule_ends(line, tokens)
+}
+
+// The conditions or none, and what stands behind them.
+fn later_parts(
+    alloc: Global,
+    line: &[u8],
+    tokens: &mut Tokens,
+    ending: Ending,
+    query: &mut Query,
+) -> Result<Option<Conds>, Stop>
+    ensures { (target : Target) →
+        AnswersRead (on_ok result (λ conds. Ok (rules.rule_with target query.new conds)))
+        (rules.later_parts line.now ending target query.old tokens.old) }
+{
+    let conds = conds(alloc, line, tokens, ending)?;
+    match last_attributes(alloc, line, tokens, ending, query) {
+        Ok(()) => Ok(conds),
+        Err(stop) => Err(stop),
     }
 }
 
@@ -55,17 +94,14 @@ fn parts(alloc: Global, line: &[u8], tokens: &mut Tokens, target: Target) -> Res
 {
     let ending = end_of(line);
     let mut query = query(alloc, line, tokens, ending)?;
-    let conds = conds(alloc, line, tokens, ending)?;
-    add_attributes(alloc, line, tokens, ending, &mut query)?;
-    rule_ends(
-        line,
-        tokens,
-        Rule {
+    match later_parts(alloc, line, tokens, ending, &mut query) {
+        Ok(conds) => Ok(Rule {
             target,
             query,
             conds,
-        },
-    )
+        }),
+        Err(stop) => Err(stop),
+    }
 }
 
 /// The rule that the tokens of a line are.
@@ -102,7 +138,8 @@ fn whole_query(alloc: Global, line: &[u8], tokens: List<Token>) -> Result<Query,
     let mut tokens = Tokens::new(tokens);
     let ending = end_of(line);
     let query = query(alloc, line, &mut tokens, ending)?;
-    query_ends(line, &mut tokens, ending, query)
+    let ended = query_ends(line, &mut tokens, ending, &query);
+    where_good(query, ended)
 }
 
 fn read_query(alloc: Global, line: &[u8]) -> Result<Query, Stop>

@@ -12,7 +12,7 @@ use Rattle.ug_rule.specs.Grammar.{AllAttributes}
 use Rattle.ug_words.specs.Keywords.{attribute_of, is_if}
 use Rattle.ug_types.specs.Targets.{target_of}
 use Rattle.ug_rule.specs.Queries.{is_empty_query, attributes_of, query_of, query_ends}
-use Rattle.ug_rule.specs.Rules.{end_of, some_conds, conds_of, rule_ends, parts_of, rule_of, whole_query}
+use Rattle.ug_rule.specs.Rules.{end_of, some_conds, conds_of, rule_ends, rule_with, parts_of, rule_of, whole_query}
 use Rattle.ug_rule.specs.Tokens.{word_of, is_word, first_word}
 use Rattle.ug_rule.proofs.AttributeCuts.{attributes_cut, attributes_read}
 use Rattle.ug_rule_faults.proofs.Machine.{given_in, is_nothing, BeforeIf, BehindIf, Alone, End, Start, Front, Parts, run}
@@ -20,7 +20,6 @@ use Rattle.ug_rule_faults.proofs.MachineAttributes.{same_blank, stray_is, attrib
 use Rattle.ug_rule_faults.proofs.MachineConditions.{conditions_run}
 use Rattle.ug_rule_faults.proofs.MachineValues.{resume}
 use Rattle.ug_rule.proofs.QueryCuts.{query_cut}
-use Rattle.ug_rule.proofs.RuleCuts.{rule_with}
 
 -- the fault of a reading to the line's end
 abbrev pub outcome : {X : Type 0} → Result X Fault → Option Fault

@@ -11,11 +11,11 @@ use Rattle.ug_command_io.specs.Runs.{Steps}
 use Rattle.ug_command_io.specs.declared.machine.Ran.{Ran}
 use Rattle.ug_command_io.specs.declared.machine.Ran.TheVariants as ran
 use Rattle.ug_core.specs.Event.{has_numbers}
-use Rattle.ug_script.specs.declared.step.SetupLine.{SetupLine}
-use Rattle.ug_script.specs.declared.step.Step.{Step}
-use Rattle.ug_script.specs.declared.step.Step.TheVariants as step
+use Rattle.ug_steps.specs.declared.step.SetupLine.{SetupLine}
+use Rattle.ug_steps.specs.declared.step.Step.{Step}
+use Rattle.ug_steps.specs.declared.step.Step.TheVariants as step
 use Rattle.ug_script.specs.Against.{AreRefused, BehindSetup, LacksNumbers, NoHeader, NoRoom, NoStep, NotTaken, RefusesScript, SpeaksAgainst, starts_daemon}
-use Rattle.ug_script.specs.Grammar.{step_of_line}
+use Rattle.ug_steps.specs.Grammar.{step_of_line}
 use Rattle.ug_script.specs.Laws.{IsFaultless, StaysLawful}
 use Rattle.ug_script.specs.Replay.{StartsAgain, bad, event_by, header, in_script, line_added, planned, quiet, restarted, script_end, script_step, taken_if, with_plan}
 use Rattle.ug_script.specs.Script.{Phase, SettingUp, Unstarted, Started, Script, can_start, daemon_in, disk_in, fits_file, fresh, has_started, takes_setup, with_setup_closed}

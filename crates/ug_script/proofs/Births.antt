@@ -36,14 +36,14 @@ use Rattle.ug_command_io.specs.Fold.{LineRefusal, BadLine, Going, Halted, InputT
 use Rattle.ug_core.specs.Answering.{acting, asking, deed_after}
 use Rattle.ug_core.specs.Event.{DaemonState, handling, has_numbers, ready}
 use Rattle.ug_core.specs.Storing.{stored_with, storing}
-use Rattle.ug_core.specs.declared.daemon.Event as events
-use Rattle.ug_core.specs.declared.daemon.Event.TheVariants.{Sweep, Order, Hint}
-use Rattle.ug_script.specs.declared.step.Plan.{Plan}
-use Rattle.ug_script.specs.declared.step.Plan.TheVariants as plan
-use Rattle.ug_script.specs.declared.step.Step.{Step}
-use Rattle.ug_script.specs.declared.step.Step.TheVariants as step
+use Rattle.ug_types.specs.declared.event.Event as events
+use Rattle.ug_types.specs.declared.event.Event.TheVariants.{Sweep, Order, Hint}
+use Rattle.ug_steps.specs.declared.step.Plan.{Plan}
+use Rattle.ug_steps.specs.declared.step.Plan.TheVariants as plan
+use Rattle.ug_steps.specs.declared.step.Step.{Step}
+use Rattle.ug_steps.specs.declared.step.Step.TheVariants as step
 use Rattle.ug_script.specs.Births.{AreMovesOf, Becomes, BecomesBy, Born, Change, Facts, Idle, StaysBorn, Unplugged, Wrote, birth_in, effect_in, facts_given, facts_of, move_in, scheduled_action}
-use Rattle.ug_script.specs.Grammar.{step_of_line}
+use Rattle.ug_steps.specs.Grammar.{step_of_line}
 use Rattle.ug_sysfs.specs.Serving.{bus_in, iface_answer_from, iface_answer_of, iface_answer_unless, iface_effect, with_bus}
 use Rattle.ug_sysfs.specs.World.{failure_counted}
 use Rattle.ug_iface.specs.declared.rules.IfaceRule.{IfaceRule}

@@ -11,15 +11,15 @@ use Rattle.ug_core.specs.Chain.{Happened}
 use Rattle.ug_core.specs.Event.{has_numbers}
 use Rattle.ug_core.specs.Policy.{Judging}
 use Rattle.ug_core.specs.Stops.{AllReadable, IsReadable}
-use Rattle.ug_core.specs.declared.daemon.Event as events
+use Rattle.ug_types.specs.declared.event.Event as events
 use Rattle.ug_command_io.specs.Fold.{LineRefusal, BadLine, InputTooLong, LineOutcome, Writes, Refused, Stage, Going, Halted, fault_of, is_within, of_first, plays, stage_after}
 use Rattle.ug_command_io.specs.Refusals.{HoldsOfEach}
-use Rattle.ug_script.specs.declared.step.Plan.{Plan}
-use Rattle.ug_script.specs.declared.step.Plan.TheVariants as plan
-use Rattle.ug_script.specs.declared.step.Step.{Step}
-use Rattle.ug_script.specs.declared.step.Step.TheVariants.{Skip, Setup, Move, Schedule, Event, Restart}
+use Rattle.ug_steps.specs.declared.step.Plan.{Plan}
+use Rattle.ug_steps.specs.declared.step.Plan.TheVariants as plan
+use Rattle.ug_steps.specs.declared.step.Step.{Step}
+use Rattle.ug_steps.specs.declared.step.Step.TheVariants.{Skip, Setup, Move, Schedule, Event, Restart}
 use Rattle.ug_script.specs.CarriedOn.{CarriesThrough, EachCarriesOn, StaysCarried}
-use Rattle.ug_script.specs.Grammar.{step_of_line}
+use Rattle.ug_steps.specs.Grammar.{step_of_line}
 use Rattle.ug_script.specs.Journal.{AreSuccessive, EventsOfRuns, RunEnd, RunStart, first_start, happened_at, pass_at, left_by, no_events, runs_after, runs_by, runs_in, stop_of, with_end, with_events, with_stop}
 use Rattle.ug_script.specs.LinesRead.{FirstReads, LineReads, StepReads}
 use Rattle.ug_script.specs.Replay.{Played, bad, came_of, event_of, finished, header, in_script, line_added, planned, quiet, restarted, script_end, script_step, stopped_of, taken, taken_if, with_plan}

@@ -34,15 +34,15 @@ use Rattle.ug_core.specs.Storing.{after_saving, if_fits, if_saved, stored_with, 
 use Rattle.ug_core.specs.declared.changes.Change.{Change}
 use Rattle.ug_core.specs.declared.choosing.Choice.{Choice}
 use Rattle.ug_core.specs.declared.choosing.Deed.{Deed}
-use Rattle.ug_core.specs.declared.daemon.Event as daemon
-use Rattle.ug_core.specs.declared.daemon.Event.TheVariants.{Sweep, Order, Hint}
+use Rattle.ug_types.specs.declared.event.Event as daemon
+use Rattle.ug_types.specs.declared.event.Event.TheVariants.{Sweep, Order, Hint}
 use Rattle.ug_core.specs.declared.storing.Stored.{Stored}
 use Rattle.ug_core.specs.declared.storing.Stored.TheVariants as stored
 use Rattle.ug_command_io.specs.Runs.{Steps, Closes}
 use Rattle.ug_command_io.specs.declared.machine.Ran.{Ran}
 use Rattle.ug_command_io.specs.declared.machine.Ran.TheVariants.{Done, Bad, TooLong, SinkFailed, Memory}
 use Rattle.ug_command_io.specs.Fold.{LineRefusal, LineOutcome, Writes, Refused}
-use Rattle.ug_script.specs.declared.step.Step.TheVariants.{Event}
+use Rattle.ug_steps.specs.declared.step.Step.TheVariants.{Event}
 use Rattle.ug_script.specs.Journal.{happened_from}
 use Rattle.ug_script.specs.Hints.{hint_played}
 use Rattle.ug_script.specs.LinesRead.{StepReads}

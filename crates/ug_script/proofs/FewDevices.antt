@@ -26,8 +26,8 @@ use Rattle.ug_store.specs.Scripted.{DiskWorld}
 use Rattle.ug_table.specs.Laws.{Stand}
 use Rattle.ug_table.specs.Sweep.{names_of}
 use Rattle.ug_table.specs.declared.standing.Standing.{Standing}
-use Rattle.ug_script.specs.declared.step.Plan.{Plan}
-use Rattle.ug_script.specs.declared.step.Plan.TheVariants as plan
+use Rattle.ug_steps.specs.declared.step.Plan.{Plan}
+use Rattle.ug_steps.specs.declared.step.Plan.TheVariants as plan
 use Rattle.ug_script.specs.Laws.{coming_in}
 use Rattle.ug_script.specs.Replay.{halted, planned}
 use Rattle.ug_script.proofs.DistinctFew.{distinct_few}

@@ -7,8 +7,8 @@ use Rattle.ug_store.specs.Scripted.{DiskWorld}
 use Rattle.ug_core.specs.Answering.{acting, asking, deed_after}
 use Rattle.ug_core.specs.Event.{DaemonState, handling, most_standings, ready}
 use Rattle.ug_core.specs.Storing.{stored_with, storing}
-use Rattle.ug_core.specs.declared.daemon.Event.{Event}
-use Rattle.ug_core.specs.declared.daemon.Event.TheVariants.{Sweep, Order, Hint}
+use Rattle.ug_types.specs.declared.event.Event.{Event}
+use Rattle.ug_types.specs.declared.event.Event.TheVariants.{Sweep, Order, Hint}
 use Rattle.ug_script.specs.Laws.{coming_in}
 use Rattle.ug_script.specs.Replay.{answered_from, event_from, halted, order_played_by, tried_by}
 use Rattle.ug_script.proofs.FewDevices.{halted_few, play_few, standings_few}

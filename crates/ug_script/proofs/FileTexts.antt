@@ -33,8 +33,8 @@ use Rattle.ug_core.specs.Stops.{AllReadable, IsReadable, NoneSaved}
 use Rattle.ug_core.specs.Storing.{WritesRules, stored_with, storing}
 use Rattle.ug_core.specs.declared.changes.Change.{Change}
 use Rattle.ug_core.specs.declared.changes.Change.TheVariants.{Rules as Edits, Set}
-use Rattle.ug_core.specs.declared.daemon.Event.{Event}
-use Rattle.ug_core.specs.declared.daemon.Event.TheVariants.{Sweep, Order, Hint}
+use Rattle.ug_types.specs.declared.event.Event.{Event}
+use Rattle.ug_types.specs.declared.event.Event.TheVariants.{Sweep, Order, Hint}
 use Rattle.ug_core.specs.declared.storing.Stored.{Stored}
 use Rattle.ug_core.specs.declared.storing.Stored.TheVariants as stored
 use Rattle.ug_core.proofs.Kept.{kept_event}

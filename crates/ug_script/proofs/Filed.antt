@@ -24,7 +24,7 @@ use Rattle.ug_core.specs.Event.{DaemonState}
 use Rattle.ug_core.specs.Policy.{Judging}
 use Rattle.ug_core.specs.Starting.{Loads, Outset, Starts, StartsOnFolder, entries_from, start_rules}
 use Rattle.ug_core.specs.declared.start_fault.StartFault.{StartFault}
-use Rattle.ug_core.specs.declared.daemon.Event.{Event}
+use Rattle.ug_types.specs.declared.event.Event.{Event}
 use Rattle.ug_core.specs.declared.storing.Stored.{Stored}
 use Rattle.ug_core.specs.declared.storing.Stored.TheVariants as stored
 use Rattle.ug_core.proofs.Numbering.{entries_length, start_length}

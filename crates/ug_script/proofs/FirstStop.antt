@@ -13,8 +13,8 @@ use Rattle.ug_sysfs.specs.World.{World, event_begun}
 use Rattle.ug_core.specs.Answering.{asking}
 use Rattle.ug_core.specs.Event.{DaemonState, ready, trying}
 use Rattle.ug_core.specs.Storing.{storing}
-use Rattle.ug_core.specs.declared.daemon.Event.{Event}
-use Rattle.ug_core.specs.declared.daemon.Event.TheVariants.{Sweep, Order, Hint}
+use Rattle.ug_types.specs.declared.event.Event.{Event}
+use Rattle.ug_types.specs.declared.event.Event.TheVariants.{Sweep, Order, Hint}
 use Rattle.ug_script.specs.Laws.{HasNoStop, IsFirstStop}
 use Rattle.ug_script.specs.Replay.{order_played_by, begun_disk, event_from, first_stop, halted, tried_by}
 

@@ -49,8 +49,8 @@ use Rattle.ug_core.specs.Storing.{WritesRules, has_written, noted_store, with_ch
 use Rattle.ug_core.specs.declared.changes.Change.{Change}
 use Rattle.ug_core.specs.declared.changes.Change.TheVariants.{Rules, Set}
 use Rattle.ug_core.specs.declared.choosing.Choice.{Choice}
-use Rattle.ug_core.specs.declared.daemon.Event.{Event}
-use Rattle.ug_core.specs.declared.daemon.Event.TheVariants.{Sweep, Order, Hint}
+use Rattle.ug_types.specs.declared.event.Event.{Event}
+use Rattle.ug_types.specs.declared.event.Event.TheVariants.{Sweep, Order, Hint}
 use Rattle.ug_core.specs.declared.storing.Stored.{Stored}
 use Rattle.ug_core.specs.declared.storing.Stored.TheVariants as stored
 use Rattle.ug_core.proofs.Asked.{Asked, CanMade, Chosen, Chosen_first, Found, FoundSo, Missing, Not_found, Refused_first, Refused_so, Set_so, Told_change, Told_lines, Told_watch, asked_of}

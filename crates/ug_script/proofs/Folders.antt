@@ -27,10 +27,11 @@ use Rattle.ug_rule.specs.Texts.{AreRules, NoLines, OneMore}
 use Rattle.ug_rule.proofs.Texts.{read-rules}
 use Rattle.ug_core.specs.Starting.{AreAscending}
 use Rattle.ug_script.specs.declared.folder_lines.FileText.{FileText}
-use Rattle.ug_script.specs.declared.step.FolderLine.{FolderLine}
-use Rattle.ug_script.specs.FolderLines.{AreFilesOf, AreRuleLines, HasLines, HoldsRule, HoldsRules, IsPlaceOf, LineBefore, NoLine, ended_line, file_of, files_of, line_at, lines_length, lines_under, one_line_file, rules_in_folder, text_under, with_line_in}
+use Rattle.ug_steps.specs.declared.step.FolderLine.{FolderLine}
+use Rattle.ug_steps.specs.Grammar.{HoldsRule}
+use Rattle.ug_script.specs.FolderLines.{AreFilesOf, AreRuleLines, HasLines, HoldsRules, IsPlaceOf, LineBefore, NoLine, ended_line, file_of, files_of, line_at, lines_length, lines_under, one_line_file, rules_in_folder, text_under, with_line_in}
 use Rattle.ug_script.specs.RuleLines.{rules_kept, rules_or_none}
-use Rattle.ug_script.proofs.AccessLines.{is_line}
+use Rattle.ug_steps.proofs.AccessLines.{is_line}
 
 -- ---- the order of names
 

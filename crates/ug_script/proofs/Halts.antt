@@ -6,8 +6,8 @@ use Rattle.ug_store.proofs.PlayedDisk.{play_keeps_unplanned, play_unstopped}
 use Rattle.ug_core.specs.Answering.{asking}
 use Rattle.ug_core.specs.Event.{DaemonState}
 use Rattle.ug_core.specs.Storing.{storing}
-use Rattle.ug_core.specs.declared.daemon.Event.{Event}
-use Rattle.ug_core.specs.declared.daemon.Event.TheVariants.{Sweep, Order, Hint}
+use Rattle.ug_types.specs.declared.event.Event.{Event}
+use Rattle.ug_types.specs.declared.event.Event.TheVariants.{Sweep, Order, Hint}
 use Rattle.ug_simulation.specs.Play.{play}
 use Rattle.ug_script.specs.Replay.{order_played_by, halted}
 

@@ -30,10 +30,11 @@ use Rattle.ug_table.specs.Laws.{AreInOrder, swept_before}
 use Rattle.ug_simulation.specs.Play.{NameNobody, tells_memory}
 use Rattle.ug_core.specs.Due.{AreDueInOrder, standings_due}
 use Rattle.ug_core.specs.Event.{DaemonState}
-use Rattle.ug_core.specs.Hinting.{AnswerEach, MeetsPiece, TakesPiece, hinted_names, listed_name, longest_piece, names_due, refusals}
+use Rattle.ug_types.specs.Events.{longest_piece}
+use Rattle.ug_core.specs.Hinting.{AnswerEach, MeetsPiece, TakesPiece, hinted_names, listed_name, names_due, refusals}
 use Rattle.ug_script.specs.Hints.{behind_here, hint_found, hint_played, if_found, header_said, last_part, message_said, name_of_path, placed_once, swept_once, with_answers}
-use Rattle.ug_script.specs.Words.{name_of}
-use Rattle.ug_script.proofs.NamesRead.{name-some, name_text}
+use Rattle.ug_steps.specs.Words.{name_of}
+use Rattle.ug_steps.proofs.NamesRead.{name-some, name_text}
 
 -- ---- the name at the end of a path
 

@@ -22,8 +22,8 @@ use Rattle.ug_conf.specs.Draft.{draft_of}
 use Rattle.ug_conf.specs.Settings.{defaults}
 use Rattle.ug_conf.specs.Texts.{setting_line, settled}
 use Rattle.ug_lines.specs.LineReading.{lines_read}
-use Rattle.ug_core.specs.declared.daemon.Event as events
-use Rattle.ug_core.specs.declared.daemon.Event.TheVariants.{Sweep, Order, Hint}
+use Rattle.ug_types.specs.declared.event.Event as events
+use Rattle.ug_types.specs.declared.event.Event.TheVariants.{Sweep, Order, Hint}
 use Rattle.ug_core.specs.Policy.{Judging}
 use Rattle.ug_core.specs.Answering.{acting, asking, deed_after}
 use Rattle.ug_core.specs.Event.{DaemonState, handling, has_numbers, most_standings, ready}
@@ -38,11 +38,11 @@ use Rattle.ug_types.specs.declared.rule.Rule.{Rule}
 use Rattle.ug_core.proofs.Kept.{stays_there}
 use Rattle.ug_core.proofs.Verdicts.{steps_later}
 use Rattle.ug_command_io.specs.Fold.{LineRefusal, BadLine, InputTooLong, LineOutcome, Writes, Refused, Stage, Going, Halted, is_within, stage_after, plays}
-use Rattle.ug_script.specs.declared.step.Plan.{Plan}
-use Rattle.ug_script.specs.declared.step.Plan.TheVariants as plan
-use Rattle.ug_script.specs.declared.step.Step.{Step}
-use Rattle.ug_script.specs.declared.step.Step.TheVariants.{Skip, Setup, Move, Schedule, Event, Restart}
-use Rattle.ug_script.specs.Grammar.{AsksForRules, step_of_line}
+use Rattle.ug_steps.specs.declared.step.Plan.{Plan}
+use Rattle.ug_steps.specs.declared.step.Plan.TheVariants as plan
+use Rattle.ug_steps.specs.declared.step.Step.{Step}
+use Rattle.ug_steps.specs.declared.step.Step.TheVariants.{Skip, Setup, Move, Schedule, Event, Restart}
+use Rattle.ug_steps.specs.Grammar.{AsksForRules, step_of_line}
 use Rattle.ug_script.specs.Setup.{Beside, no_setup, one_line_more, beside_of, policy_of, rules_disk, setup_rule, rules_from, first_started, steps_of, with_rules}
 use Rattle.ug_script.specs.Script.{Script, fresh, takes_setup, has_started, closed_phase, with_setup_closed, daemon_in, disk_in, can_start}
 use Rattle.ug_script.specs.Replay.{header, quiet, line_added, with_plan, with_restart, planned, order_played_by, answered_from, answered_of, came_of, disk_of, event_of, halted, restarted, taken, taken_if, tried_by, script_step}
@@ -59,7 +59,7 @@ use Rattle.ug_script.proofs.LastStages.{last_stage}
 use Rattle.ug_script.proofs.Lawful.{Holds, HoldsOf, answered_holds, due_order, halted_holds, event_nobody, move_holds, plan_holds, no_standing, start_of, swept_from}
 use Rattle.ug_script.proofs.Stopped.{lawful_event}
 use Rattle.ug_script.proofs.Numbers.{started_fits, fits_numbers}
-use Rattle.ug_script.proofs.Readable.{line_asks}
+use Rattle.ug_steps.proofs.Readable.{line_asks}
 use Rattle.ug_script.proofs.Setups.{few_all, given_first, given_still, given_added, given_setup, policy_new}
 use Rattle.ug_script.proofs.KeptRuns.{Kept, KeptAfter, added_kept, closed_now, coming_low, event_chain, first_holds, kept_still, kept_when, on_kept, quiet_front, skip_kept}
 use Rattle.ug_script.proofs.KeptEnds.{came_kept, daemon_run, event_if, restart_kept}

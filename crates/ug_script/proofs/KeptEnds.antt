@@ -8,11 +8,11 @@ use Rattle.ug_sysfs.specs.Begins.{happened_moves}
 use Rattle.ug_audit.specs.declared.entry.Entry.{Entry}
 use Rattle.ug_simulation.specs.Play.{NameNobody}
 use Rattle.ug_simulation.proofs.Sweeps.{nobody_more}
-use Rattle.ug_core.specs.declared.daemon.Event as events
+use Rattle.ug_types.specs.declared.event.Event as events
 use Rattle.ug_core.specs.Policy.{Judging}
 use Rattle.ug_core.specs.Durable.{IsKept}
 use Rattle.ug_core.specs.Event.{DaemonState}
-use Rattle.ug_core.specs.Hinting.{FitsEvent}
+use Rattle.ug_types.specs.Events.{FitsEvent}
 use Rattle.ug_core.specs.Starting.{start_rules}
 use Rattle.ug_core.specs.Chain.{Happened, Chain, journal}
 use Rattle.std.proofs.Common.{Result, Ok, Err}
@@ -26,8 +26,8 @@ use Rattle.ug_core.proofs.Numbering.{start_length}
 use Rattle.ug_core.proofs.Readable.{start_permanent}
 use Rattle.ug_core.proofs.Chained.{is_run, chain_moves}
 use Rattle.ug_command_io.specs.Fold.{LineRefusal, BadLine, InputTooLong, LineOutcome, Refused}
-use Rattle.ug_script.specs.declared.step.Step.{Step}
-use Rattle.ug_script.specs.declared.step.Step.TheVariants.{Event, Restart}
+use Rattle.ug_steps.specs.declared.step.Step.{Step}
+use Rattle.ug_steps.specs.declared.step.Step.TheVariants.{Event, Restart}
 use Rattle.ug_script.specs.Setup.{Beside, SetupState, beside_of, after_reading, folder_of, policy_of, rules_from, started_at, with_rules}
 use Rattle.ug_script.specs.Script.{Script, daemon_in, disk_in}
 use Rattle.ug_script.specs.Replay.{with_played, with_restart, Played, begun_again, disk_of, event_of, finished, in_script, stopped_of, stopped_text}

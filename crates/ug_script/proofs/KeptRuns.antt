@@ -9,12 +9,12 @@ use Rattle.ug_sysfs.specs.World.{IsUnfailing, World, event_begun}
 use Rattle.ug_audit.specs.declared.entry.Entry.{Entry}
 use Rattle.ug_simulation.specs.Play.{play, NameNobody}
 use Rattle.ug_simulation.proofs.Sweeps.{nobody_more}
-use Rattle.ug_core.specs.declared.daemon.Event as events
-use Rattle.ug_core.specs.declared.daemon.Event.TheVariants.{Sweep, Order, Hint}
+use Rattle.ug_types.specs.declared.event.Event as events
+use Rattle.ug_types.specs.declared.event.Event.TheVariants.{Sweep, Order, Hint}
 use Rattle.ug_core.specs.Policy.{Judging}
 use Rattle.ug_core.specs.Answering.{asking}
 use Rattle.ug_core.specs.Event.{DaemonState, handling, most_standings, ready, trying}
-use Rattle.ug_core.specs.Hinting.{FitsEvent}
+use Rattle.ug_types.specs.Events.{FitsEvent}
 use Rattle.ug_core.specs.Stops.{AllReadable}
 use Rattle.ug_core.specs.Storing.{storing}
 use Rattle.ug_core.specs.Chain.{Happened, Chain, journal}
@@ -35,8 +35,8 @@ use Rattle.ug_core.proofs.Tried.{tries_save}
 use Rattle.ug_core.proofs.SoFar.{journal_append}
 use Rattle.ug_core.proofs.Chained.{chain_more, chain_moves}
 use Rattle.ug_command_io.specs.Fold.{LineOutcome, Writes, Refused}
-use Rattle.ug_script.specs.declared.step.Step.{Step}
-use Rattle.ug_script.specs.declared.step.Step.TheVariants.{Skip, Event}
+use Rattle.ug_steps.specs.declared.step.Step.{Step}
+use Rattle.ug_steps.specs.declared.step.Step.TheVariants.{Skip, Event}
 use Rattle.ug_script.specs.FolderLines.{rules_in_folder}
 use Rattle.ug_script.specs.Setup.{SetupState, beside_of, folder_of, policy_of, rules_disk, setup_rules, first_started, started_at, with_rules}
 use Rattle.ug_script.specs.Script.{Script, Phase, takes_setup, has_started, daemon_by, daemon_in, disk_by, disk_in}

@@ -42,16 +42,16 @@ use Rattle.ug_core.specs.Due.{AreDueInOrder, SettlesDueIn, TellsDue}
 use Rattle.ug_core.specs.Laws.{AnswersEvent, Handled, RunsAnswer, SettlesDue, TellsSweep, TellsEvent}
 use Rattle.ug_core.specs.Storing.{stored_with, storing}
 use Rattle.ug_core.specs.Event.{trying}
-use Rattle.ug_core.specs.declared.daemon.Event.{Event}
-use Rattle.ug_core.specs.declared.daemon.Event.TheVariants.{Sweep, Order, Hint}
+use Rattle.ug_types.specs.declared.event.Event.{Event}
+use Rattle.ug_types.specs.declared.event.Event.TheVariants.{Sweep, Order, Hint}
 use Rattle.ug_core.proofs.Kept.{sweep_adds}
 use Rattle.ug_core.proofs.Handled as handled_names
 use Rattle.ug_core.proofs.Handled.{names_settle, names_tell, sweep_tells}
 use Rattle.ug_core.proofs.Plain.{due_keeps_hub}
 use Rattle.ug_core.proofs.Answered.{Answered, answering_made, answering_told, answered_stands, ready_failures, ready_names}
 use Rattle.ug_core.proofs.Failures.{event_tells, event_names}
-use Rattle.ug_script.specs.declared.step.Plan.{Plan}
-use Rattle.ug_script.specs.declared.step.Plan.TheVariants as plan
+use Rattle.ug_steps.specs.declared.step.Plan.{Plan}
+use Rattle.ug_steps.specs.declared.step.Plan.TheVariants as plan
 use Rattle.ug_script.specs.Replay.{order_played_by, answered_from, event_from, halted, tried_by, planned}
 use Rattle.ug_script.specs.Laws.{calls_of, faults_of}
 use Rattle.ug_script.proofs.Answers.{SweepsSo, handling_ways}

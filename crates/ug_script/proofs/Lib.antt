@@ -1,11 +1,7 @@
 pub mod Answers
-pub mod Moments
-pub mod NamesRead
 mod DistinctFew
 mod FewDevices
 pub mod HintsRead
-pub mod Readable
-pub mod AccessLines
 pub mod KeptRules
 pub mod Folders
 pub mod Phases
@@ -35,15 +31,6 @@ mod WholeLines
 pub mod Counted
 pub mod EntryCounts
 mod Summed
-pub mod LineCuts
-pub mod LineTables
-pub mod HexWords
-pub mod Zones
-pub mod FileWords
-pub mod IfaceLines
-pub mod FolderReads
-pub mod HintLines
-pub mod LineReads
 pub mod Turns
 pub mod Schedules
 pub mod MoveLines

@@ -11,13 +11,13 @@ use Rattle.ug_sysfs.specs.Birth.{plugged_born, plugged_not}
 use Rattle.ug_sysfs.specs.IfaceBirth.{iface_added, iface_gone, iface_nobody, iface_refused}
 use Rattle.ug_sysfs.specs.Serving.{bus_in}
 use Rattle.ug_sysfs.specs.World.{World, carried, moved}
-use Rattle.ug_script.specs.declared.step.Step.{Step}
-use Rattle.ug_script.specs.declared.step.Step.TheVariants as step
-use Rattle.ug_script.specs.LineGrammar.{AsksFor}
+use Rattle.ug_steps.specs.declared.step.Step.{Step}
+use Rattle.ug_steps.specs.declared.step.Step.TheVariants as step
+use Rattle.ug_steps.specs.LineGrammar.{AsksFor}
 use Rattle.ug_script.specs.Replay.{taken_if}
 use Rattle.ug_script.specs.Schedules.{Does, DoesAtOnce, DoesIfaces, LeavesElse}
 use Rattle.ug_script.specs.Script.{Script}
-use Rattle.ug_script.proofs.LineReads.{so_line}
+use Rattle.ug_steps.proofs.LineReads.{so_line}
 
 does : (action : Move) (ds : List Device) → IsSound ds → Does action ds (moved action ds)
 does (move.Plug device) ds sound = (plugged_born device ds, plugged_not device ds)

@@ -19,7 +19,7 @@ use Rattle.ug_core.specs.Starting.{Marked}
 use Rattle.ug_core.specs.Event as event
 use Rattle.ug_core.specs.Due.{standings_due}
 use Rattle.ug_core.specs.Event.{DaemonState, has_numbers, is_low, most_standings, ready}
-use Rattle.ug_core.specs.Hinting.{FitsEvent, longest_piece}
+use Rattle.ug_types.specs.Events.{FitsEvent, longest_piece}
 use Rattle.ug_core.specs.Policy.{Judging}
 use Rattle.ug_script.proofs.Spent.{SpendsDue, due_low, due_spends, found}
 use Rattle.ug_kernel.specs.Tree.{Prog}
@@ -31,8 +31,8 @@ use Rattle.ug_core.specs.Answering.{acting, asking, deed_after}
 use Rattle.ug_core.specs.Event.{trying}
 use Rattle.ug_core.specs.Storing.{stored_with, storing}
 use Rattle.ug_core.specs.declared.choosing.Deed.{Deed}
-use Rattle.ug_core.specs.declared.daemon.Event.{Event}
-use Rattle.ug_core.specs.declared.daemon.Event.TheVariants.{Sweep, Order, Hint}
+use Rattle.ug_types.specs.declared.event.Event.{Event}
+use Rattle.ug_types.specs.declared.event.Event.TheVariants.{Sweep, Order, Hint}
 use Rattle.ug_script.specs.Replay.{order_played_by, answered_from, event_from, halted, tried_by}
 use Rattle.ug_script.proofs.Answers.{ActsSo, Asks, acting_ways, asking_ways, asks_few, is_short_deed}
 use Rattle.ug_script.proofs.OrdersPlayed.{answered_faults, answered_few, answered_so, order_can, trying_so}

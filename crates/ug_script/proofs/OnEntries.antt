@@ -17,8 +17,8 @@ use Rattle.ug_store.specs.Scripted.{DiskWorld}
 use Rattle.ug_core.specs.Answering.{acting, asking, deed_after}
 use Rattle.ug_core.specs.Event.{DaemonState, handling, ready}
 use Rattle.ug_core.specs.Storing.{stored_with, storing}
-use Rattle.ug_core.specs.declared.daemon.Event.{Event}
-use Rattle.ug_core.specs.declared.daemon.Event.TheVariants.{Sweep, Order, Hint}
+use Rattle.ug_types.specs.declared.event.Event.{Event}
+use Rattle.ug_types.specs.declared.event.Event.TheVariants.{Sweep, Order, Hint}
 use Rattle.ug_script.specs.Laws.{AtEachCall, BehindEach, EachInOrder}
 use Rattle.ug_script.specs.Replay.{order_played_by, answered_from, disk_of, event_from, halted, tried_by}
 use Rattle.ug_script.specs.Script.{Script, daemon_in}

@@ -22,13 +22,14 @@ use Rattle.ug_core.specs.Answering.{acting, asking, deed_after}
 use Rattle.ug_core.specs.Changes.{changed_by, is_saved}
 use Rattle.ug_core.specs.Due.{AreDueInOrder, standings_due}
 use Rattle.ug_core.specs.Event.{DaemonState, if_pending, trying}
-use Rattle.ug_core.specs.Hinting.{FitsEvent, longest_piece, refusals}
+use Rattle.ug_types.specs.Events.{FitsEvent, longest_piece}
+use Rattle.ug_core.specs.Hinting.{refusals}
 use Rattle.ug_core.specs.Storing.{after_saving, if_fits, if_saved, stored_with, storing}
 use Rattle.ug_core.specs.declared.changes.Change.{Change}
 use Rattle.ug_core.specs.declared.choosing.Choice.{Choice}
 use Rattle.ug_core.specs.declared.choosing.Deed.{Deed}
-use Rattle.ug_core.specs.declared.daemon.Event.{Event}
-use Rattle.ug_core.specs.declared.daemon.Event.TheVariants.{Sweep, Order, Hint}
+use Rattle.ug_types.specs.declared.event.Event.{Event}
+use Rattle.ug_types.specs.declared.event.Event.TheVariants.{Sweep, Order, Hint}
 use Rattle.ug_core.specs.declared.storing.Stored.{Stored}
 use Rattle.ug_core.specs.declared.storing.Stored.TheVariants as stored
 use Rattle.ug_script.specs.Hints.{hint_played, message_said}

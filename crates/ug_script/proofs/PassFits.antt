@@ -8,11 +8,11 @@ use Rattle.ug_simulation.specs.Play.{play}
 use Rattle.ug_simulation.proofs.Plays.{play_runs, play_told}
 use Rattle.ug_core.specs.Answering.{acting, asking, deed_after}
 use Rattle.ug_core.specs.Event.{DaemonState, handling, most_standings, ready, settling_due, trying}
-use Rattle.ug_core.specs.Hinting.{FitsEvent}
+use Rattle.ug_types.specs.Events.{FitsEvent}
 use Rattle.ug_core.specs.Policy.{Judging}
 use Rattle.ug_core.specs.Storing.{stored_with, storing}
-use Rattle.ug_core.specs.declared.daemon.Event.{Event}
-use Rattle.ug_core.specs.declared.daemon.Event.TheVariants.{Sweep, Order, Hint}
+use Rattle.ug_types.specs.declared.event.Event.{Event}
+use Rattle.ug_types.specs.declared.event.Event.TheVariants.{Sweep, Order, Hint}
 use Rattle.ug_store.specs.PlayDisk.{play_disk}
 use Rattle.ug_store.specs.Scripted.{DiskWorld}
 use Rattle.ug_store.proofs.PlayedDisk.{play_stays_told}

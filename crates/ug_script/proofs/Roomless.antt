@@ -20,22 +20,22 @@ use Rattle.ug_conf.specs.Draft.{Draft}
 use Rattle.ug_conf.specs.Faults.{SettingFault}
 use Rattle.ug_conf.specs.FolderFiles.{folder_length}
 use Rattle.ug_core.specs.Event.{has_numbers}
-use Rattle.ug_core.specs.declared.daemon.Event as events
-use Rattle.ug_script.specs.declared.step.Plan.{Plan}
-use Rattle.ug_script.specs.declared.step.Plan.TheVariants as plan
-use Rattle.ug_script.specs.declared.step.FolderLine.{FolderLine}
-use Rattle.ug_script.specs.declared.step.SetupLine.{SetupLine}
-use Rattle.ug_script.specs.declared.step.SetupLine.TheVariants as setup
-use Rattle.ug_script.specs.declared.step.Step.{Step}
-use Rattle.ug_script.specs.declared.step.Step.TheVariants.{Event, Move, Restart, Schedule, Setup, Skip}
+use Rattle.ug_types.specs.declared.event.Event as events
+use Rattle.ug_steps.specs.declared.step.Plan.{Plan}
+use Rattle.ug_steps.specs.declared.step.Plan.TheVariants as plan
+use Rattle.ug_steps.specs.declared.step.FolderLine.{FolderLine}
+use Rattle.ug_steps.specs.declared.step.SetupLine.{SetupLine}
+use Rattle.ug_steps.specs.declared.step.SetupLine.TheVariants as setup
+use Rattle.ug_steps.specs.declared.step.Step.{Step}
+use Rattle.ug_steps.specs.declared.step.Step.TheVariants.{Event, Move, Restart, Schedule, Setup, Skip}
 use Rattle.ug_script.specs.Against.{BehindSetup, NoHeader, NoRoom, NoStep, NotTaken, RefusesScript, SpeaksAgainst, starts_daemon}
 use Rattle.ug_script.specs.FolderLines.{ScriptFolder, lines_length}
-use Rattle.ug_script.specs.Grammar.{step_of_line}
+use Rattle.ug_steps.specs.Grammar.{step_of_line}
 use Rattle.ug_script.specs.Replay.{Played, begun_again, begun_disk, came_of, event_from, finished, header, in_script, left_played, line_added, quiet, restarted, script_end, script_step, stop_in, stopped_of, taken, taken_if, with_plan, with_played}
 use Rattle.ug_script.specs.Roomless.{FindsNoRoom, TellsRoom, starts_one}
 use Rattle.ug_script.specs.Script.{Script, can_start, daemon_in, disk_in, fits_file, fits_folder, fits_rules, fresh, has_started, takes_setup, with_setup_closed}
 use Rattle.ug_script.specs.Setup.{SetupState, folder_asked, has_rule_room, one_line_more, setup_rule, rules_from, steps_of, with_draft}
-use Rattle.ug_script.specs.Words.{is_entry}
+use Rattle.ug_steps.specs.Words.{is_entry}
 use Rattle.ug_script.proofs.Against.{are_refused}
 use Rattle.ug_script.proofs.Folders.{length_with, lines_append}
 use Rattle.ug_script.proofs.Phases.{closed_started}

@@ -10,13 +10,13 @@ use Rattle.ug_sysfs.specs.declared.script.Scheduled.{Scheduled}
 use Rattle.ug_sysfs.specs.World.{World, over}
 use Rattle.ug_command_io.specs.Fold.{LineRefusal, BadLine, Going, Halted, InputTooLong, LineOutcome, Refused, Stage, Writes, is_within, plays, stage_after}
 use Rattle.ug_core.specs.Event.{has_numbers}
-use Rattle.ug_core.specs.declared.daemon.Event as events
-use Rattle.ug_script.specs.declared.step.Plan.{Plan}
-use Rattle.ug_script.specs.declared.step.Plan.TheVariants as plan
-use Rattle.ug_script.specs.declared.step.SetupLine.{SetupLine}
-use Rattle.ug_script.specs.declared.step.Step.{Step}
-use Rattle.ug_script.specs.declared.step.Step.TheVariants.{Event, Move, Restart, Schedule, Setup, Skip}
-use Rattle.ug_script.specs.Grammar.{step_of_line}
+use Rattle.ug_types.specs.declared.event.Event as events
+use Rattle.ug_steps.specs.declared.step.Plan.{Plan}
+use Rattle.ug_steps.specs.declared.step.Plan.TheVariants as plan
+use Rattle.ug_steps.specs.declared.step.SetupLine.{SetupLine}
+use Rattle.ug_steps.specs.declared.step.Step.{Step}
+use Rattle.ug_steps.specs.declared.step.Step.TheVariants.{Event, Move, Restart, Schedule, Setup, Skip}
+use Rattle.ug_steps.specs.Grammar.{step_of_line}
 use Rattle.ug_script.specs.Passes.{pass_behind}
 use Rattle.ug_script.specs.Replay.{Played, begun_again, begun_disk, came_of, event_from, finished, header, in_script, left_played, line_added, planned, quiet, restarted, script_step, stop_in, stopped_of, taken, taken_if, with_plan, with_played}
 use Rattle.ug_script.specs.Schedules.{IsSchedule, StaysScheduled, behind_event, disk_asked, fail_asked, move_asked, since_event}

@@ -23,16 +23,16 @@ use Rattle.ug_core.specs.Policy.{Judging}
 use Rattle.ug_ruleset.specs.RuleFile.{as_given}
 use Rattle.ug_core.specs.Verdicts.{IsLater}
 use Rattle.ug_iface.specs.declared.rules.IfaceRule as iface
-use Rattle.ug_script.specs.declared.step.AccessLine.{AccessLine}
-use Rattle.ug_script.specs.declared.step.FolderLine.{FolderLine}
-use Rattle.ug_script.specs.declared.step.SetupLine.{SetupLine}
-use Rattle.ug_script.specs.declared.step.SetupLine.TheVariants.{Rule, Folder, Conf, Access, Seed, Zone, IfaceRule}
-use Rattle.ug_script.specs.declared.step.Step.{Step}
-use Rattle.ug_script.specs.declared.step.Step.TheVariants.{Setup}
-use Rattle.ug_script.specs.FolderLines.{AreFilesOf, HasLines, HoldsRule, rules_in_folder, with_line, with_line_in}
-use Rattle.ug_script.specs.Grammar.{AsksForRule}
+use Rattle.ug_steps.specs.declared.step.AccessLine.{AccessLine}
+use Rattle.ug_steps.specs.declared.step.FolderLine.{FolderLine}
+use Rattle.ug_steps.specs.declared.step.SetupLine.{SetupLine}
+use Rattle.ug_steps.specs.declared.step.SetupLine.TheVariants.{Rule, Folder, Conf, Access, Seed, Zone, IfaceRule}
+use Rattle.ug_steps.specs.declared.step.Step.{Step}
+use Rattle.ug_steps.specs.declared.step.Step.TheVariants.{Setup}
+use Rattle.ug_script.specs.FolderLines.{AreFilesOf, HasLines, rules_in_folder, with_line, with_line_in}
+use Rattle.ug_steps.specs.Grammar.{AsksForRule, HoldsRule}
 use Rattle.ug_script.specs.Setup.{SetupState, no_setup, folder_asked, folder_of, has_rule_room, is_offset, with_draft, one_line_more, everything, granted, beside_of, clock_ahead, seeded, no_seed, given_or, policy_of, setup_rule, conf_asked, access_asked, seed_asked, zone_asked, iface_asked, first_or, with_rules, IsSetup}
-use Rattle.ug_script.specs.Words.{is_entry}
+use Rattle.ug_steps.specs.Words.{is_entry}
 use Rattle.ug_script.proofs.Folders.{files_more, lines_more, no_files, no_lines}
 
 pub flat_more : {X : Type 0} (f : Option Step → List X) (steps : List (Option Step)) (step : Option Step) → flat_map f (steps ++ step ∷ []) ≡ flat_map f steps ++ f step

@@ -14,14 +14,14 @@ use Rattle.ug_generate.proofs.Policies.{is_policy, admitted}
 use Rattle.ug_lines.specs.Lines.{lines_of, whole_lines}
 use Rattle.ug_command_io.specs.Statuses.{AnswersLines}
 use Rattle.ug_command_io.specs.Fold.{LineRefusal, BadLine, LineOutcome, Writes, Refused, Stage, Going, Halted, is_within, stage_after, plays, bad_line, fault_line, fault_of, no_memory, read_fault, whole_text}
-use Rattle.ug_script.specs.declared.step.Step.{Step}
-use Rattle.ug_script.specs.declared.step.Step.TheVariants.{Skip, Setup, Move, Schedule, Event, Restart}
-use Rattle.ug_script.specs.Grammar.{AsksForRules, step_of_line}
+use Rattle.ug_steps.specs.declared.step.Step.{Step}
+use Rattle.ug_steps.specs.declared.step.Step.TheVariants.{Skip, Setup, Move, Schedule, Event, Restart}
+use Rattle.ug_steps.specs.Grammar.{AsksForRules, step_of_line}
 use Rattle.ug_script.specs.Setup.{SetupState, one_line_more, setup_rule, folder_asked, conf_asked, access_asked, seed_asked, zone_asked, iface_asked, steps_of}
 use Rattle.ug_script.specs.Script.{Script, fresh, takes_setup}
 use Rattle.ug_script.specs.Replay.{bad, header, line_added, quiet}
 use Rattle.ug_script.specs.Generating.{devices_moved, skimmed, skimmed_if, generate_step, generate_end, names_ports, move_asked, all_moved, devices_left, IsFirstPolicy, TellsFaultAlone}
-use Rattle.ug_script.proofs.Readable.{line_asks}
+use Rattle.ug_steps.proofs.Readable.{line_asks}
 use Rattle.ug_script.proofs.Setups.{IsGiven, InSetup, flat_more, flat_none, given_first, given_still, given_added}
 
 -- ---- devices

@@ -26,7 +26,7 @@ use Rattle.ug_table.proofs.Chains.{Chain, Over, First, Goes, Linked, Listed, Unl
 use Rattle.ug_table.proofs.Faults.{chain_next, chain_given, chain_none}
 use Rattle.ug_core.specs.Due.{standings_due}
 use Rattle.ug_core.specs.Event.{most_standings, settling_due}
-use Rattle.ug_core.specs.Hinting.{longest_piece}
+use Rattle.ug_types.specs.Events.{longest_piece}
 use Rattle.ug_core.specs.Policy.{Judging, later_of, policy_answer, policy_later}
 
 -- a verdict gives no rule an id

@@ -25,8 +25,8 @@ use Rattle.ug_core.specs.Laws.{AnswersEvent, IsInForce}
 use Rattle.ug_core.specs.Policy.{Judging}
 use Rattle.ug_core.specs.Storing.{after_saving, if_fits, if_saved, stored_with, storing}
 use Rattle.ug_core.specs.declared.changes.Change.{Change}
-use Rattle.ug_core.specs.declared.daemon.Event.{Event}
-use Rattle.ug_core.specs.declared.daemon.Event.TheVariants.{Sweep, Order, Hint}
+use Rattle.ug_types.specs.declared.event.Event.{Event}
+use Rattle.ug_types.specs.declared.event.Event.TheVariants.{Sweep, Order, Hint}
 use Rattle.ug_core.specs.declared.storing.Stored.{Stored}
 use Rattle.ug_core.specs.declared.storing.Stored.TheVariants as stored
 use Rattle.ug_script.specs.Laws.{IsLawfulEvent}

@@ -4,11 +4,11 @@ use Rattle.ug_sysfs.specs.World.{World}
 use Rattle.ug_command_io.specs.Fold.{LineRefusal, BadLine, InputTooLong, Going, Refused, of_first}
 use Rattle.ug_command_io.specs.Refusals.{RefusesLines}
 use Rattle.ug_core.specs.Event.{has_numbers}
-use Rattle.ug_core.specs.declared.daemon.Event.{Event}
-use Rattle.ug_script.specs.declared.step.SetupLine.{SetupLine}
-use Rattle.ug_script.specs.declared.step.Step.{Step}
-use Rattle.ug_script.specs.declared.step.Step.TheVariants as step
-use Rattle.ug_script.specs.Grammar.{step_of_line}
+use Rattle.ug_types.specs.declared.event.Event.{Event}
+use Rattle.ug_steps.specs.declared.step.SetupLine.{SetupLine}
+use Rattle.ug_steps.specs.declared.step.Step.{Step}
+use Rattle.ug_steps.specs.declared.step.Step.TheVariants as step
+use Rattle.ug_steps.specs.Grammar.{step_of_line}
 use Rattle.ug_script.specs.Replay.{header, script_end, script_step}
 use Rattle.ug_script.specs.Script.{Script, daemon_in, disk_in, fits_file, has_started, takes_setup}
 use Rattle.ug_script.specs.Setup.{one_line_more}

@@ -12,9 +12,9 @@ use Rattle.ug_sysfs.specs.Below.{IsFelled}
 use Rattle.ug_sysfs.specs.Birth.{CanBeBorn, IsBorn}
 use Rattle.ug_sysfs.specs.World.{World}
 use Rattle.ug_command_io.specs.Fold.{Going, plays}
-use Rattle.ug_script.specs.declared.step.Plan.TheVariants as plan
-use Rattle.ug_script.specs.declared.step.Step.{Step}
-use Rattle.ug_script.specs.declared.step.Step.TheVariants as step
+use Rattle.ug_steps.specs.declared.step.Plan.TheVariants as plan
+use Rattle.ug_steps.specs.declared.step.Step.{Step}
+use Rattle.ug_steps.specs.declared.step.Step.TheVariants as step
 use Rattle.ug_script.specs.Replay.{script_step}
 use Rattle.ug_script.specs.Schedules.{IsSchedule}
 use Rattle.ug_script.specs.Script.{Script}

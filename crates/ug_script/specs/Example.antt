@@ -11,7 +11,7 @@ use Rattle.ug_sysfs.specs.declared.script.Move.TheVariants.{Plug, Unplug}
 use Rattle.ug_sysfs.specs.declared.script.Scheduled.{Scheduled}
 use Rattle.ug_sysfs.specs.Devices.{plugged}
 use Rattle.ug_sysfs.specs.World.{World, over}
-use Rattle.ug_core.specs.declared.daemon.Event.TheVariants.{Sweep}
+use Rattle.ug_types.specs.declared.event.Event.TheVariants.{Sweep}
 use Rattle.ug_script.specs.Replay.{Played, event_from, with_devices}
 use Rattle.ug_script.specs.Setup.{SetupState, no_setup, rules_disk, first_started}
 

@@ -11,7 +11,7 @@ use Rattle.ug_conf.specs.declared.folder_file.FolderFile.{FolderFile}
 use Rattle.ug_rule.specs.Grammar.{Says}
 use Rattle.ug_core.specs.Starting.{AreAscending}
 use Rattle.ug_script.specs.declared.folder_lines.FileText.{FileText}
-use Rattle.ug_script.specs.declared.step.FolderLine.{FolderLine}
+use Rattle.ug_steps.specs.declared.step.FolderLine.{FolderLine}
 use Rattle.ug_script.specs.RuleLines.{rules_kept}
 
 -- the files in byte order of their names, and how many lines they have
@@ -92,12 +92,6 @@ abbrev pub rules_in_folder : List FolderFile → List Rule
 rules_in_folder files = flat_map (λ file. rules_kept file.text) files
 
 -- ---- the rules of the lines
-
--- one line, which is a rule
-pub record HoldsRule (line : List ℕ) : Type 0 where
-  pub single : ¬ Has line 10
-  pub rule : Rule
-  pub says : Says line rule
 
 -- lines that are these rules, with a newline behind each
 pub data AreRuleLines : List ℕ → List Rule → Type 0 where

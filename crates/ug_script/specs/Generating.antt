@@ -17,9 +17,9 @@ use Rattle.ug_print.specs.RuleTexts.{rules_text_of}
 use Rattle.ug_generate.specs.Policies.{judged_in, policy_rules, Admits, IsPolicy}
 use Rattle.ug_command_io.specs.Fold.{LineOutcome, bad_line, no_memory, read_fault}
 use Rattle.ug_script.specs.declared.generator.Generator.{Generator}
-use Rattle.ug_script.specs.declared.step.Step.{Step}
-use Rattle.ug_script.specs.declared.step.Step.TheVariants as step
-use Rattle.ug_script.specs.Grammar.{step_of_line}
+use Rattle.ug_steps.specs.declared.step.Step.{Step}
+use Rattle.ug_steps.specs.declared.step.Step.TheVariants as step
+use Rattle.ug_steps.specs.Grammar.{step_of_line}
 use Rattle.ug_script.specs.Script.{Script, with_setup_closed}
 use Rattle.ug_script.specs.Setup.{SetupState, conf_asked, steps_of}
 use Rattle.ug_script.specs.Replay.{bad, first_step, interpreter_state, line_taken, quiet}

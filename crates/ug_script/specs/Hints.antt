@@ -11,7 +11,7 @@ use Rattle.ug_uevent.specs.declared.hint.Hint.{Hint}
 use Rattle.ug_table.specs.Laws.{swept_before}
 use Rattle.ug_core.specs.Event.{DaemonState}
 use Rattle.ug_core.specs.Hinting.{hinted_names, names_due, refusals}
-use Rattle.ug_script.specs.Words.{name_of}
+use Rattle.ug_steps.specs.Words.{name_of}
 
 -- the part of a path behind its last slash
 

@@ -16,16 +16,16 @@ use Rattle.ug_core.specs.Policy.{Judging}
 use Rattle.ug_core.specs.Rulings.{CanTake, PolicyStep, after_steps, changed_alone, judgements_for, words_for}
 use Rattle.ug_core.specs.Stops.{AllReadable, WasUnsaved}
 use Rattle.ug_core.specs.Verdicts.{IsLater}
-use Rattle.ug_core.specs.declared.daemon.Event as events
+use Rattle.ug_types.specs.declared.event.Event as events
 use Rattle.ug_lines.specs.Lines.{lines_of}
 use Rattle.ug_print.specs.RuleTexts.{rules_text_of}
 use Rattle.ug_ruleset.specs.RuleFile.{IsRuleFile, permanent_rules, permanent_text}
 use Rattle.ug_store.specs.Disk.{Disk, IsImage}
 use Rattle.ug_store.specs.Scripted.{DiskWorld, disk_told}
 use Rattle.ug_command_io.specs.Fold.{LineOutcome, Writes, Refused, Going, plays}
-use Rattle.ug_script.specs.declared.step.Step.{Step}
-use Rattle.ug_script.specs.declared.step.Step.TheVariants.{Schedule, Event, Restart}
-use Rattle.ug_script.specs.Grammar.{step_of_line}
+use Rattle.ug_steps.specs.declared.step.Step.{Step}
+use Rattle.ug_steps.specs.declared.step.Step.TheVariants.{Schedule, Event, Restart}
+use Rattle.ug_steps.specs.Grammar.{step_of_line}
 use Rattle.ug_script.specs.Script.{Script, can_start, daemon_in, disk_in}
 use Rattle.ug_script.specs.Passes.{pass_behind}
 use Rattle.ug_script.specs.Replay.{answered_from, disk_of, event_from, event_of, outcome_of, outcome_text, script_step, stop_in, stopped_text, tried_by}

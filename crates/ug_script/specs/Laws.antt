@@ -18,8 +18,8 @@ use Rattle.ug_core.specs.Storing.{stored_with, storing}
 use Rattle.ug_core.specs.declared.choosing.Choice.{Choice}
 use Rattle.ug_core.specs.declared.storing.Stored.{Stored}
 use Rattle.ug_types.specs.Principals.{Named}
-use Rattle.ug_core.specs.declared.daemon.Event.{Event}
-use Rattle.ug_core.specs.declared.daemon.Event.TheVariants.{Sweep, Order, Hint}
+use Rattle.ug_types.specs.declared.event.Event.{Event}
+use Rattle.ug_types.specs.declared.event.Event.TheVariants.{Sweep, Order, Hint}
 use Rattle.ug_types.specs.declared.saved.Saved.{Saved}
 use Rattle.ug_store.specs.Disk.{IsImage}
 use Rattle.ug_store.specs.PlayDisk.{play_disk}

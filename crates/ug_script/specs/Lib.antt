@@ -1,11 +1,4 @@
-pub mod Grammar
-pub mod LineExamples
-pub mod LineGrammar
-pub mod LineWords
-pub mod Plugs
 pub mod Hints
-pub mod IfaceLines
-pub mod Words
 pub mod Setup
 pub mod Script
 pub mod Replay

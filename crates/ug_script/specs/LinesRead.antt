@@ -3,9 +3,9 @@ use Rattle.std.specs.Prelude.{◌≡◌, ℕ, false, List, Option, Some, None}
 use Rattle.ug_sysfs.specs.World.{World}
 use Rattle.ug_ruleset.specs.RuleFile.{CanSave}
 use Rattle.ug_core.specs.Stops.{IsReadable}
-use Rattle.ug_script.specs.declared.step.Step.{Step}
-use Rattle.ug_script.specs.declared.step.Step.TheVariants.{Event, Restart}
-use Rattle.ug_script.specs.Grammar.{step_of_line}
+use Rattle.ug_steps.specs.declared.step.Step.{Step}
+use Rattle.ug_steps.specs.declared.step.Step.TheVariants.{Event, Restart}
+use Rattle.ug_steps.specs.Grammar.{step_of_line}
 use Rattle.ug_script.specs.Journal.{happened_at}
 use Rattle.ug_script.specs.Script.{Script, has_started}
 

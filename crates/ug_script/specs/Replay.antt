@@ -22,8 +22,8 @@ use Rattle.ug_core.specs.declared.storing.Stored.{Stored}
 use Rattle.ug_core.specs.declared.storing.Stored.TheVariants as stored
 use Rattle.ug_core.specs.declared.choosing.Choice.{Choice}
 use Rattle.ug_core.specs.Event.{DaemonState, daemon_of, handling, has_numbers, ready, trying}
-use Rattle.ug_core.specs.declared.daemon.Event.{Event}
-use Rattle.ug_core.specs.declared.daemon.Event.TheVariants.{Sweep, Order, Hint}
+use Rattle.ug_types.specs.declared.event.Event.{Event}
+use Rattle.ug_types.specs.declared.event.Event.TheVariants.{Sweep, Order, Hint}
 use Rattle.ug_command_io.specs.Fold.{LineRefusal, LineOutcome, Writes, Refused, BadLine, InputTooLong, is_within}
 use Rattle.ug_command_io.specs.Runs.{Steps}
 use Rattle.ug_command_io.specs.declared.machine.Ran.{Ran}
@@ -32,16 +32,16 @@ use Rattle.ug_script.specs.declared.interpreter.Interpreter.{Interpreter}
 use Rattle.ug_script.specs.declared.runner.Runner.{Runner}
 use Rattle.ug_script.specs.declared.progress.Running.{Running}
 use Rattle.ug_script.specs.declared.session.Session.{Session}
-use Rattle.ug_script.specs.declared.step.Plan.{Plan}
-use Rattle.ug_script.specs.declared.step.Plan.TheVariants as plan
-use Rattle.ug_script.specs.declared.step.SetupLine.{SetupLine}
-use Rattle.ug_script.specs.declared.step.Step.{Step}
-use Rattle.ug_script.specs.declared.step.Step.TheVariants as step
-use Rattle.ug_script.specs.declared.step.StepFault.{StepFault}
-use Rattle.ug_script.specs.declared.step.StepFault.TheVariants.{Bad, Memory}
+use Rattle.ug_steps.specs.declared.step.Plan.{Plan}
+use Rattle.ug_steps.specs.declared.step.Plan.TheVariants as plan
+use Rattle.ug_steps.specs.declared.step.SetupLine.{SetupLine}
+use Rattle.ug_steps.specs.declared.step.Step.{Step}
+use Rattle.ug_steps.specs.declared.step.Step.TheVariants as step
+use Rattle.ug_steps.specs.declared.step.StepFault.{StepFault}
+use Rattle.ug_steps.specs.declared.step.StepFault.TheVariants.{Bad, Memory}
 use Rattle.ug_iface.specs.declared.rules.IfaceRule.{IfaceRule}
 use Rattle.ug_script.specs.Passes.{pass_behind}
-use Rattle.ug_script.specs.Grammar.{step_of_line}
+use Rattle.ug_steps.specs.Grammar.{step_of_line}
 use Rattle.ug_script.specs.Hints.{hint_played}
 use Rattle.ug_script.specs.Script.{Script, Started, takes_setup, with_setup_closed, daemon_in, disk_in, can_start, fresh, phase_of}
 use Rattle.ug_script.specs.Setup.{SetupState, beside_of, one_line_more, after_reading, policy_of, rules_from, started_at, with_rules}

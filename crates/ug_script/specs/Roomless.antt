@@ -5,10 +5,10 @@ use Rattle.ug_types.specs.Limits.{text_limit}
 use Rattle.ug_print.specs.RuleTexts.{rules_text_of}
 use Rattle.ug_sysfs.specs.World.{World}
 use Rattle.ug_command_io.specs.Fold.{Going, input_too_long, is_within, plays}
-use Rattle.ug_script.specs.declared.step.Step.{Step}
+use Rattle.ug_steps.specs.declared.step.Step.{Step}
 use Rattle.ug_script.specs.Against.{starts_daemon}
 use Rattle.ug_script.specs.FolderLines.{lines_length}
-use Rattle.ug_script.specs.Grammar.{step_of_line}
+use Rattle.ug_steps.specs.Grammar.{step_of_line}
 use Rattle.ug_script.specs.Replay.{script_step}
 use Rattle.ug_script.specs.Script.{Script}
 use Rattle.ug_script.specs.Setup.{folder_asked, setup_rule, steps_of}

@@ -18,9 +18,9 @@ use Rattle.ug_sysfs.specs.Interfaces.{iface_of}
 use Rattle.ug_sysfs.specs.Queue.{turn_of}
 use Rattle.ug_sysfs.specs.World.{World, carried}
 use Rattle.ug_command_io.specs.Fold.{Going, Writes, plays}
-use Rattle.ug_script.specs.declared.step.Plan.TheVariants as plan
-use Rattle.ug_script.specs.declared.step.Step.{Step}
-use Rattle.ug_script.specs.declared.step.Step.TheVariants as step
+use Rattle.ug_steps.specs.declared.step.Plan.TheVariants as plan
+use Rattle.ug_steps.specs.declared.step.Step.{Step}
+use Rattle.ug_steps.specs.declared.step.Step.TheVariants as step
 use Rattle.ug_script.specs.Replay.{script_step, with_devices}
 use Rattle.ug_script.specs.Script.{Script, has_started, with_setup_closed}
 use Rattle.ug_script.specs.Setup.{steps_of}

@@ -31,17 +31,17 @@ use Rattle.ug_types.specs.declared.text_fault.TextFault.{TextFault}
 use Rattle.ug_command_io.specs.Fold.{LineRefusal, BadLine, InputTooLong}
 use Rattle.ug_store.specs.DiskCalls.{Load}
 use Rattle.ug_store.specs.Scripted.{DiskWorld, past_within, world_at_first}
-use Rattle.ug_script.specs.declared.step.SetupLine.{SetupLine}
-use Rattle.ug_script.specs.declared.step.AccessLine.{AccessLine}
-use Rattle.ug_script.specs.declared.step.FolderLine.{FolderLine}
-use Rattle.ug_script.specs.declared.step.SetupLine.TheVariants.{Rule, Folder, Conf, Access, Seed, Zone, IfaceRule}
-use Rattle.ug_script.specs.declared.step.Step.{Step}
-use Rattle.ug_script.specs.declared.step.Step.TheVariants.{Setup}
-use Rattle.ug_script.specs.declared.step.StepFault.{StepFault}
-use Rattle.ug_script.specs.declared.step.StepFault.TheVariants.{Bad, Memory}
+use Rattle.ug_steps.specs.declared.step.SetupLine.{SetupLine}
+use Rattle.ug_steps.specs.declared.step.AccessLine.{AccessLine}
+use Rattle.ug_steps.specs.declared.step.FolderLine.{FolderLine}
+use Rattle.ug_steps.specs.declared.step.SetupLine.TheVariants.{Rule, Folder, Conf, Access, Seed, Zone, IfaceRule}
+use Rattle.ug_steps.specs.declared.step.Step.{Step}
+use Rattle.ug_steps.specs.declared.step.Step.TheVariants.{Setup}
+use Rattle.ug_steps.specs.declared.step.StepFault.{StepFault}
+use Rattle.ug_steps.specs.declared.step.StepFault.TheVariants.{Bad, Memory}
 use Rattle.ug_script.specs.FolderLines.{AreFilesOf, ScriptFolder, no_folder, rules_in_folder, with_line}
-use Rattle.ug_script.specs.Grammar.{step_of_line}
-use Rattle.ug_script.specs.Words.{is_entry}
+use Rattle.ug_steps.specs.Grammar.{step_of_line}
+use Rattle.ug_steps.specs.Words.{is_entry}
 
 -- the files of the folder of rules, the rules in order, the settings so far, what was granted in
 -- order, the seed and the zone, where they were given, and the rules of interfaces in order

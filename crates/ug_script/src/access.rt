@@ -4,9 +4,9 @@ ghost use Rattle.ug_script.specs.Setup as setups;
 ghost use Rattle.ug_script.specs.Setup.{everything, granted};
 
 use crate::setup::Setup;
-use crate::step::AccessLine;
 use std::alloc::Global;
 use ug_acl::Acl;
+use ug_steps::AccessLine;
 use ug_types::{NoMemory, Principal};
 
 /// The users and groups may do everything.

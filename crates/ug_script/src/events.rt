@@ -1,7 +1,7 @@
 // Events of a script.
 ghost use Rattle.std.specs.Prelude.{◌≡◌, ◌++◌, ◌∷◌, [], true, false, cond, IfOk, List, OnOk, None};
 ghost use Rattle.ug_core.specs.Event.{daemon_of, has_numbers};
-ghost use Rattle.ug_core.specs.Hinting.{FitsEvent};
+ghost use Rattle.ug_types.specs.Events.{FitsEvent};
 ghost use Rattle.ug_core.specs.Stops.{IsReadable};
 ghost use Rattle.ug_simulation.specs.Play.{tells_memory};
 ghost use Rattle.ug_iface.specs.declared.rules.IfaceRule.{IfaceRule};
@@ -26,10 +26,9 @@ use crate::text::{stopped_text, tells_memory};
 use std::alloc::Global;
 use ug_audit::Panel;
 use ug_command_io::Ran;
-use ug_core::Event;
 use ug_store::{MemDisk, Planned, RuleDisk};
 use ug_sysfs::{SimKernel, Sysfs};
-use ug_types::NoMemory;
+use ug_types::{Event, NoMemory};
 
 fn plan_failure(disk: &mut MemDisk, planned: &Planned) -> Result<(), NoMemory>
     ensures ok { OnOk result

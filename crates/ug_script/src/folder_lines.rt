@@ -1,12 +1,13 @@
 // The lines of `folder` lines, file by file.
 ghost use Rattle.std.specs.Prelude.{◌≡◌, ◌<◌, ◌≤◌, ◌++◌, ◌∷◌, [], IfOk, OnOk, OnErr};
 ghost use Rattle.ug_core.specs.Starting.{AreAscending};
-ghost use Rattle.ug_script.specs.FolderLines.{HasLines, HoldsRule, IsPlaceOf, file_of, files_of, no_folder, one_line_file, with_line, with_line_in};
+ghost use Rattle.ug_steps.specs.Grammar.{HoldsRule};
+ghost use Rattle.ug_script.specs.FolderLines.{HasLines, IsPlaceOf, file_of, files_of, no_folder, one_line_file, with_line, with_line_in};
 
-use crate::step::FolderLine;
 use std::alloc::Global;
 use std::marker::Model;
 use ug_conf::FolderFile;
+use ug_steps::FolderLine;
 use ug_types::{List, NoMemory, Text};
 
 /// A file's name, and its text so far.

@@ -8,20 +8,20 @@ ghost use Rattle.ug_script.specs.Script.{Script};
 ghost use Rattle.ug_sysfs.specs.World.{World};
 ghost use Rattle.ug_script.specs.Against.{LacksNumbers, SpeaksAgainst};
 ghost use Rattle.ug_script.specs.Generating.{generate_end, generate_step};
-ghost use Rattle.ug_script.specs.Grammar.{step_of_line};
+ghost use Rattle.ug_steps.specs.Grammar.{step_of_line};
 ghost use Rattle.ug_script.specs.LinesRead.{LineReads};
 ghost use Rattle.ug_script.specs.Replay.{Begins, StartsAgain, done_line, first_step, has_begun, interpreter_state, outcome_text, script_step, script_end};
 ghost use Rattle.ug_script.specs.Summing.{with_lines};
 ghost use Rattle.ug_script.specs.Taking.{StepsToTell, ran_of, reported_by};
 
 use crate::progress::Running;
-use crate::step::StepFault;
 use crate::taken::{Taken, silently};
 use crate::text::put;
 use crate::totals::Totals;
 use std::alloc::Global;
 use ug_command_io::{Machine, Ran};
 use ug_generate::generated_text;
+use ug_steps::StepFault;
 use ug_sysfs::SimKernel;
 use ug_types::{Line, NoMemory, Sink};
 

@@ -5,7 +5,7 @@ ghost use Rattle.ug_types.specs.Ends.{Rose};
 ghost use Rattle.ug_command_io.specs.Runs.{Closes};
 ghost use Rattle.ug_script.specs.Generating as generating;
 ghost use Rattle.ug_script.specs.Generating.{generate_end};
-ghost use Rattle.ug_script.specs.Grammar.{step_of_line};
+ghost use Rattle.ug_steps.specs.Grammar.{step_of_line};
 ghost use Rattle.ug_script.specs.LinesRead.{LineReads};
 ghost use Rattle.ug_script.specs.Script.{Script};
 ghost use Rattle.ug_script.specs.Replay.{StartsAgain, TakesLine, runner_state, script_end, script_step};

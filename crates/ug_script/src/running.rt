@@ -5,8 +5,8 @@ ghost use Rattle.ug_lines.specs.Lines.{lines_of};
 ghost use Rattle.ug_sysfs.specs.World.{World, carried};
 ghost use Rattle.ug_script.specs.Generating as generating;
 ghost use Rattle.ug_script.specs.Generating.{devices_moved, skimmed, skimmed_if};
-ghost use Rattle.ug_script.specs.Grammar.{AsksForRule, AsksForRules, step_of_line};
-ghost use Rattle.ug_core.specs.Hinting.{FitsEvent};
+ghost use Rattle.ug_steps.specs.Grammar.{AsksForRule, AsksForRules, step_of_line};
+ghost use Rattle.ug_types.specs.Events.{FitsEvent};
 ghost use Rattle.ug_core.specs.Stops.{IsReadable};
 ghost use Rattle.ug_script.specs.Journal.{happened_from};
 ghost use Rattle.ug_script.specs.LinesRead.{FirstReads, StepReads};
@@ -21,22 +21,20 @@ ghost use Rattle.ug_core.specs.Event.{daemon_of, has_numbers};
 ghost use Rattle.ug_script.specs.Replay.{StartsAgain, event_by, event_taken, line_taken, outcome_text, restart_taken, restarted, script_of, started_script, taken, taken_if, with_plan};
 
 use crate::events::next_event;
-use crate::parse::parse_line;
 use crate::progress::{Phase, Running};
 use crate::session::Session;
 use crate::setup::Setup;
 use crate::start::{restart_daemon, start_daemon};
-use crate::step::{Plan, SetupLine, Step, StepFault};
 use crate::taken::{Taken, silently};
 use crate::text::whole_text;
 use crate::totals::Totals;
 use std::alloc::Global;
 use ug_command_io::Ran;
-use ug_core::Event;
 use ug_print::RulesTextFault;
+use ug_steps::{Plan, SetupLine, Step, StepFault, parse_line};
 use ug_store::Planned;
 use ug_sysfs::{Move, SimKernel};
-use ug_types::NoMemory;
+use ug_types::{Event, NoMemory};
 
 fn takes_setup(phase: &Phase) -> bool
     ensures { result ≡ script.takes_setup (phase_of phase.now) }

@@ -1,20 +1,18 @@
 // What the lines give that stand before all others.
 ghost use Rattle.std.specs.Prelude.{◌≡◌, ◌++◌, ◌∷◌, [], Some, IfOk};
-ghost use Rattle.ug_script.specs.FolderLines.{HoldsRule};
-ghost use Rattle.ug_script.specs.Grammar.{AsksForRule};
+ghost use Rattle.ug_steps.specs.Grammar.{AsksForRule, HoldsRule};
 ghost use Rattle.ug_script.specs.Setup as lines;
 ghost use Rattle.ug_script.specs.Setup.{Adds, no_setup, one_line_more};
 ghost use Rattle.ug_rule.specs.Grammar.{WellFormed};
 
 use crate::folder_lines::FolderLines;
 use crate::rule_lines::RuleLines;
-use crate::step::{AccessLine, FolderLine, SetupLine, StepFault};
-use crate::words::is_entry;
 use std::alloc::Global;
 use std::marker::Model;
 use ug_conf::{LineFault, SettingsReader};
 use ug_iface::IfaceRule;
 use ug_policy::MAX_RULES;
+use ug_steps::{AccessLine, FolderLine, SetupLine, StepFault, is_entry};
 use ug_types::{NoMemory, Rule};
 
 /// The rules in order, of which the text is kept, the files of the folder before them, the settings so far, what was granted in

@@ -15,8 +15,8 @@ use Rattle.ug_core.specs.Laws.{HandlesEvent}
 use Rattle.ug_core.specs.Storing.{stored_with}
 use Rattle.ug_core.specs.declared.choosing.Deed.{Deed}
 use Rattle.ug_core.specs.declared.choosing.Deed.TheVariants as deed
-use Rattle.ug_core.specs.declared.daemon.Event.{Event}
-use Rattle.ug_core.specs.declared.daemon.Event.TheVariants.{Order}
+use Rattle.ug_types.specs.declared.event.Event.{Event}
+use Rattle.ug_types.specs.declared.event.Event.TheVariants.{Order}
 use Rattle.ug_serve.specs.Turns.{Core, IsHandled, TurnEvent}
 
 -- however the calls are answered, the end is so

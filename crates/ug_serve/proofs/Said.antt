@@ -16,8 +16,8 @@ use Rattle.ug_proto.specs.Replies.{reply_text}
 use Rattle.ug_kernel.specs.declared.sysfs.Sysfs
 use Rattle.ug_store.specs.declared.disk.RuleDisk
 use Rattle.ug_core.specs.Event.{DaemonState}
-use Rattle.ug_core.specs.declared.daemon.Event.{Event}
-use Rattle.ug_core.specs.declared.daemon.Event.TheVariants.{Order}
+use Rattle.ug_types.specs.declared.event.Event.{Event}
+use Rattle.ug_types.specs.declared.event.Event.TheVariants.{Order}
 use Rattle.ug_links.specs.declared.step.LinkStep.{LinkStep}
 use Rattle.ug_links.specs.declared.step.LinkStep.TheVariants.{AcceptedAt}
 use Rattle.ug_links.specs.declared.links.Accepted.TheVariants as accepted

@@ -18,8 +18,8 @@ use Rattle.ug_core.specs.Storing.{if_in_force, noted_save, noted_store, pending_
 use Rattle.ug_core.specs.declared.changes.Change.{Change}
 use Rattle.ug_core.specs.declared.choosing.Deed.{Deed}
 use Rattle.ug_core.specs.declared.choosing.Deed.TheVariants as deed
-use Rattle.ug_core.specs.declared.daemon.Event.{Event}
-use Rattle.ug_core.specs.declared.daemon.Event.TheVariants.{Sweep, Order, Hint}
+use Rattle.ug_types.specs.declared.event.Event.{Event}
+use Rattle.ug_types.specs.declared.event.Event.TheVariants.{Sweep, Order, Hint}
 use Rattle.ug_core.specs.declared.storing.Stored.{Stored}
 use Rattle.ug_core.specs.declared.storing.Stored.TheVariants as stored
 

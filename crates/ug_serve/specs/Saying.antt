@@ -8,8 +8,8 @@ use Rattle.ug_acl.specs.Acls.{Addition}
 use Rattle.ug_audit.specs.declared.entry.Entry.{Entry}
 use Rattle.ug_proto.specs.declared.reply.Reply.{Reply}
 use Rattle.ug_proto.specs.Replies.{reply_text}
-use Rattle.ug_core.specs.declared.daemon.Event.{Event}
-use Rattle.ug_core.specs.declared.daemon.Event.TheVariants.{Sweep, Order, Hint}
+use Rattle.ug_types.specs.declared.event.Event.{Event}
+use Rattle.ug_types.specs.declared.event.Event.TheVariants.{Sweep, Order, Hint}
 use Rattle.ug_links.specs.declared.step.LinkStep.{LinkStep}
 use Rattle.ug_proto.specs.Lines.{stream_lines}
 use Rattle.ug_sessions.specs.Answering.{may_listen}

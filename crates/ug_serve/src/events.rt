@@ -2,7 +2,7 @@
 ghost use Rattle.std.specs.Prelude.{◌≡◌, List, Some, IsTrue};
 ghost use Rattle.ug_audit.specs.Journal.{members};
 ghost use Rattle.ug_core.specs.Event.{daemon_of, has_numbers};
-ghost use Rattle.ug_core.specs.Hinting.{FitsEvent};
+ghost use Rattle.ug_types.specs.Events.{FitsEvent};
 ghost use Rattle.ug_serve.specs.Responses.{ChangesSessions, Responds};
 ghost use Rattle.ug_serve.specs.Turns.{Events, IsHandled, ServesOrders, TurnEvent, core_of, with_server};
 
@@ -10,12 +10,12 @@ use crate::respond::{notify_of_event, respond};
 use rand_chacha::ChaCha20Rng;
 use std::alloc::Global;
 use ug_audit::{Auditor, Panel};
-use ug_core::{Daemon, Event};
+use ug_core::Daemon;
 use ug_kernel::Sysfs;
 use ug_links::LinkId;
 use ug_sessions::Server;
 use ug_store::RuleDisk;
-use ug_types::Moment;
+use ug_types::{Event, Moment};
 
 /// Whether the numbers leave room for an event.
 pub fn has_room<Y: Sysfs, D: RuleDisk>(

@@ -21,6 +21,7 @@ use crate::watch::{Watch, find_allowed, look_again, look_at, matches_found, rule
 use std::alloc::Global;
 use std::collections::BTreeMap;
 use std::marker::Model;
+use std::mem::replace;
 use std::ops::Bound;
 use ug_types::{NoMemory, NodeName, Principal, Query, Target};
 
@@ -98,10 +99,11 @@ impl Standings {
         ensures items { self.new.items ≡ self.old.items }
         ensures place { self.new.place ≡ self.old.place }
     {
-        self.watch = match query {
+        let watch = match query {
             Some(query) => watching(alloc, query, &self.by_name),
             None => None,
         };
+        drop(replace(&mut self.watch, watch));
     }
 
     /// The standing of a number.

@@ -2,6 +2,7 @@
 ghost use Rattle.std.specs.Prelude.{◌≡◌, true, IfOk};
 
 use std::alloc::Global;
+use std::mem::replace;
 use ug_types::{Id, Iface, List, NoMemory, Query, Text, Values};
 
 /// A value of a query's attribute.
@@ -139,6 +140,23 @@ fn copy_values<T: Value>(
     }
 }
 
+// Puts a copy of the values in place of others, where there is memory for it.
+fn copy_into<T: Value>(
+    alloc: Global,
+    values: &Option<Values<T>>,
+    made: &mut Option<Values<T>>,
+) -> bool
+    ensures { result ≡ true → made.new ≡ values.now }
+{
+    match copy_values(alloc, values) {
+        Ok(copied) => {
+            drop(replace(made, copied));
+            true
+        }
+        Err(_) => false,
+    }
+}
+
 fn copy_label(alloc: Global, label: &Option<Text>) -> Result<Option<Text>, NoMemory>
     ensures { IfOk result (λ made. made ≡ label.now) }
 {
@@ -148,19 +166,56 @@ fn copy_label(alloc: Global, label: &Option<Text>) -> Result<Option<Text>, NoMem
     }
 }
 
+// Puts a copy of the label in place of another, where there is memory for it.
+fn copy_label_into(alloc: Global, label: &Option<Text>, made: &mut Option<Text>) -> bool
+    ensures { result ≡ true → made.new ≡ label.now }
+{
+    match copy_label(alloc, label) {
+        Ok(copied) => {
+            drop(replace(made, copied));
+            true
+        }
+        Err(_) => false,
+    }
+}
+
+fn empty_query() -> Query {
+    Query {
+        id: None,
+        serial: None,
+        name: None,
+        hash: None,
+        parent_hash: None,
+        via_port: None,
+        interface: None,
+        connect: None,
+        label: None,
+    }
+}
+
+// Puts a copy of each attribute in place of those of another query, where there is memory for it.
+fn copy_attributes(alloc: Global, query: &Query, made: &mut Query) -> bool
+    ensures { result ≡ true → made.new ≡ query.now }
+{
+    copy_into(alloc, &query.id, &mut made.id)
+        && copy_into(alloc, &query.serial, &mut made.serial)
+        && copy_into(alloc, &query.name, &mut made.name)
+        && copy_into(alloc, &query.hash, &mut made.hash)
+        && copy_into(alloc, &query.parent_hash, &mut made.parent_hash)
+        && copy_into(alloc, &query.via_port, &mut made.via_port)
+        && copy_into(alloc, &query.interface, &mut made.interface)
+        && copy_into(alloc, &query.connect, &mut made.connect)
+        && copy_label_into(alloc, &query.label, &mut made.label)
+}
+
 /// The same query once more.
 pub fn copy_query(alloc: Global, query: &Query) -> Result<Query, NoMemory>
     ensures { IfOk result (λ made. made ≡ query.now) }
 {
-    Ok(Query {
-        id: copy_values(alloc, &query.id)?,
-        serial: copy_values(alloc, &query.serial)?,
-        name: copy_values(alloc, &query.name)?,
-        hash: copy_values(alloc, &query.hash)?,
-        parent_hash: copy_values(alloc, &query.parent_hash)?,
-        via_port: copy_values(alloc, &query.via_port)?,
-        interface: copy_values(alloc, &query.interface)?,
-        connect: copy_values(alloc, &query.connect)?,
-        label: copy_label(alloc, &query.label)?,
-    })
+    let mut made = empty_query();
+    if copy_attributes(alloc, query, &mut made) {
+        return Ok(made);
+    }
+    drop(made);
+    Err(NoMemory)
 }

@@ -54,7 +54,10 @@ fn keep(standings: &mut Standings, standing: Standing, wrote: bool, settled: Set
     let mut standing = standing;
     standing.defaulted = wrote;
     match settled {
-        Settled::Nobody => standings.release(),
+        Settled::Nobody => {
+            drop(standing);
+            standings.release();
+        }
         Settled::Stands => {
             standing.settled = true;
             standing.removed = standing.removed || is_reject(standing.verdict);
@@ -230,9 +233,14 @@ impl Table {
     {
         let (judged, hash) = match facts {
             Ok(facts) => facts,
-            Err(_) => return self.lack_memory(sysfs, name, bound.held, judge, hub_default, out),
+            Err(_) => {
+                let held = bound.held;
+                drop(bound);
+                drop(facts);
+                return self.lack_memory(sysfs, name, held, judge, hub_default, out);
+            }
         };
-        self.judge_bound(
+        let settled = self.judge_bound(
             alloc,
             sysfs,
             name,
@@ -243,7 +251,9 @@ impl Table {
             hash,
             hub_default,
             out,
-        )
+        );
+        drop(bound);
+        settled
     }
 
     /// Binds a name that has no standing, and judges its device.
@@ -271,7 +281,8 @@ impl Table {
         ensures next { self.new.next ≤ self.old.next + 1 }
     {
         let parent = parent_standing(&self.standings, name);
-        match bind_name(alloc, sysfs, name, parent) {
+        let binding = bind_name(alloc, sysfs, name, parent);
+        match binding {
             Binding::Bound(bound) => {
                 let facts = facts_of(alloc, name, &bound, parent);
                 self.admit(
@@ -286,10 +297,22 @@ impl Table {
                     out,
                 )
             }
-            Binding::Absent => Settled::Nobody,
-            Binding::Vanished => Settled::Nobody,
-            Binding::Failed(failed) => note_fault(out, name, Fault::Call(failed)),
-            Binding::Memory => note_fault(out, name, Fault::Memory),
+            Binding::Absent => {
+                drop(binding);
+                Settled::Nobody
+            }
+            Binding::Vanished => {
+                drop(binding);
+                Settled::Nobody
+            }
+            Binding::Failed(failed) => {
+                drop(binding);
+                note_fault(out, name, Fault::Call(failed))
+            }
+            Binding::Memory => {
+                drop(binding);
+                note_fault(out, name, Fault::Memory)
+            }
         }
     }
 

@@ -15,6 +15,7 @@ ghost use Rattle.ug_table.specs.Slots.{filled, slot_of, empty_of, AllNamed};
 use crate::bring::is_reject;
 use crate::standing::Standing;
 use std::collections::BTreeMap;
+use std::mem::replace;
 use ug_types::{Cause, NodeName, Principal, Target};
 
 pub(crate) type Slots = BTreeMap<NodeName, Option<Standing>>;
@@ -121,7 +122,7 @@ pub(crate) fn forget(slots: &mut Slots, name: &NodeName)
         ≡ filter (λ n. not (same_name n name.now)) (empty_of slots.old.entries) }
     ensures len { length slots.new.entries ≤ length slots.old.entries }
 {
-    let _gone = slots.remove(name);
+    drop(slots.remove(name));
 }
 
 /// Makes a place for a name that has no standing.
@@ -137,7 +138,10 @@ pub(crate) fn make_place(slots: &mut Slots, name: &NodeName) -> bool
     ensures place { OnTrue result (empty_of slots.new.entries ≡ name.now ∷ []) }
     ensures same { OnFalse result (slots.new.entries ≡ slots.old.entries) }
 {
-    slots.insert(*name, None).is_ok()
+    let made = slots.insert(*name, None);
+    let has_place = made.is_ok();
+    drop(made);
+    has_place
 }
 
 /// Fills the place of a standing.
@@ -153,8 +157,9 @@ pub(crate) fn fill(slots: &mut Slots, standing: Standing)
     ensures len { length slots.new.entries ≡ length slots.old.entries }
 {
     let name = standing.name;
-    if let Some(slot) = slots.get_mut(&name) {
-        *slot = Some(standing);
+    match slots.get_mut(&name) {
+        Some(slot) => drop(replace(slot, Some(standing))),
+        None => drop(standing),
     }
 }
 

@@ -7,10 +7,10 @@ use std::alloc::Global;
 use ug_acl::Acl;
 use ug_audit::Panel;
 use ug_conf::default_settings;
-use ug_core::{Daemon, Event, StartFault, line_of};
+use ug_core::{Daemon, StartFault, line_of};
 use ug_store::{MemDisk, RuleDisk};
 use ug_sysfs::{SimKernel, Sysfs};
-use ug_types::{List, Moment};
+use ug_types::{Event, List, Moment};
 
 // Settings by default, nobody may do anything, the clock of UTC, and a seed of zeros.
 fn start(alloc: Global, disk: &mut MemDisk) -> Result<Daemon<'static, ChaCha20Rng>, StartFault> {

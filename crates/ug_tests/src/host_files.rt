@@ -5,8 +5,9 @@ use std::fs;
 use std::os::unix::fs::{MetadataExt, symlink};
 use std::time::Instant;
 use ug_conf::{ConfFiles, FileRead, FolderRead};
-use ug_host::{ConfFolder, RuleFile, SocketWaiter, SystemClock};
+use ug_host::{ConfFolder, RuleFile, SystemClock};
 use ug_links::{Clock, Ready, Waiter, Woken};
+use ug_sockets::SocketWaiter;
 use ug_store::{DiskAnswer, Loaded, RuleDisk};
 
 type Disk = RuleFile<HostRuntime>;

@@ -4,10 +4,10 @@ use std::fs;
 use std::os::unix::fs::{FileTypeExt, MetadataExt};
 use std::os::unix::net::{UnixListener, UnixStream};
 use std::time::Instant;
-use ug_host::{Reached, SocketFolder, SocketLink, SocketWaiter};
 use ug_links::{
     Accepted, Dialled, Link, LinkId, LinkRead, LinkWrote, Links, Listening, Ready, Waiter, Woken,
 };
+use ug_sockets::{Reached, SocketFolder, SocketLink, SocketWaiter};
 use ug_types::{Principal, Put, Taken};
 
 pub type Sockets = SocketFolder<HostRuntime>;

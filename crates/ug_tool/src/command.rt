@@ -137,14 +137,27 @@ pub fn carry_out<S: Source, K: Sink, L: Link>(
     ensures link { asks_daemon command.now ≡ false → link.new ≡ link.old }
 {
     match command {
-        Command::Replay => replay_over(alloc, input, out, &mut SimKernel::new(alloc)),
-        Command::Summarize => summarize(alloc, input, out, &mut SimKernel::new(alloc)),
+        Command::Replay => {
+            let mut kernel = SimKernel::new(alloc);
+            let status = replay_over(alloc, input, out, &mut kernel);
+            drop(kernel);
+            status
+        }
+        Command::Summarize => {
+            let mut kernel = SimKernel::new(alloc);
+            let status = summarize(alloc, input, out, &mut kernel);
+            drop(kernel);
+            status
+        }
         Command::MakeScript { events, start } => write_script(*events, *start, out),
         Command::ReadDescriptor => list_descriptors(alloc, input, out),
         Command::CheckRules => check_rules(alloc, input, out),
         Command::LintRules { prune } => lint_rules(alloc, *prune, input, out),
         Command::GeneratePolicy => {
-            generate_policy(alloc, input, out, &mut SimKernel::new(alloc))
+            let mut kernel = SimKernel::new(alloc);
+            let status = generate_policy(alloc, input, out, &mut kernel);
+            drop(kernel);
+            status
         }
         Command::AddUser { name: _, asked } => add_user(alloc, asked, input, out),
         Command::Ask { socket, request } => ask_daemon(alloc, link, socket.bytes(), request, out),

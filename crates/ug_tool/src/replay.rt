@@ -54,7 +54,9 @@ pub fn replay_over<S: Source, K: Sink>(
     ensures written { result ≡ 5 → Rose (K.faults out.old) (K.faults out.new) }
 {
     let mut interpreter = Interpreter::new();
-    run(alloc, input, out, &mut interpreter, kernel)
+    let status = run(alloc, input, out, &mut interpreter, kernel);
+    drop(interpreter);
+    status
 }
 
 /// The same, or writes numbers of the journal in its place.

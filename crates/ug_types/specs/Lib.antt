@@ -1,6 +1,7 @@
 pub mod Access
 pub mod Elements
 pub mod Ends
+pub mod Events
 pub mod Failing
 pub mod Limits
 pub mod Names

@@ -2,6 +2,7 @@
 #![tactic(auto)]
 
 mod access;
+mod event;
 mod host;
 mod laws;
 mod limits;
@@ -24,6 +25,7 @@ mod text_fault;
 mod verdict;
 
 pub use access::{Privilege, Section};
+pub use event::Event;
 pub use host::{ReaderSource, WriterSink};
 pub use laws::{parents_law, targets_law};
 pub use limits::TEXT_LIMIT;

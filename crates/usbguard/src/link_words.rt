@@ -1,6 +1,6 @@
 // What the program tells a person of the daemon's socket.
 use std::{fs, str};
-use ug_host::{Reached, SocketLink};
+use ug_sockets::{Reached, SocketLink};
 
 /// The folder of the daemon's sockets.
 const SOCKETS: &str = "/run/usbguard";

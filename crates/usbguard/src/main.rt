@@ -22,7 +22,8 @@ use crate::usage::{tell, tell_unreadable};
 use crate::waiting::tell_waiting;
 use std::io;
 use std::process::ExitCode;
-use ug_host::{SocketLink, fill_standard_files};
+use ug_host::fill_standard_files;
+use ug_sockets::SocketLink;
 use ug_sysfs::SimKernel;
 use ug_tool::{run_replay, run_tool};
 use ug_types::{Put, ReaderSource, Sink, WriterSink};
@@ -42,7 +43,9 @@ fn run<K: Sink>(rt: HostRuntime, words: &[&str], out: &mut K) -> u8 {
         ["daemon", behind @ ..] => serve(rt, behind),
         ["replay", ..] => {
             let mut kernel = SimKernel::new(rt.alloc());
-            run_replay(rt.alloc(), words, &mut input, out, &mut kernel)
+            let status = run_replay(rt.alloc(), words, &mut input, out, &mut kernel);
+            drop(kernel);
+            status
         }
         _ => {
             let mut link = SocketLink::new(rt);
@@ -50,6 +53,7 @@ fn run<K: Sink>(rt: HostRuntime, words: &[&str], out: &mut K) -> u8 {
             if status == 8 {
                 tell_link(&rt, &link);
             }
+            drop(link);
             status
         }
     }

@@ -61,7 +61,11 @@ fn leave_defaults(rt: &HostRuntime, words: &[&str]) -> bool {
         return false;
     };
     match settings_at(rt, &path) {
-        Some(settings) => leaves_defaults(&settings),
+        Some(settings) => {
+            let leaves = leaves_defaults(&settings);
+            drop(settings);
+            leaves
+        }
         None => false,
     }
 }

@@ -7,10 +7,11 @@ use std::rc::Rc;
 use std::{env, io, mem};
 use ug_audit::{Auditor, Panel};
 use ug_host::{
-    ConfFolder, JournalOutput, LocalZone, RefusalReader, RuleFile, SocketFolder, SocketWaiter,
-    StartRefusal, SysfsFolder, SystemClock, WriterAuditor, read_seed,
+    ConfFolder, JournalOutput, LocalZone, RefusalReader, RuleFile, StartRefusal, SysfsFolder,
+    SystemClock, WriterAuditor, read_seed,
 };
 use ug_serve::run_daemon;
+use ug_sockets::{SocketFolder, SocketWaiter};
 
 /// Where the devices are, what counts the kernel's announcements, and where the sockets come.
 const DEVICES: &str = "/sys/bus/usb/devices";
@@ -99,20 +100,24 @@ fn serve_with(
     let zone = LocalZone::read(&rt, alloc, "/etc/localtime");
     let mut files = ConfFolder::new(rt);
     let mut disk = RuleFile::new(rt, alloc);
+    let mut sysfs = SysfsFolder::new(rt, alloc, devices);
+    let mut panel = Panel::new(members);
     let status = run_daemon(
         alloc,
         words,
         seed,
         zone.time_zone(),
-        &mut SysfsFolder::new(rt, alloc, devices),
+        &mut sysfs,
         &mut disk,
         &mut files,
         links,
         waiter,
         &mut SystemClock::new(rt),
-        &mut Panel::new(members),
+        &mut panel,
         u64::MAX,
     );
+    drop(panel);
+    drop(sysfs);
     let paths = LastPaths {
         files: files.last_path(),
         rules: disk.path(),
@@ -120,6 +125,9 @@ fn serve_with(
     };
     let refusal = found.take();
     tell_end(&rt, status, refusal.as_ref(), &paths);
+    drop(disk);
+    drop(files);
+    drop(zone);
     status
 }
 
@@ -143,10 +151,14 @@ pub fn serve(rt: HostRuntime, words: &[&str]) -> u8 {
     };
     let mut links = match make_links(rt, &waiter) {
         Ok(links) => links,
-        Err(e) => return status_without(&e),
+        Err(e) => {
+            drop(waiter);
+            return status_without(&e);
+        }
     };
     tell_open_hubs(&rt, words, DEVICES);
     let status = serve_with(rt, words, seed, devices, &mut waiter, &mut links, found);
     mem::forget(links);
+    drop(waiter);
     status
 }

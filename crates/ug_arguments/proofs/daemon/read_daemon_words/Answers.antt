@@ -4,4 +4,4 @@ use Rattle.ug_arguments.proofs.SimpleApps.{daemon_simple}
 use Rattle.ug_arguments.proofs.daemon.read_daemon_words.Goals as goal
 
 pub find_values-requires : goal.find_values-requires
-find_values-requires c = subst (λ (app : App). is_simple_and_free app ≡ true) (sym c.in_ok-command.ensures) daemon_simple
+find_values-requires c = subst (λ (app : App). is_simple_and_free app ≡ true) (sym c.in-Ok.ensures) daemon_simple

@@ -4,15 +4,15 @@ use Rattle.clap.proofs.OnLiterals.{clap_on_literals}
 use Rattle.ug_numerals.specs.Numbers.{number_in}
 use Rattle.ug_proto.specs.Texts.{request_text}
 use Rattle.ug_types.specs.Access.{privilege_word}
-use Rattle.ug_arguments.specs.CommandWords.{asking_word_in, word_in}
+use Rattle.ug_arguments.specs.CommandWords.{asking_word_in, rule_word_in, word_in}
 use Rattle.ug_arguments.specs.Commands.{command_in, default_most, default_settings, default_socket, meaning, settings_path}
 use Rattle.ug_arguments.specs.SimpleCommands.{app_of_word, rows_in}
 use Rattle.ug_arguments.proofs.laws.daemon_lines_law.Goals as goal
 
 pub returns-clause-usual : goal.returns-clause-usual
-unfolding digits clap_on_literals number_in request_text privilege_word asking_word_in word_in command_in default_most default_settings default_socket meaning settings_path app_of_word rows_in
+unfolding digits clap_on_literals number_in request_text privilege_word asking_word_in rule_word_in word_in command_in default_most default_settings default_socket meaning settings_path app_of_word rows_in
 returns-clause-usual c = refl
 
 pub returns-clause-conf : goal.returns-clause-conf
-unfolding digits clap_on_literals number_in request_text privilege_word asking_word_in word_in command_in default_most default_settings default_socket meaning settings_path app_of_word rows_in
+unfolding digits clap_on_literals number_in request_text privilege_word asking_word_in rule_word_in word_in command_in default_most default_settings default_socket meaning settings_path app_of_word rows_in
 returns-clause-conf c = refl

@@ -1,7 +1,7 @@
 use Rattle.std.proofs.Common.{◌≡◌, ℕ, ◌+◌, ◌<◌, List, [], ◌∷◌, ◌++◌, length, take, map, get_or, sym, ◌∙◌, ap, append_assoc}
 use Rattle.std.proofs.lemmas.List.{map-append, take_more}
 use Rattle.ug_acl.specs.Acls.{Addition}
-use Rattle.ug_script.specs.declared.step.AccessLine.{AccessLine}
+use Rattle.ug_steps.specs.declared.step.AccessLine.{AccessLine}
 use Rattle.ug_script.specs.Setup.{granted}
 use Rattle.ug_script.proofs.access.allow_granted.Goals as goal
 

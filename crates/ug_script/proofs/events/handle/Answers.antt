@@ -1,7 +1,7 @@
 use Rattle.std.proofs.Common.{subst}
 use Rattle.ug_core.specs.Durable.{WritesEvent}
 use Rattle.ug_core.specs.Event.{DaemonState, daemon_of}
-use Rattle.ug_core.specs.declared.daemon.Event as daemon
+use Rattle.ug_types.specs.declared.event.Event as daemon
 use Rattle.ug_core.specs.declared.storing.Stored.{Stored}
 use Rattle.ug_ruleset.specs.RuleFile.{IsSaveable}
 use Rattle.ug_store.specs.Scripted.{DiskWorld, MemKeeps}

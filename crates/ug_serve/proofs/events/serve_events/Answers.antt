@@ -1,6 +1,6 @@
 use Rattle.std.proofs.Common.{◌≡◌, rules, [], ◌∷◌, None, refl, sym, ◌∙◌}
 use Rattle.ug_audit.specs.Journal.{members}
-use Rattle.ug_core.specs.declared.daemon.Event.TheVariants.{Order, Sweep}
+use Rattle.ug_types.specs.declared.event.Event.TheVariants.{Order, Sweep}
 use Rattle.ug_core.specs.Event.{daemon_of}
 use Rattle.ug_serve.specs.Turns.{TurnEvent, Sweeps, Sweeps_not, Serves, Serves_not, core_of, with_server}
 use Rattle.ug_serve.proofs.Replied.{order_leaves}

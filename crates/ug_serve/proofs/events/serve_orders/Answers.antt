@@ -1,7 +1,7 @@
 use Rattle.std.proofs.Common.{◌≡◌, rules, arith, ◌<◌, ◌≤◌, [], ◌∷◌, true, false, refl, sym, ◌∙◌}
 use Rattle.ug_audit.specs.Journal.{members}
 use Rattle.ug_core.specs.Event.{daemon_of}
-use Rattle.ug_core.specs.declared.daemon.Event.TheVariants.{Order}
+use Rattle.ug_types.specs.declared.event.Event.TheVariants.{Order}
 use Rattle.ug_sessions.specs.Waiting.{lines_waiting}
 use Rattle.ug_sessions.proofs.Waiting.{hands_fewer}
 use Rattle.ug_serve.specs.Turns.{core_of, with_server}

@@ -6,15 +6,15 @@ use Rattle.ug_table.proofs.slots.make_place.Goals as goal
 
 pub returns-clause-items : goal.returns-clause-items
 returns-clause-items c =
-    either_way c.insert.result _ _ (filled c.insert.new.self.entries ≡ filled c.args.slots.now.entries) c.insert.ensures.entries c.insert.ensures.err
+    either_way c.insert-made.result _ _ (filled c.insert-made.new.self.entries ≡ filled c.args.slots.now.entries) c.insert-made.ensures.entries c.insert-made.ensures.err
     (λ e. ap filled e ∙ place_slot c.args.name.now c.args.slots.now.entries c.requires.ordered c.requires.bear c.requires.absent)
     (λ e. ap filled e)
 
 pub returns-clause-bear : goal.returns-clause-bear
 returns-clause-bear c =
-    either_way c.insert.result _ _ (AllNamed c.insert.new.self.entries) c.insert.ensures.entries c.insert.ensures.err
+    either_way c.insert-made.result _ _ (AllNamed c.insert-made.new.self.entries) c.insert-made.ensures.entries c.insert-made.ensures.err
     (λ e. subst AllNamed (sym e) (bear_place c.args.name.now c.args.slots.now.entries c.requires.bear))
     (λ e. subst AllNamed (sym e) c.requires.bear)
 
 pub returns-clause-place : goal.returns-clause-place
-returns-clause-place c = OnTrue_from c.is_ok.result _ (λ t. ap empty_of (when_ok c.insert.result _ (sym c.is_ok.ensures.value ∙ t) c.insert.ensures.entries) ∙ empty_place c.args.name.now c.args.slots.now.entries c.requires.full)
+returns-clause-place c = OnTrue_from c.is_ok-has_place.result _ (λ t. ap empty_of (when_ok c.insert-made.result _ (sym c.is_ok-has_place.ensures.value ∙ t) c.insert-made.ensures.entries) ∙ empty_place c.args.name.now c.args.slots.now.entries c.requires.full)

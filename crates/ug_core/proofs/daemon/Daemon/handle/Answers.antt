@@ -1,8 +1,8 @@
 use Rattle.std.proofs.Common.{sym, subst}
 use Rattle.ug_core.specs.Event.{daemon_of}
-use Rattle.ug_core.specs.Hinting.{FitsEvent}
+use Rattle.ug_types.specs.Events.{FitsEvent}
 use Rattle.ug_core.specs.Laws.{HandlesEvent}
-use Rattle.ug_core.specs.declared.daemon.Event.{Event}
+use Rattle.ug_types.specs.declared.event.Event.{Event}
 use Rattle.ug_core.proofs.daemon.Daemon.handle.Goals as goal
 
 pub handle_lent-requires-clause-piece : goal.handle_lent-requires-clause-piece

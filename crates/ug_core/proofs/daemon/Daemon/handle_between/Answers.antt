@@ -8,7 +8,7 @@ use Rattle.ug_core.specs.Laws.{PassesEvent, RunsAnswer}
 use Rattle.ug_core.specs.Event.{DaemonState, daemon_of, tried_with, ready, trying}
 use Rattle.ug_core.specs.Durable.{WritesEvent}
 use Rattle.ug_core.specs.Lent.{event_lent}
-use Rattle.ug_core.specs.declared.daemon.Event.{Event}
+use Rattle.ug_types.specs.declared.event.Event.{Event}
 use Rattle.ug_audit.proofs.Noting.{live_members}
 use Rattle.ug_audit.proofs.Texts.{all_entries}
 use Rattle.ug_core.proofs.Answered.{answering_made, ready_failures, ready_names}

@@ -18,7 +18,7 @@ use Rattle.ug_core.proofs.Tried.{tries_save}
 use Rattle.ug_core.proofs.Written.{ready_writes}
 use Rattle.ug_core.specs.Durable.{WritesEvent}
 use Rattle.ug_core.specs.Lent.{event_lent}
-use Rattle.ug_core.specs.declared.daemon.Event.{Event}
+use Rattle.ug_types.specs.declared.event.Event.{Event}
 use Rattle.ug_core.proofs.daemon.Daemon.handle_lent.Goals as goal
 
 pub settle-requires-clause-nameless : goal.settle-requires-clause-nameless

@@ -1,7 +1,7 @@
 use Rattle.std.proofs.Common.{[], subst, sym, Some}
 use Rattle.ug_core.specs.Event.{daemon_of}
 use Rattle.ug_script.specs.declared.progress.Phase.{Phase}
-use Rattle.ug_script.specs.declared.step.Step.TheVariants.{Event}
+use Rattle.ug_steps.specs.declared.step.Step.TheVariants.{Event}
 use Rattle.ug_script.specs.LinesRead.{StepReads}
 use Rattle.ug_script.specs.Replay.{Played, event_taken}
 use Rattle.ug_script.specs.Script.{Started, phase_of}

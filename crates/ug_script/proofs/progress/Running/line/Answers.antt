@@ -1,4 +1,4 @@
-use Rattle.ug_script.proofs.Readable.{line_asks}
+use Rattle.ug_steps.proofs.Readable.{line_asks}
 use Rattle.ug_script.proofs.progress.Running.line.Goals as goal
 
 pub take-requires : goal.take-requires

@@ -1,4 +1,4 @@
-use Rattle.ug_script.proofs.Readable.{line_asks}
+use Rattle.ug_steps.proofs.Readable.{line_asks}
 use Rattle.ug_script.proofs.progress.Running.skim.Goals as goal
 
 pub skim_step-requires : goal.skim_step-requires

@@ -10,7 +10,7 @@ use Rattle.ug_table.proofs.table.Table.admit.Goals as goal
 pub returns-clause-runs : goal.returns-clause-runs
 unfolding admitting
 returns-clause-runs g c =
-    let h = c.judge_bound in
+    let h = c.judge_bound-settled in
     let w : State _ = state_of c.args.hub_default c.args.self.now (g.A.Judge.meaning c.args.judge.now) (noted_in c.args.out.now).entries in
     let P : Judged → List ℕ → Type 0 = λ j hash. Runs g.Y.Sysfs.gives c.args.sysfs.now (Room (if_place g.A.Judge.answer g.A.Judge.later c.args.name.now (terms_of c.args.present c.args.hub_default) w c.args.bound j hash)) (h.result, state_of c.args.hub_default h.new.self (g.A.Judge.meaning h.new.judge) (noted_in h.new.out).entries) h.new.sysfs in
     let bound = c.args.bound in

@@ -1,8 +1,0 @@
-use Rattle.std.proofs.Common.{◌≡◌, ◌≤◌, length}
-use Rattle.ug_host.proofs.tokens.put_tokens.Given as goal
-
-abbrev pub invariant-loop-event : goal.invariant-loop-event
-invariant-loop-event l = record {
-  within : l.count ≤ length l.into;
-  same : length l.into ≡ length l.fn.into;
-}

@@ -1,9 +1,0 @@
-use Rattle.ug_script.proofs.Moments.{moment_text}
-use Rattle.ug_script.proofs.NamesRead.{name_text}
-use Rattle.ug_script.proofs.laws.words_law.Goals as goal
-
-pub returns-clause-names : goal.returns-clause-names
-returns-clause-names c = name_text
-
-pub returns-clause-moments : goal.returns-clause-moments
-returns-clause-moments c = moment_text

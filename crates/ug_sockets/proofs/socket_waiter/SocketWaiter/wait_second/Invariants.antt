@@ -1,0 +1,8 @@
+use Rattle.std.proofs.Common.{◌≡◌, length}
+use Rattle.ug_sockets.proofs.socket_waiter.SocketWaiter.wait_second.Given as goal
+
+abbrev pub invariant-loop : goal.invariant-loop
+invariant-loop g l = record {
+  room : length l.into ≡ 256;
+  faults : l.self.faults ≡ l.fn.self.faults;
+}

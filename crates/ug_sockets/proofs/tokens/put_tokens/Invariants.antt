@@ -1,0 +1,8 @@
+use Rattle.std.proofs.Common.{◌≡◌, ◌≤◌, length}
+use Rattle.ug_sockets.proofs.tokens.put_tokens.Given as goal
+
+abbrev pub invariant-loop-event : goal.invariant-loop-event
+invariant-loop-event l = record {
+  within : l.count ≤ length l.into;
+  same : length l.into ≡ length l.fn.into;
+}

@@ -1,0 +1,13 @@
+pub mod AccessLines
+pub mod FileWords
+pub mod FolderReads
+pub mod HexWords
+pub mod HintLines
+pub mod IfaceLines
+pub mod LineCuts
+pub mod LineReads
+pub mod LineTables
+pub mod Moments
+pub mod NamesRead
+pub mod Zones
+pub mod Readable
