@@ -9,7 +9,7 @@ ghost use Rattle.ug_acl.specs.Printed.{grants_text};
 ghost use Rattle.ug_acl.specs.Texts.{access_read};
 
 use crate::grants::{Grants, Kept};
-use crate::print::print_readable;
+use crate::print::print_all;
 use std::alloc::Global;
 use std::marker::Model;
 use ug_types::{NoMemory, Principal, Privilege, Section, Text};
@@ -92,6 +92,7 @@ impl Acl {
         ensures reads_back { IfOk result (λ text. access_read text ≡ Ok grants.now) }
     {
         let kept = grants.kept();
-        Ok(Text::from_vec(print_readable(alloc, &kept)?))
+        let text = print_all(alloc, &kept)?;
+        Ok(Text::from_vec(text))
     }
 }

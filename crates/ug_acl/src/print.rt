@@ -1,9 +1,8 @@
 // Grants as a text.
-ghost use Rattle.std.specs.Prelude.{◌≡◌, ◌∷◌, ◌++◌, [], OnOk, IfOk, Ok};
+ghost use Rattle.std.specs.Prelude.{◌≡◌, ◌∷◌, ◌++◌, [], IfOk, true};
 ghost use Rattle.ug_types.specs.Access.{section_word};
 ghost use Rattle.ug_acl.specs.Kept.{pairs_kept};
 ghost use Rattle.ug_acl.specs.Printed as texts;
-ghost use Rattle.ug_acl.specs.Texts.{access_read};
 ghost use Rattle.ug_acl.specs.Printed.{grant_line, held_in, grants_text};
 
 use crate::grants::Kept;
@@ -36,26 +35,25 @@ fn words_in(kept: &Kept, section: Section) -> &'static [u8]
     )
 }
 
-fn print_line(out: &mut Vec<u8>, section: Section, words: &[u8]) -> Result<(), NoMemory>
-    ensures { OnOk result
-        (out.new.items ≡ out.old.items ++ (section_word section ++ (61 ∷ words.now ++ 10 ∷ []))) }
+// Appends a line, and tells whether there was memory for it.
+fn print_line(out: &mut Vec<u8>, section: Section, words: &[u8]) -> bool
+    ensures { result ≡ true
+        → out.new.items ≡ out.old.items ++ (section_word section ++ (61 ∷ words.now ++ 10 ∷ [])) }
 {
-    out.extend_from_slice(section.word())?;
-    out.extend_from_slice(b"=")?;
-    out.extend_from_slice(words)?;
-    out.extend_from_slice(b"\n")?;
-    Ok(())
+    out.extend_from_slice(section.word()).is_ok()
+        && out.extend_from_slice(b"=").is_ok()
+        && out.extend_from_slice(words).is_ok()
+        && out.extend_from_slice(b"\n").is_ok()
 }
 
-// Appends the line of a section, where something is held there.
-fn print_section(out: &mut Vec<u8>, kept: &Kept, section: Section) -> Result<(), NoMemory>
-    ensures { OnOk result
-        (out.new.items
-        ≡ out.old.items ++ grant_line section (held_in (pairs_kept kept.now) section)) }
+// Appends the line of a section, where something is held there, and tells whether there was memory for it.
+fn print_section(out: &mut Vec<u8>, kept: &Kept, section: Section) -> bool
+    ensures { result ≡ true → out.new.items
+        ≡ out.old.items ++ grant_line section (held_in (pairs_kept kept.now) section) }
 {
     let words = words_in(kept, section);
     if words.is_empty() {
-        return Ok(());
+        return true;
     }
     print_line(out, section, words)
 }
@@ -63,21 +61,16 @@ fn print_section(out: &mut Vec<u8>, kept: &Kept, section: Section) -> Result<(),
 /// The text of an access file with these grants.
 #[tactic(auto, unfolding(crate::specs::Printed::grants_text))]
 pub fn print_all(alloc: Global, kept: &Kept) -> Result<Vec<u8>, NoMemory>
-    ensures is { IfOk result (λ out. out.items ≡ grants_text (pairs_kept kept.now)) }
+    ensures { IfOk result (λ out. out.items ≡ grants_text (pairs_kept kept.now)) }
 {
     let mut out = Vec::new(alloc);
-    print_section(&mut out, kept, Section::Devices)?;
-    print_section(&mut out, kept, Section::Policy)?;
-    print_section(&mut out, kept, Section::Exceptions)?;
-    print_section(&mut out, kept, Section::Parameters)?;
-    Ok(out)
-}
-
-/// The same; the text reads back as these grants.
-pub fn print_readable(alloc: Global, kept: &Kept) -> Result<Vec<u8>, NoMemory>
-    ensures is { IfOk result (λ out. out.items ≡ grants_text (pairs_kept kept.now)) }
-    ensures reads_back { IfOk result (λ out. access_read out.items ≡ Ok (pairs_kept kept.now)) }
-{
-    let out = print_all(alloc, kept)?;
-    Ok(out)
+    if print_section(&mut out, kept, Section::Devices)
+        && print_section(&mut out, kept, Section::Policy)
+        && print_section(&mut out, kept, Section::Exceptions)
+        && print_section(&mut out, kept, Section::Parameters)
+    {
+        return Ok(out);
+    }
+    drop(out);
+    Err(NoMemory)
 }

@@ -1,5 +1,6 @@
 pub mod EntryRead
 pub mod Fronts
+pub mod GivingAll
 pub mod LineWords
 pub mod Noting
 pub mod Pushing

@@ -2,6 +2,7 @@
 use Rattle.std.proofs.Common.{◌≡◌, ℕ, Bool, true, false, cond, nat_eq, List, Option, Some, refl, sym, ap, ◌∙◌}
 use Rattle.std.specs.Prelude.{codes}
 use Rattle.std.specs.Cmp.Lexicographic.{pointwise, same_text}
+use Rattle.std.specs.List.{find}
 use Rattle.std.proofs.lemmas.Option.{none-some, same_Some}
 use Rattle.ug_conf.specs.declared.keys.Key.{Key}
 use Rattle.ug_conf.specs.declared.keys.Key.TheVariants as key
@@ -9,9 +10,21 @@ use Rattle.ug_conf.specs.declared.settings.AuthDefault.{AuthDefault}
 use Rattle.ug_conf.specs.declared.settings.AuthDefault.TheVariants as auth_default
 use Rattle.ug_conf.specs.declared.settings.Present.{Present}
 use Rattle.ug_conf.specs.declared.settings.Present.TheVariants as present
-use Rattle.ug_conf.specs.Keys.{key_of, unused_key_of}
-use Rattle.ug_conf.specs.Values.{present_of, default_of, flag_of}
+use Rattle.ug_conf.specs.Keys.{all_keys, key_of, unused_key_of}
+use Rattle.ug_conf.specs.Values.{all_defaults, all_presents, present_of, default_of, flag_of}
 use Rattle.ug_conf.specs.Grammar.{word_of_key, present_word, default_word, flag_word}
+
+pub key_found : (word : List ℕ) → find (λ it. pointwise nat_eq word (word_of_key it)) all_keys ≡ key_of word
+unfolding key_of unused_key_of
+key_found word = refl
+
+pub present_found : (word : List ℕ) → find (λ it. pointwise nat_eq word (present_word it)) all_presents ≡ present_of word
+unfolding present_of
+present_found word = refl
+
+pub default_found : (word : List ℕ) → find (λ it. pointwise nat_eq word (default_word it)) all_defaults ≡ default_of word
+unfolding default_of
+default_found word = refl
 
 -- one row of a table
 named : {X : Type 0} (spell : X → List ℕ) (word text : List ℕ) (here it : X) (rest : Option X) → text ≡ spell here → (rest ≡ Some it → word ≡ spell it) → cond (pointwise nat_eq word text) (Some here) rest ≡ Some it → word ≡ spell it

@@ -1,8 +1,15 @@
 -- The keys of settings: usbguard-daemon.conf(5).
-use Rattle.std.specs.Prelude.{ℕ, Bool, nat_eq, if◌then◌else◌, List, codes, Option, Some, None}
+use Rattle.std.specs.Prelude.{ℕ, Bool, nat_eq, if◌then◌else◌, List, [], ◌∷◌, codes, Option, Some, None}
 use Rattle.std.specs.Cmp.Lexicographic.{pointwise}
 use Rattle.ug_conf.specs.declared.keys.Key.{Key}
 use Rattle.ug_conf.specs.declared.keys.Key.TheVariants.{RuleFile, RuleFolder, ImplicitPolicyTarget, PresentDevicePolicy, PresentControllerPolicy, InsertedDevicePolicy, AuthorizedDefault, IpcAllowedUsers, IpcAllowedGroups, IpcAccessControlFiles, DeviceRulesWithPort, RestoreControllerDeviceState, DeviceManagerBackend, AuditBackend, AuditFilePath, HidePii}
+
+abbrev pub all_keys : List Key
+all_keys =
+    RuleFile ∷ RuleFolder ∷ ImplicitPolicyTarget ∷ PresentDevicePolicy ∷ PresentControllerPolicy
+    ∷ InsertedDevicePolicy ∷ AuthorizedDefault ∷ IpcAllowedUsers ∷ IpcAllowedGroups
+    ∷ IpcAccessControlFiles ∷ DeviceRulesWithPort ∷ RestoreControllerDeviceState
+    ∷ DeviceManagerBackend ∷ AuditBackend ∷ AuditFilePath ∷ HidePii ∷ []
 
 -- keys that set nothing
 unfoldable pub unused_key_of : List ℕ → Option Key

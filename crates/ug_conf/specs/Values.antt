@@ -14,6 +14,10 @@ use Rattle.ug_conf.specs.declared.values.Setting.{Setting}
 use Rattle.ug_conf.specs.declared.values.Setting.TheVariants as setting
 use Rattle.ug_conf.specs.Names.{words_between, all_named}
 
+abbrev pub all_presents : List Present
+all_presents =
+    present.Allow ∷ present.Block ∷ present.Reject ∷ present.Keep ∷ present.Apply ∷ []
+
 unfoldable pub present_of : List ℕ → Option Present
 present_of word =
     if pointwise nat_eq word (codes "allow") then Some present.Allow else
@@ -21,6 +25,10 @@ present_of word =
     if pointwise nat_eq word (codes "reject") then Some present.Reject else
     if pointwise nat_eq word (codes "keep") then Some present.Keep else
     if pointwise nat_eq word (codes "apply-policy") then Some present.Apply else None
+
+abbrev pub all_defaults : List AuthDefault
+all_defaults =
+    auth_default.Keep ∷ auth_default.None ∷ auth_default.All ∷ auth_default.Internal ∷ []
 
 unfoldable pub default_of : List ℕ → Option AuthDefault
 default_of word =

@@ -8,6 +8,7 @@ use crate::keys::{Key, known_key};
 use crate::settings::{AuthDefault, Settings};
 use crate::values::{Setting, make_setting};
 use std::alloc::Global;
+use std::mem::replace;
 use ug_lines::{LineCut, cut_line};
 use ug_types::{LineFault, List, NoMemory, Principal};
 
@@ -47,8 +48,8 @@ fn set(
     ensures err { OnErr result (settings.new ≡ settings.old) }
 {
     match setting {
-        Setting::RuleFile(path) => settings.rule_file = path,
-        Setting::RuleFolder(path) => settings.rule_folder = path,
+        Setting::RuleFile(path) => drop(replace(&mut settings.rule_file, path)),
+        Setting::RuleFolder(path) => drop(replace(&mut settings.rule_folder, path)),
         Setting::Implicit(target) => settings.implicit = target,
         Setting::PresentDevice(policy) => settings.present_device = policy,
         Setting::PresentController(policy) => settings.present_controller = policy,
@@ -60,12 +61,14 @@ fn set(
             settings.default = default;
         }
         Setting::Users(users) => {
-            settings.users = joined(alloc, users.as_slice(), settings.users.as_slice())?;
+            let all = joined(alloc, users.as_slice(), settings.users.as_slice())?;
+            drop(replace(&mut settings.users, all));
         }
         Setting::Groups(groups) => {
-            settings.users = joined(alloc, settings.users.as_slice(), groups.as_slice())?;
+            let all = joined(alloc, settings.users.as_slice(), groups.as_slice())?;
+            drop(replace(&mut settings.users, all));
         }
-        Setting::AccessFolder(path) => settings.access_folder = path,
+        Setting::AccessFolder(path) => drop(replace(&mut settings.access_folder, path)),
         Setting::WithPort(with_port) => settings.with_port = with_port,
         Setting::Unused => settings.unused.push(number)?,
     }
@@ -114,7 +117,10 @@ fn add_assignment(
     let setting = value(alloc, key, text, place)?;
     match seen.reserve(1) {
         Ok(()) => {}
-        Err(_) => return Err(LineFault::Memory),
+        Err(_) => {
+            drop(setting);
+            return Err(LineFault::Memory);
+        }
     }
     set(alloc, settings, number, setting)?;
     let _done = seen.push(key);

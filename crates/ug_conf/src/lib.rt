@@ -12,6 +12,7 @@ mod mem_files;
 mod names;
 mod reader;
 mod settings;
+mod spelled;
 mod texts;
 mod tree;
 mod values;

@@ -58,6 +58,9 @@ pub fn parse_conf(alloc: Global, text: &[u8]) -> Result<Settings, FileFault>
     };
     match read_lines(alloc, &mut draft, text) {
         Ok(()) => Ok(draft.settings),
-        Err(fault) => Err(fault),
+        Err(fault) => {
+            drop(draft);
+            Err(fault)
+        }
     }
 }

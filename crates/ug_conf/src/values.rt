@@ -5,6 +5,7 @@ ghost use Rattle.ug_conf.specs.Values.{present_of, default_of, flag_of, path_of,
 use crate::keys::Key;
 use crate::names::named;
 use crate::settings::{AuthDefault, Present};
+use crate::spelled::{OneWord, spelled};
 use std::alloc::Global;
 use ug_parameter::Inserted;
 use ug_types::{List, NoMemory, Principal, Target, Text};
@@ -27,45 +28,72 @@ pub enum Setting {
     Unused,
 }
 
-#[tactic(auto, unfolding(crate::specs::Values::present_of))]
+impl OneWord for Present {
+    ghost use Rattle.ug_conf.specs.Grammar.{present_word};
+    ghost use Rattle.ug_conf.specs.Values.{all_presents};
+
+    ghost all_of = { all_presents };
+
+    ghost word_of = { present_word };
+
+    fn all() -> &'static [Present] {
+        &[
+            Present::Allow,
+            Present::Block,
+            Present::Reject,
+            Present::Keep,
+            Present::Apply,
+        ]
+    }
+
+    fn word(self) -> &'static [u8] {
+        match self {
+            Present::Allow => b"allow",
+            Present::Block => b"block",
+            Present::Reject => b"reject",
+            Present::Keep => b"keep",
+            Present::Apply => b"apply-policy",
+        }
+    }
+}
+
+impl OneWord for AuthDefault {
+    ghost use Rattle.ug_conf.specs.Grammar.{default_word};
+    ghost use Rattle.ug_conf.specs.Values.{all_defaults};
+
+    ghost all_of = { all_defaults };
+
+    ghost word_of = { default_word };
+
+    fn all() -> &'static [AuthDefault] {
+        &[
+            AuthDefault::Keep,
+            AuthDefault::None,
+            AuthDefault::All,
+            AuthDefault::Internal,
+        ]
+    }
+
+    fn word(self) -> &'static [u8] {
+        match self {
+            AuthDefault::Keep => b"keep",
+            AuthDefault::None => b"none",
+            AuthDefault::All => b"all",
+            AuthDefault::Internal => b"internal",
+        }
+    }
+}
+
 fn present(word: &[u8]) -> Option<Present>
     ensures { result ≡ present_of word.now }
 {
-    if word == b"allow".as_slice() {
-        return Some(Present::Allow);
-    }
-    if word == b"block".as_slice() {
-        return Some(Present::Block);
-    }
-    if word == b"reject".as_slice() {
-        return Some(Present::Reject);
-    }
-    if word == b"keep".as_slice() {
-        return Some(Present::Keep);
-    }
-    if word == b"apply-policy".as_slice() {
-        return Some(Present::Apply);
-    }
-    None
+    spelled(word)
 }
 
-#[tactic(auto, unfolding(crate::specs::Values::default_of))]
 fn auth_default(word: &[u8]) -> Option<AuthDefault>
     ensures { result ≡ default_of word.now }
 {
-    if word == b"keep".as_slice() {
-        return Some(AuthDefault::Keep);
-    }
-    if word == b"none".as_slice() {
-        return Some(AuthDefault::None);
-    }
-    if word == b"all".as_slice() {
-        return Some(AuthDefault::All);
-    }
-    if word == b"internal".as_slice() {
-        return Some(AuthDefault::Internal);
-    }
-    None
+    spelled(word)
 }
 
 #[tactic(auto, unfolding(crate::specs::Values::flag_of))]

@@ -208,9 +208,9 @@ impl<'z, R: Rng> Daemon<'z, R> {
         self.policy.set_moment(event.moment());
         self.report.event = number;
         self.report.entries.clear();
-        self.report.reply = None;
+        drop(self.report.reply.take());
         self.report.watch = false;
-        self.due = None;
+        drop(self.due.take());
         self.note(event.first_entry(number), panel);
     }
 
@@ -267,7 +267,11 @@ impl<'z, R: Rng> Daemon<'z, R> {
         ensures report { self.new.report ≡ self.old.report }
     {
         match self.policy.rules_text(alloc) {
-            Ok(text) => self.store.save(alloc, disk, text.bytes()),
+            Ok(text) => {
+                let saved = self.store.save(alloc, disk, text.bytes());
+                drop(text);
+                saved
+            }
             Err(_) => Saved::Memory,
         }
     }

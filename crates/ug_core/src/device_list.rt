@@ -30,8 +30,9 @@ fn print_device_row(alloc: Global, s: &Standing) -> Result<Text, NoMemory>
     ensures one_line { IfOk result (λ row. IsLine row) }
 {
     let text = print_device(alloc, &s.name, &s.judged, s.verdict)?;
-    let row = print_row(alloc, s.number, text.bytes())?;
-    Ok(Text::from_vec(row))
+    let row = print_row(alloc, s.number, text.bytes());
+    drop(text);
+    Ok(Text::from_vec(row?))
 }
 
 // The standing with the least number from that one on.

@@ -61,7 +61,7 @@ impl FolderListed {
             return append(list, rule, Mark::Folder);
         }
         drop(rule);
-        self.list = None;
+        drop(self.list.take());
         Ok(())
     }
 
@@ -130,7 +130,10 @@ fn list_files(alloc: Global, files: &[FolderFile]) -> Result<FolderListed, Start
     for file in 0..files.len() {
         match read_lines(alloc, &mut listed, files[file].text.bytes()) {
             Ok(()) => {}
-            Err(fault) => return Err(fault_in(file as u64, fault)),
+            Err(fault) => {
+                drop(listed);
+                return Err(fault_in(file as u64, fault));
+            }
         }
     }
     Ok(listed)

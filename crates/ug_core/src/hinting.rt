@@ -9,6 +9,7 @@ ghost use Rattle.ug_core.specs.Hinting.{MeetsPiece, ReadsMessages, TakesPiece, n
 use crate::daemon::Daemon;
 use rand_core::Rng;
 use std::alloc::Global;
+use std::mem::replace;
 use ug_audit::{Auditor, Entry, Fault, Journal, Panel};
 use ug_table::in_order;
 use ug_types::{List, NoMemory, NodeName, Numbered};
@@ -122,6 +123,6 @@ impl<'z, R: Rng> Daemon<'z, R> {
             },
             panel,
         );
-        self.due = Some(List::new(alloc));
+        drop(replace(&mut self.due, Some(List::new(alloc))));
     }
 }

@@ -27,7 +27,14 @@ pub fn load_rules<D: RuleDisk>(
     ensures saves { IfOk result (λ r. IsSaveable r.1.entries) }
     ensures unsaved { IfOk result (λ r. r.0 ≡ false) }
 {
-    let (store, text) = Store::recover(alloc, disk)?;
-    let rules = rules_of_text(alloc, folder, text)?;
-    Ok((store, rules))
+    match Store::recover(alloc, disk) {
+        Ok((store, text)) => {
+            let rules = rules_of_text(alloc, folder, text)?;
+            Ok((store, rules))
+        }
+        Err(fault) => {
+            drop(folder);
+            Err(fault.into())
+        }
+    }
 }

@@ -19,12 +19,13 @@ ghost use Rattle.ug_core.specs.Laws.{RunsAnswer, RunsOrder};
 ghost use Rattle.ug_core.specs.Storing.{TellsStored, WritesRules, has_written, if_kept, noted_save, pending_stored, refused_by, stored_with, storing, with_change};
 
 use crate::changes::Change;
-use crate::choosing::Deed;
+use crate::choosing::{Choice, Deed};
 use crate::daemon::Daemon;
 use crate::lent::LentEvent;
 use crate::storing::Stored;
 use rand_core::Rng;
 use std::alloc::Global;
+use std::mem::replace;
 use ug_audit::{Auditor, Entry, Journal, Panel};
 use ug_kernel::Sysfs;
 use ug_print::RulesTextFault;
@@ -125,7 +126,11 @@ impl<'z, R: Rng> Daemon<'z, R> {
             Err(_) => return Stored::Memory,
         }
         match self.policy.text_after(alloc, change) {
-            Ok(Some(text)) => Stored::of(self.store.save(alloc, disk, text.bytes())),
+            Ok(Some(text)) => {
+                let saved = self.store.save(alloc, disk, text.bytes());
+                drop(text);
+                Stored::of(saved)
+            }
             Ok(None) => Stored::NotNeeded,
             Err(RulesTextFault::TooLong) => Stored::TooLong,
             Err(RulesTextFault::Memory) => Stored::Memory,
@@ -272,7 +277,7 @@ impl<'z, R: Rng> Daemon<'z, R> {
             self.old panel.old self.new panel.new }
     {
         self.note(Entry::Reply(answer_of(&reply)), panel);
-        self.report.reply = Some(reply);
+        drop(replace(&mut self.report.reply, Some(reply)));
     }
 
     // An order is answered, stage by stage.
@@ -298,9 +303,9 @@ impl<'z, R: Rng> Daemon<'z, R> {
         ensures notes { NotesAtMost 9 (λ b. ⟦<dyn Auditor as Auditor>⟧ b.vtable)
             self.old panel.old self.new panel.new }
     {
-        let choice = self.choose(alloc, sysfs, who, line);
-        let stored = self.store(alloc, disk, choice.change, panel);
-        let deed = deed_after(stored, choice.deed);
+        let Choice { change, deed } = self.choose(alloc, sysfs, who, line);
+        let stored = self.store(alloc, disk, change, panel);
+        let deed = deed_after(stored, deed);
         let reply = self.carry_out(alloc, sysfs, who, deed, panel);
         self.reply(reply, panel);
         stored

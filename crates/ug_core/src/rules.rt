@@ -78,7 +78,7 @@ impl RulesListed {
             return append(list, rule, Mark::File);
         }
         drop(rule);
-        self.list = None;
+        drop(self.list.take());
         Ok(())
     }
 
@@ -129,10 +129,14 @@ fn list_rules(
         → IsListOf rules text.items result }
 {
     let mut listed = RulesListed::behind(folder);
-    read_lines(alloc, &mut listed, text.as_slice())?;
-    match listed.into_list() {
-        Some(list) => Ok(list),
-        None => Err(StartFault::TooMany),
+    let read = read_lines(alloc, &mut listed, text.as_slice());
+    drop(text);
+    match read {
+        Ok(()) => listed.into_list().ok_or(StartFault::TooMany),
+        Err(fault) => {
+            drop(listed);
+            Err(fault.into())
+        }
     }
 }
 
@@ -154,6 +158,14 @@ pub fn rules_of_text(
 {
     let list = list_rules(alloc, folder, text)?;
     // Only its length matters.
-    let _canonical = list_text(alloc, &list)?;
-    Ok(list)
+    match list_text(alloc, &list) {
+        Ok(canonical) => {
+            drop(canonical);
+            Ok(list)
+        }
+        Err(fault) => {
+            drop(list);
+            Err(fault.into())
+        }
+    }
 }

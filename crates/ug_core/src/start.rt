@@ -61,7 +61,12 @@ impl<'z, R: Rng + Drop> Beside<'z, R> {
         ensures number { IfOk result (λ d. d.report.event ≡ 0) }
     {
         let mut entries = Entries::new(alloc);
-        entries.reserve(ROOM)?;
+        if entries.reserve(ROOM).is_err() {
+            drop(entries);
+            drop(loaded);
+            drop(self);
+            return Err(StartFault::Memory);
+        }
         Ok(Daemon {
             policy: Policy::new(self.classes, loaded.1, self.zone, self.rng),
             table: Table::new(alloc),

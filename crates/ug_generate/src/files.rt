@@ -107,6 +107,12 @@ pub fn judged_in(alloc: Global, devices: &[Device], device: &Device) -> Result<J
     ensures { IfOk result (λ judged. judged ≡ judged_there devices.now device.now) }
 {
     let attrs = own_files(alloc, device)?;
-    let parent = parent_files(alloc, devices, device.parent)?;
-    record_of(alloc, &device.name, &attrs, parent.as_ref())
+    let Ok(parent) = parent_files(alloc, devices, device.parent) else {
+        drop(attrs);
+        return Err(NoMemory);
+    };
+    let judged = record_of(alloc, &device.name, &attrs, parent.as_ref());
+    drop(attrs);
+    drop(parent);
+    judged
 }

@@ -48,7 +48,9 @@ fn push_rule_at(
     match devices.get(place) {
         Some(device) => {
             let judged = judged_in(alloc, devices, device)?;
-            push_rule(alloc, rules, &judged, with_port)
+            let pushed = push_rule(alloc, rules, &judged, with_port);
+            drop(judged);
+            pushed
         }
         None => Ok(()),
     }

@@ -50,25 +50,25 @@ fn is_hopeless(cond: &Cond) -> bool
 fn each_sure(conds: &[Cond]) -> bool
     ensures { result ≡ list_all certain.is_sure conds.now }
 {
-    conds.iter().all(|cond| is_sure(cond))
+    conds.iter().all(is_sure)
 }
 
 fn some_sure(conds: &[Cond]) -> bool
     ensures { result ≡ list_any certain.is_sure conds.now }
 {
-    conds.iter().any(|cond| is_sure(cond))
+    conds.iter().any(is_sure)
 }
 
 fn each_hopeless(conds: &[Cond]) -> bool
     ensures { result ≡ list_all certain.is_hopeless conds.now }
 {
-    conds.iter().all(|cond| is_hopeless(cond))
+    conds.iter().all(is_hopeless)
 }
 
 fn some_hopeless(conds: &[Cond]) -> bool
     ensures { result ≡ list_any certain.is_hopeless conds.now }
 {
-    conds.iter().any(|cond| is_hopeless(cond))
+    conds.iter().any(is_hopeless)
 }
 
 fn always_by(op: Op, conds: &[Cond]) -> bool

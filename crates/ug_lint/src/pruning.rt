@@ -1,5 +1,5 @@
 // A list of rules without those that earlier ones cover.
-ghost use Rattle.std.specs.Prelude.{◌≡◌, ◌<◌, ◌≤◌, ◌++◌, List, All, IfOk, OnOk, length, vec_len};
+ghost use Rattle.std.specs.Prelude.{◌≡◌, ◌<◌, ◌≤◌, ◌++◌, ◌∷◌, [], List, All, IfOk, OnOk, length, vec_len};
 ghost use Rattle.rand_core.specs.Stream.{Stream};
 ghost use Rattle.ug_types.specs.declared.record.DeviceRecord.{DeviceRecord};
 ghost use Rattle.ug_cond.specs.declared.context.Context as when;
@@ -24,6 +24,15 @@ fn is_covered(before: &[Rule], rule: &Rule) -> bool
     }
 }
 
+fn push<T: Drop>(items: &mut Vec<T>, item: T) -> Result<(), NoMemory>
+    ensures { OnOk result (items.new.items ≡ items.old.items ++ item ∷ []) }
+{
+    match items.push(item) {
+        Ok(()) => Ok(()),
+        Err(_) => Err(NoMemory),
+    }
+}
+
 // Adds a rule, unless one of those before it covers it.
 fn keep(kept: &mut Vec<Rule>, before: &[Rule], rule: Rule) -> Result<(), NoMemory>
     requires { length before.now < 4096 }
@@ -31,12 +40,10 @@ fn keep(kept: &mut Vec<Rule>, before: &[Rule], rule: Rule) -> Result<(), NoMemor
         ≡ kept.old.items ++ left.kept_unless (left.is_covered before.now rule) rule) }
 {
     if is_covered(before, &rule) {
+        drop(rule);
         return Ok(());
     }
-    match kept.push(rule) {
-        Ok(()) => Ok(()),
-        Err(_) => Err(NoMemory),
-    }
+    push(kept, rule)
 }
 
 /// The rules without those that an earlier rule covers, in their order. A rule whose conditions never hold is kept. There are
@@ -53,8 +60,16 @@ pub fn prune(alloc: Global, mut rules: Vec<Rule>) -> Result<Vec<Rule>, NoMemory>
 {
     let mut kept = Vec::new(alloc);
     while let Some(rule) = rules.pop() {
-        keep(&mut kept, rules.as_slice(), rule)?;
+        match keep(&mut kept, rules.as_slice(), rule) {
+            Ok(()) => {}
+            Err(_) => {
+                drop(kept);
+                drop(rules);
+                return Err(NoMemory);
+            }
+        }
     }
+    drop(rules);
     kept.reverse();
     Ok(kept)
 }

@@ -99,7 +99,7 @@ pub fn put_rule(entries: &mut Vec<RuleEntry>, place: usize, entry: RuleEntry)
     ensures len { vec_len entries.new ≡ vec_len entries.old + 1 }
     ensures capacity { vec_capacity entries.new ≡ vec_capacity entries.old }
 {
-    let _put = entries.insert(place, entry);
+    drop(entries.insert(place, entry));
 }
 
 /// Takes out the rule with that id, and tells its place.
@@ -116,7 +116,7 @@ pub fn remove_rule(entries: &mut Vec<RuleEntry>, id: u64) -> Result<usize, NoRul
 {
     match place_of(entries, id) {
         Some(place) => {
-            let _removed = entries.remove(place);
+            drop(entries.remove(place));
             Ok(place)
         }
         None => Err(NoRule),

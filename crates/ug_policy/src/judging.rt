@@ -1,5 +1,5 @@
 // The rule that decides.
-ghost use Rattle.std.specs.Prelude.{◌≡◌, if◌then◌else◌, length};
+ghost use Rattle.std.specs.Prelude.{◌≡◌, Some, if◌then◌else◌, length};
 ghost use Rattle.ug_cond.specs.Words.{behind, words_of};
 ghost use Rattle.ug_policy.specs.Deciding as deciding;
 ghost use Rattle.ug_policy.specs.Matching as matching;
@@ -41,6 +41,20 @@ fn conditions_hold<A: Allowed, R: Rng>(
     }
 }
 
+// Notes the moment of an evaluation, and of a decision.
+fn note(history: &mut History, moment: Moment, decides: bool)
+    ensures { history.new ≡ record {
+      evaluated = Some (matching.greatest history.old.evaluated moment);
+      applied = if decides then Some (matching.greatest history.old.applied moment) else
+          history.old.applied;
+    } }
+{
+    history.evaluated = Some(greatest(history.evaluated, moment));
+    if decides {
+        history.applied = Some(greatest(history.applied, moment));
+    }
+}
+
 // Whether a rule that is reached decides. Where it matches, its history gets the moment.
 fn evaluate<A: Allowed, R: Rng>(
     entry: &mut RuleEntry,
@@ -60,10 +74,7 @@ fn evaluate<A: Allowed, R: Rng>(
         return false;
     }
     let decides = conditions_hold(&entry.rule.conds, &entry.history, ctx, allowed, rng);
-    entry.history.evaluated = Some(greatest(entry.history.evaluated, ctx.moment));
-    if decides {
-        entry.history.applied = Some(greatest(entry.history.applied, ctx.moment));
-    }
+    note(&mut entry.history, ctx.moment, decides);
     decides
 }
 

@@ -1,10 +1,10 @@
 // Lines of a list of devices.
-ghost use Rattle.std.specs.Prelude.{◌≡◌, IfOk, Ok, decimal, true};
+ghost use Rattle.std.specs.Prelude.{◌≡◌, [], IfOk, Ok, OnOk, decimal, true};
 ghost use Rattle.ug_rule.specs.Rules.{rule_read};
 ghost use Rattle.ug_lines.specs.Splitting.{IsLine};
 ghost use Rattle.ug_print.specs.DeviceLines.{malformed_text};
 ghost use Rattle.ug_print.specs.Generated.{generated_of};
-ghost use Rattle.ug_print.specs.Words.{rule_text};
+ghost use Rattle.ug_print.specs.Words.{joined, rule_text};
 
 use crate::generating::generated_rule;
 use crate::items::print_string;
@@ -33,9 +33,30 @@ fn print_decimal(alloc: Global, n: u64) -> Result<Text, NoMemory>
     Text::of(alloc, buffer.format(n).as_bytes())
 }
 
+// Puts the words of the line of a device whose descriptors are malformed.
+fn put_malformed(
+    alloc: Global,
+    words: &mut List<Text>,
+    name: &NodeName,
+    kind: u8,
+    place: u64,
+    verdict: Target,
+) -> Result<(), NoMemory>
+    requires { words.old ≡ [] }
+    ensures text { OnOk result (joined words.new ≡ malformed_text verdict kind place name.now) }
+    ensures one_line { OnOk result (IsLine (malformed_text verdict kind place name.now)) }
+{
+    put_target(alloc, words, verdict)?;
+    put_word(alloc, words, b"malformed")?;
+    words.push(print_decimal(alloc, kind as u64)?)?;
+    words.push(print_decimal(alloc, place)?)?;
+    put_word(alloc, words, b"via-port")?;
+    words.push(print_string(alloc, name.bytes())?)?;
+    Ok(())
+}
+
 /// The line of a device whose descriptors are malformed, with the verdict on it: the kind and the place of the first
 /// fault, and the device's name as its port.
-#[tactic(auto, unfolding(crate::specs::DeviceLines::malformed_text))]
 pub fn malformed_line(
     alloc: Global,
     name: &NodeName,
@@ -47,11 +68,6 @@ pub fn malformed_line(
     ensures one_line { IfOk result (λ text. IsLine text) }
 {
     let mut words = List::new(alloc);
-    put_target(alloc, &mut words, verdict)?;
-    put_word(alloc, &mut words, b"malformed")?;
-    words.push(print_decimal(alloc, kind as u64)?)?;
-    words.push(print_decimal(alloc, place)?)?;
-    put_word(alloc, &mut words, b"via-port")?;
-    words.push(print_string(alloc, name.bytes())?)?;
+    put_malformed(alloc, &mut words, name, kind, place, verdict)?;
     join(alloc, words.as_slice())
 }

@@ -3,6 +3,7 @@ ghost use Rattle.std.specs.Prelude.{◌≡◌, ◌↔◌, ◌<◌, ◌^◌, ◌+
 ghost use Rattle.ug_types.specs.declared.record.DeviceRecord.{DeviceRecord};
 ghost use Rattle.ug_match.specs.Queries.{query_matches};
 ghost use Rattle.ug_rule.specs.Grammar.{WellFormed};
+ghost use Rattle.ug_rule.specs.Queries.{no_query};
 ghost use Rattle.ug_print.specs.Alike.{IsAlike};
 ghost use Rattle.ug_words.specs.WordGrammar.{id_with};
 ghost use Rattle.ug_print.specs.Bytes.{AreBytes, RuleOfBytes};
@@ -10,13 +11,30 @@ ghost use Rattle.ug_print.specs.Generated.{equals, generated_of, interface_of_tr
 ghost use Rattle.ug_print.specs.Ranges.{RecordInRange, TripleInRange};
 
 use std::alloc::Global;
+use std::mem::replace;
+use ug_rule::empty_query;
 use ug_types::{
     DeviceRecord, Id, Iface, List, NoMemory, Op, Query, Rule, Target, Text, Triple, Values,
 };
 
-fn one_id(alloc: Global, vendor: u16, product: u16) -> Result<Option<Values<Id>>, NoMemory>
-    ensures values { IfOk result
-        (λ values. values ≡ equals (id_with (Some vendor) (Some product) ∷ [])) }
+fn set_values<T: Drop>(values: &mut Option<Values<T>>, items: List<T>)
+    ensures { values.new ≡ equals items }
+{
+    let given = Values {
+        op: Op::Equals,
+        items,
+    };
+    drop(replace(values, Some(given)));
+}
+
+fn set_id(
+    alloc: Global,
+    vendor: u16,
+    product: u16,
+    values: &mut Option<Values<Id>>,
+) -> Result<(), NoMemory>
+    ensures values { OnOk result
+        (values.new ≡ equals (id_with (Some vendor) (Some product) ∷ [])) }
     ensures vendor { vendor < 2 ^ 16 }
     ensures product { product < 2 ^ 16 }
 {
@@ -25,33 +43,36 @@ fn one_id(alloc: Global, vendor: u16, product: u16) -> Result<Option<Values<Id>>
         vendor: Some(vendor),
         product: Some(product),
     })?;
-    Ok(Some(Values {
-        op: Op::Equals,
-        items,
-    }))
+    set_values(values, items);
+    Ok(())
 }
 
-fn one_text(alloc: Global, text: &[u8]) -> Result<Option<Values<Text>>, NoMemory>
-    ensures values { IfOk result (λ values. values ≡ equals (text.now ∷ [])) }
+fn set_text(alloc: Global, text: &[u8], values: &mut Option<Values<Text>>) -> Result<(), NoMemory>
+    ensures values { OnOk result (values.new ≡ equals (text.now ∷ [])) }
     ensures bytes { AreBytes text.now }
 {
+    let item = Text::of(alloc, text)?;
     let mut items = List::new(alloc);
-    items.push(Text::of(alloc, text)?)?;
-    Ok(Some(Values {
-        op: Op::Equals,
-        items,
-    }))
+    items.push(item)?;
+    set_values(values, items);
+    Ok(())
 }
 
-fn port_if(alloc: Global, port: &[u8], with_port: bool) -> Result<Option<Values<Text>>, NoMemory>
-    ensures values { IfOk result
-        (λ values. values ≡ (if with_port then equals (port.now ∷ []) else None)) }
+fn set_port(
+    alloc: Global,
+    port: &[u8],
+    with_port: bool,
+    values: &mut Option<Values<Text>>,
+) -> Result<(), NoMemory>
+    requires { values.old ≡ None }
+    ensures values { OnOk result
+        (values.new ≡ (if with_port then equals (port.now ∷ []) else None)) }
     ensures bytes { AreBytes port.now }
 {
     if with_port {
-        return one_text(alloc, port);
+        return set_text(alloc, port, values);
     }
-    Ok(None)
+    Ok(())
 }
 
 fn interface(triple: Triple) -> Iface
@@ -75,37 +96,50 @@ fn put_interfaces(items: &mut List<Iface>, triples: &[Triple]) -> Result<(), NoM
     Ok(())
 }
 
-fn interfaces(alloc: Global, triples: &[Triple]) -> Result<Option<Values<Iface>>, NoMemory>
-    ensures values { IfOk result (λ values. values ≡ interfaces_value triples.now) }
+fn set_interfaces(
+    alloc: Global,
+    triples: &[Triple],
+    values: &mut Option<Values<Iface>>,
+) -> Result<(), NoMemory>
+    requires { values.old ≡ None }
+    ensures values { OnOk result (values.new ≡ interfaces_value triples.now) }
     ensures range { OnOk result (All TripleInRange triples.now) }
 {
     if triples.is_empty() {
-        return Ok(None);
+        return Ok(());
     }
     let mut items = List::new(alloc);
     put_interfaces(&mut items, triples)?;
-    Ok(Some(Values {
-        op: Op::Equals,
-        items,
-    }))
+    set_values(values, items);
+    Ok(())
 }
 
+// Gives an empty query what is known of a device.
 #[tactic(auto, unfolding(crate::specs::Generated::device_query))]
-fn query(alloc: Global, device: &DeviceRecord, with_port: bool) -> Result<Query, NoMemory>
-    ensures query { IfOk result (λ query. query ≡ device_query device.now with_port) }
+fn set_attributes(
+    alloc: Global,
+    device: &DeviceRecord,
+    with_port: bool,
+    query: &mut Query,
+) -> Result<(), NoMemory>
+    requires { query.old ≡ no_query }
+    ensures query { OnOk result (query.new ≡ device_query device.now with_port) }
     ensures range { OnOk result (RecordInRange device.now) }
 {
-    Ok(Query {
-        id: one_id(alloc, device.vendor, device.product)?,
-        serial: one_text(alloc, device.serial.bytes())?,
-        name: one_text(alloc, device.name.bytes())?,
-        hash: one_text(alloc, &device.hash)?,
-        parent_hash: one_text(alloc, device.parent_hash.bytes())?,
-        via_port: port_if(alloc, device.via_port.bytes(), with_port)?,
-        interface: interfaces(alloc, device.interfaces.as_slice())?,
-        connect: one_text(alloc, device.connect.bytes())?,
-        label: None,
-    })
+    set_id(alloc, device.vendor, device.product, &mut query.id)?;
+    set_text(alloc, device.serial.bytes(), &mut query.serial)?;
+    set_text(alloc, device.name.bytes(), &mut query.name)?;
+    set_text(alloc, &device.hash, &mut query.hash)?;
+    set_text(alloc, device.parent_hash.bytes(), &mut query.parent_hash)?;
+    set_port(
+        alloc,
+        device.via_port.bytes(),
+        with_port,
+        &mut query.via_port,
+    )?;
+    set_interfaces(alloc, device.interfaces.as_slice(), &mut query.interface)?;
+    set_text(alloc, device.connect.bytes(), &mut query.connect)?;
+    Ok(())
 }
 
 /// The rule generated from a device: every attribute that is known, each with `equals`, and the port only where it is asked
@@ -124,9 +158,16 @@ pub fn generated_rule(
     ensures alike { IfOk result (λ rule. (other : DeviceRecord)
         → IsTrue (query_matches rule.query other) ↔ IsAlike with_port device.now other) }
 {
-    Ok(Rule {
+    let mut rule = Rule {
         target,
-        query: query(alloc, device, with_port)?,
+        query: empty_query(),
         conds: None,
-    })
+    };
+    match set_attributes(alloc, device, with_port, &mut rule.query) {
+        Ok(()) => Ok(rule),
+        Err(_) => {
+            drop(rule);
+            Err(NoMemory)
+        }
+    }
 }

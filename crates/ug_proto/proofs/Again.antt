@@ -11,7 +11,7 @@ use Rattle.ug_types.specs.declared.verdict.Target.TheVariants as target
 use Rattle.ug_proto.specs.declared.request.Request.{Request}
 use Rattle.ug_proto.specs.declared.request.Request.TheVariants as request
 use Rattle.ug_numerals.specs.Numbers.{number_in}
-use Rattle.ug_proto.specs.Requests.{then_take, or_wrong, behind_next, next_place, next_read, unless_empty, nothing_behind, after_number, after_in, rule_kind_in, get_read, set_read, permanence_read, device_read, rule_at_end, append_read, remove_read, named_read, request_read}
+use Rattle.ug_proto.specs.Requests.{then_take, or_wrong, behind_next, next_place, next_read, unless_empty, nothing_behind, after_number, after_in, rule_kind_in, get_read, set_read, permanence_read, device_read, rule_at_end, append_read, remove_read, rule_request_read, named_read, request_read}
 use Rattle.ug_proto.specs.Splitting.{word_in_front, behind_word, IsPlainWord, IsRest}
 use Rattle.ug_proto.specs.Texts.{permanence_words, kind_word, after_word, request_text, IsAfter, IsRequest}
 use Rattle.ug_numerals.proofs.Numerals.{is_number}
@@ -118,7 +118,7 @@ append_again total a permanent rule h k =
     ∙ rule_again total rule a permanent k
 
 pub read_again : (r : Request) → IsRequest r → request_read (request_text r) ≡ Ok r
-unfolding request_text named_read
+unfolding request_text named_read rule_request_read
 read_again (request.GetParameter name) h = ap (λ (l : List ℕ). request_read (codes "get-parameter " ++ l)) (sym (append-nil name)) ∙ get_again _ name h
 read_again (request.SetParameter name value) h = ap (λ (l : List ℕ). request_read (codes "set-parameter " ++ (name ++ 32 ∷ l))) (sym (append-nil value)) ∙ set_again _ name value h.0 h.1
 read_again request.ListDevices h = refl

@@ -12,7 +12,7 @@ use Rattle.ug_proto.specs.declared.request.Request.{Request}
 use Rattle.ug_proto.specs.declared.request.Request.TheVariants as request
 use Rattle.ug_proto.specs.BadRequests.{BeginsRequest, FitsBefore, HasWrongWord, IsBadRequest}
 use Rattle.ug_numerals.specs.Numbers.{number_in}
-use Rattle.ug_proto.specs.Requests.{then_take, or_wrong, behind_next, next_place, next_read, unless_empty, nothing_behind, after_in, rule_kind_in, permanence_in, get_read, set_read, permanence_read, device_read, rule_at_end, append_read, remove_read, named_read, request_read}
+use Rattle.ug_proto.specs.Requests.{then_take, or_wrong, behind_next, next_place, next_read, unless_empty, nothing_behind, after_in, rule_kind_in, permanence_in, get_read, set_read, permanence_read, device_read, rule_at_end, append_read, remove_read, rule_request_read, named_read, request_read}
 use Rattle.ug_proto.specs.Splitting.{word_in_front, behind_word, IsRest}
 use Rattle.ug_proto.specs.Texts.{request_text, IsRequest}
 use Rattle.ug_proto.proofs.Again.{next_again, reads}
@@ -207,7 +207,7 @@ row word text here more f g = by (pointwise nat_eq word text) refl
     by false e = g
 
 named_tells : (word : List ℕ) → ¬ Has word 32 → TellsPlaces word (named_read word)
-unfolding named_read
+unfolding named_read rule_request_read
 named_tells word plain =
     row word (codes "get-parameter") _ _ get_tells (
     row word (codes "set-parameter") _ _ set_tells (

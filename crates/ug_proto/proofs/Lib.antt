@@ -1,6 +1,7 @@
 pub mod Again
 pub mod BadPlaces
 pub mod EntryLines
+pub mod NamedTaken
 pub mod Numerals
 pub mod OneReply
 pub mod Pieces

@@ -13,7 +13,7 @@ use Rattle.ug_types.specs.declared.verdict.Target.TheVariants as target
 use Rattle.ug_proto.specs.declared.request.Request.{Request}
 use Rattle.ug_proto.specs.declared.request.Request.TheVariants as request
 use Rattle.ug_numerals.specs.Numbers.{number_in}
-use Rattle.ug_proto.specs.Requests.{then_take, or_wrong, behind_next, next_place, next_read, unless_empty, nothing_behind, after_number, after_in, rule_kind_in, permanence_in, get_read, set_read, permanence_read, device_read, rule_at_end, append_read, remove_read, named_read, request_read}
+use Rattle.ug_proto.specs.Requests.{then_take, or_wrong, behind_next, next_place, next_read, unless_empty, nothing_behind, after_number, after_in, rule_kind_in, permanence_in, get_read, set_read, permanence_read, device_read, rule_at_end, append_read, remove_read, rule_request_read, named_read, request_read}
 use Rattle.ug_proto.specs.Splitting.{word_in_front, behind_word, IsPlainWord, IsRest}
 use Rattle.ug_proto.specs.Texts.{device_word, permanence_words, kind_word, after_word, request_text, IsAfter, IsRequest}
 use Rattle.ug_numerals.proofs.Numerals.{number_found}
@@ -213,7 +213,7 @@ row word text rest r here more f g h = by (pointwise nat_eq word text) refl h
     by false e k = g k
 
 named_written : (word : List ℕ) (total : ℕ) (rest : List ℕ) (r : Request) → IsRest rest → named_read word total rest ≡ Ok r → Written word rest r
-unfolding named_read request_text
+unfolding named_read rule_request_read request_text
 named_written word total rest r i h =
     row word (codes "get-parameter") rest r _ _ (get_written total rest r i) (
     row word (codes "set-parameter") rest r _ _ (set_written total rest r i) (

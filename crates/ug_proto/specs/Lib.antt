@@ -3,6 +3,7 @@ pub mod BadRequests
 pub mod Begun
 pub mod Frames
 pub mod Lines
+pub mod NamedNumbers
 pub mod Privileges
 pub mod RefusalParts
 pub mod Replies

@@ -107,6 +107,15 @@ remove_read total rest =
     then_take (next_read total rest number_in) (λ id.
     nothing_behind total (behind_next rest) (request.RemoveRule id))
 
+-- the requests about rules, and `watch`
+unfoldable pub rule_request_read : List ℕ → ℕ → List ℕ → Result Request ℕ
+rule_request_read word total rest =
+    if pointwise nat_eq word (codes "list-rules")
+    then nothing_behind total rest request.ListRules else
+    if pointwise nat_eq word (codes "append-rule") then append_read total rest else
+    if pointwise nat_eq word (codes "remove-rule") then remove_read total rest else
+    if pointwise nat_eq word (codes "watch") then nothing_behind total rest request.Watch else Err 0
+
 -- a request by its first word, and what stands behind
 unfoldable pub named_read : List ℕ → ℕ → List ℕ → Result Request ℕ
 named_read word total rest =
@@ -117,11 +126,7 @@ named_read word total rest =
     if pointwise nat_eq word (codes "allow-device") then device_read target.Allow total rest else
     if pointwise nat_eq word (codes "block-device") then device_read target.Block total rest else
     if pointwise nat_eq word (codes "reject-device") then device_read target.Reject total rest else
-    if pointwise nat_eq word (codes "list-rules")
-    then nothing_behind total rest request.ListRules else
-    if pointwise nat_eq word (codes "append-rule") then append_read total rest else
-    if pointwise nat_eq word (codes "remove-rule") then remove_read total rest else
-    if pointwise nat_eq word (codes "watch") then nothing_behind total rest request.Watch else Err 0
+    rule_request_read word total rest
 
 -- a line's request, or the place of its first word that doesn't fit
 abbrev pub request_read : List ℕ → Result Request ℕ

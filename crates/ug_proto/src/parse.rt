@@ -2,6 +2,8 @@
 ghost use Rattle.std.specs.Prelude.{◌≡◌, ◌++◌, ◌∷◌, [], ◌≤◌, ℕ, List, length, IfOk, IfErr, IfSome, IfNone, codes};
 ghost use Rattle.ug_types.specs.Elements.{Has};
 ghost use Rattle.ug_proto.specs.Scanning.{IsTextThen, IsStop};
+ghost use Rattle.ug_proto.specs.NamedNumbers as numbers;
+ghost use Rattle.ug_proto.specs.NamedNumbers.{IsNamedThen};
 ghost use Rattle.ug_proto.specs.RefusalParts.{IsNumberIn, named_number, named_numbers, IsPairIn, denial_text, refusal_rest, refusal_line, HasRefusalNumber, Anything};
 ghost use Rattle.ug_proto.specs.AnswerParts.{IsUnended, AreCountedLines, answer_text, IsAnswer};
 ghost use Rattle.ug_proto.specs.Replies.{ended_lines, reply_text, IsReply};
@@ -27,16 +29,39 @@ fn take_denial(text: &[u8]) -> Result<(Section, Privilege, &[u8]), Stop>
     Ok((section, privilege, rest))
 }
 
-// A name and a number of at most that size.
-fn take_named<'a>(text: &'a [u8], name: &[u8], most: u64) -> Result<(u64, &'a [u8]), Stop>
-    ensures ok { IfOk result
-        (λ p. IsTextThen (named_number name.now) (IsNumberIn 0 most) text.now p.0 p.1.now) }
+// The refusal with that number in place of its own.
+fn renumbered(refusal: Refusal, number: u64) -> Refusal
+    ensures { result ≡ numbers.renumbered refusal number }
+{
+    match refusal {
+        Refusal::BadRequest { place: _ } => Refusal::BadRequest { place: number },
+        Refusal::NoDevice { number: _ } => Refusal::NoDevice { number },
+        Refusal::NoRule { id: _ } => Refusal::NoRule { id: number },
+        Refusal::MalformedDevice { number: _ } => Refusal::MalformedDevice { number },
+        Refusal::StoreFault { count: _ } => Refusal::StoreFault { count: number },
+        Refusal::Memory { stands: _ } => Refusal::Memory {
+            stands: number == 1,
+        },
+        Refusal::ProbeFault { count: _ } => Refusal::ProbeFault { count: number },
+        Refusal::FolderRule { id: _ } => Refusal::FolderRule { id: number },
+        other => other,
+    }
+}
+
+// A name and a number of at most that size, which the refusal has in place of its own.
+fn take_named<'a>(
+    text: &'a [u8],
+    name: &[u8],
+    most: u64,
+    refusal: Refusal,
+) -> Result<(Refusal, &'a [u8]), Stop>
+    ensures ok { IfOk result (λ p. IsNamedThen name.now most refusal text.now p.0 p.1.now) }
     ensures err { IfErr result
         (λ stop. IsStop (named_number name.now) (IsNumberIn 0 most) text.now stop) }
 {
     let rest = take_word(text, name)?;
     let (number, rest) = take_number(rest, 0, most, b'\n')?;
-    Ok((number, rest))
+    Ok((renumbered(refusal, number), rest))
 }
 
 // A name, a number of at most that size, and a number.
@@ -55,16 +80,14 @@ fn take_pair<'a>(text: &'a [u8], name: &[u8], most: u64) -> Result<(u64, u64, &'
 // The rest of the refusal of that number.
 #[tactic(auto, unfolding(crate::specs::RefusalParts::refusal_rest))]
 fn take_numbered(number: u64, text: &[u8]) -> Result<(Refusal, &[u8]), Stop>
+    requires { 1 ≤ number }
     ensures ok { IfOk result
         (λ p. IsTextThen refusal_rest (HasRefusalNumber number) text.now p.0 p.1.now) }
     ensures err { IfErr result (λ stop.
         IsStop refusal_rest (HasRefusalNumber number) text.now stop) }
 {
     match number {
-        1 => {
-            let (place, rest) = take_named(text, b"bad-request ", MAX)?;
-            Ok((Refusal::BadRequest { place }, rest))
-        }
+        1 => take_named(text, b"bad-request ", MAX, Refusal::BadRequest { place: 0 }),
         2 => {
             let (section, privilege, rest) = take_denial(text)?;
             Ok((Refusal::Denied { section, privilege }, rest))
@@ -74,14 +97,8 @@ fn take_numbered(number: u64, text: &[u8]) -> Result<(Refusal, &[u8]), Stop>
             let kind = kind as u8;
             Ok((Refusal::BadRule { kind, place }, rest))
         }
-        4 => {
-            let (number, rest) = take_named(text, b"no-device ", MAX)?;
-            Ok((Refusal::NoDevice { number }, rest))
-        }
-        5 => {
-            let (id, rest) = take_named(text, b"no-rule ", MAX)?;
-            Ok((Refusal::NoRule { id }, rest))
-        }
+        4 => take_named(text, b"no-device ", MAX, Refusal::NoDevice { number: 0 }),
+        5 => take_named(text, b"no-rule ", MAX, Refusal::NoRule { id: 0 }),
         6 => {
             let rest = take_word(text, b"bad-parameter\n")?;
             Ok((Refusal::BadParameter, rest))
@@ -90,35 +107,38 @@ fn take_numbered(number: u64, text: &[u8]) -> Result<(Refusal, &[u8]), Stop>
             let rest = take_word(text, b"bad-value\n")?;
             Ok((Refusal::BadValue, rest))
         }
-        8 => {
-            let (number, rest) = take_named(text, b"malformed-device ", MAX)?;
-            Ok((Refusal::MalformedDevice { number }, rest))
-        }
+        _ => take_later(number, text),
+    }
+}
+
+// The same where the number is at least 8.
+#[tactic(auto, unfolding(crate::specs::RefusalParts::refusal_rest))]
+fn take_later(number: u64, text: &[u8]) -> Result<(Refusal, &[u8]), Stop>
+    requires { 8 ≤ number }
+    ensures ok { IfOk result
+        (λ p. IsTextThen refusal_rest (HasRefusalNumber number) text.now p.0 p.1.now) }
+    ensures err { IfErr result (λ stop.
+        IsStop refusal_rest (HasRefusalNumber number) text.now stop) }
+{
+    match number {
+        8 => take_named(
+            text,
+            b"malformed-device ",
+            MAX,
+            Refusal::MalformedDevice { number: 0 },
+        ),
         9 => {
             let rest = take_word(text, b"rules-full\n")?;
             Ok((Refusal::RulesFull, rest))
         }
-        10 => {
-            let (count, rest) = take_named(text, b"store-fault ", MAX)?;
-            Ok((Refusal::StoreFault { count }, rest))
-        }
+        10 => take_named(text, b"store-fault ", MAX, Refusal::StoreFault { count: 0 }),
         11 => {
             let (call, count, rest) = take_pair(text, b"device-fault ", MAX)?;
             Ok((Refusal::DeviceFault { call, count }, rest))
         }
-        12 => {
-            let (stands, rest) = take_named(text, b"memory ", 1)?;
-            let stands = stands == 1;
-            Ok((Refusal::Memory { stands }, rest))
-        }
-        13 => {
-            let (count, rest) = take_named(text, b"probe-fault ", MAX)?;
-            Ok((Refusal::ProbeFault { count }, rest))
-        }
-        14 => {
-            let (id, rest) = take_named(text, b"folder-rule ", MAX)?;
-            Ok((Refusal::FolderRule { id }, rest))
-        }
+        12 => take_named(text, b"memory ", 1, Refusal::Memory { stands: false }),
+        13 => take_named(text, b"probe-fault ", MAX, Refusal::ProbeFault { count: 0 }),
+        14 => take_named(text, b"folder-rule ", MAX, Refusal::FolderRule { id: 0 }),
         _ => Err(Stop::Bad),
     }
 }
@@ -129,8 +149,7 @@ fn take_refusal(text: &[u8]) -> Result<(Refusal, &[u8]), Stop>
 {
     let rest = take_word(text, b"refused ")?;
     let (number, rest) = take_number(rest, 1, 14, b' ')?;
-    let (refusal, rest) = take_numbered(number, rest)?;
-    Ok((refusal, rest))
+    take_numbered(number, rest)
 }
 
 fn take_line(alloc: Global, text: &[u8]) -> Result<(Text, &[u8]), Stop>
@@ -166,8 +185,7 @@ fn take_answer(alloc: Global, text: &[u8]) -> Result<(List<Text>, &[u8]), Stop>
     ensures err { IfErr result (λ stop. IsStop answer_text IsAnswer text.now stop) }
 {
     let (count, rest) = take_number(text, 0, MAX, b'\n')?;
-    let (lines, rest) = take_lines(alloc, count, rest)?;
-    Ok((lines, rest))
+    take_lines(alloc, count, rest)
 }
 
 fn take_reply(alloc: Global, text: &[u8]) -> Result<(Reply, &[u8]), Stop>

@@ -1,7 +1,7 @@
 // Requests from their lines.
 ghost use Rattle.std.specs.Prelude.{◌≡◌, ◌≤◌, ◌<◌, IfOk, IfErr, Ok, length};
 ghost use Rattle.ug_proto.specs.Requests as requests;
-ghost use Rattle.ug_proto.specs.Requests.{unless_empty, after_in, rule_kind_in, permanence_in, get_read, set_read, permanence_read, device_read, rule_at_end, append_read, remove_read, named_read, request_read, IsWrongAt};
+ghost use Rattle.ug_proto.specs.Requests.{unless_empty, after_in, rule_kind_in, permanence_in, get_read, set_read, permanence_read, device_read, rule_at_end, append_read, remove_read, rule_request_read, named_read, request_read, IsWrongAt};
 ghost use Rattle.ug_numerals.specs.Numbers.{number_in};
 
 use crate::request::{Request, RequestFault};
@@ -137,6 +137,7 @@ fn end(total: usize, rest: &[u8], request: Request) -> Result<Request, RequestFa
     if rest.is_empty() {
         return Ok(request);
     }
+    drop(request);
     Err(bad_next(total, rest))
 }
 
@@ -154,9 +155,11 @@ fn set_parameter(alloc: Global, total: usize, rest: &[u8]) -> Result<Request, Re
     ensures ok { IfOk result (λ r. set_read total rest.now ≡ Ok r) }
     ensures err { IfErr result (λ fault. IsWrongAt fault (set_read total rest.now)) }
 {
-    let name = Text::of(alloc, next_text(total, rest)?)?;
+    let name = next_text(total, rest)?;
     let rest = behind_next(rest);
-    let value = Text::of(alloc, next_text(total, rest)?)?;
+    let value = next_text(total, rest)?;
+    let name = Text::of(alloc, name)?;
+    let value = Text::of(alloc, value)?;
     end(
         total,
         behind_next(rest),
@@ -247,6 +250,34 @@ fn remove_rule(total: usize, rest: &[u8]) -> Result<Request, RequestFault>
     end(total, behind_next(rest), Request::RemoveRule { id })
 }
 
+// The requests about rules, and `watch`.
+#[tactic(auto, unfolding(crate::specs::Requests::rule_request_read))]
+fn rule_request(
+    alloc: Global,
+    word: &[u8],
+    total: usize,
+    rest: &[u8],
+) -> Result<Request, RequestFault>
+    requires { length rest.now ≤ total }
+    ensures ok { IfOk result (λ r. rule_request_read word.now total rest.now ≡ Ok r) }
+    ensures err { IfErr result (λ fault.
+        IsWrongAt fault (rule_request_read word.now total rest.now)) }
+{
+    if word == b"list-rules".as_slice() {
+        return end(total, rest, Request::ListRules);
+    }
+    if word == b"append-rule".as_slice() {
+        return append_rule(alloc, total, rest);
+    }
+    if word == b"remove-rule".as_slice() {
+        return remove_rule(total, rest);
+    }
+    if word == b"watch".as_slice() {
+        return end(total, rest, Request::Watch);
+    }
+    Err(RequestFault::Bad(0))
+}
+
 #[tactic(auto, unfolding(crate::specs::Requests::named_read))]
 fn named(alloc: Global, word: &[u8], total: usize, rest: &[u8]) -> Result<Request, RequestFault>
     requires { length rest.now ≤ total }
@@ -271,19 +302,7 @@ fn named(alloc: Global, word: &[u8], total: usize, rest: &[u8]) -> Result<Reques
     if word == b"reject-device".as_slice() {
         return device(Target::Reject, total, rest);
     }
-    if word == b"list-rules".as_slice() {
-        return end(total, rest, Request::ListRules);
-    }
-    if word == b"append-rule".as_slice() {
-        return append_rule(alloc, total, rest);
-    }
-    if word == b"remove-rule".as_slice() {
-        return remove_rule(total, rest);
-    }
-    if word == b"watch".as_slice() {
-        return end(total, rest, Request::Watch);
-    }
-    Err(RequestFault::Bad(0))
+    rule_request(alloc, word, total, rest)
 }
 
 /// The request that a line is, without its newline. Words stand with one space between; numbers are decimal, below 2^64, without

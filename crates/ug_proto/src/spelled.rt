@@ -63,8 +63,7 @@ fn take_ended<'a>(text: &'a [u8], word: &[u8], end: u8) -> Result<&'a [u8], Stop
         (λ stop. IsStop {X = Unit {0}} (λ _. word.now ++ end ∷ []) (λ _. Unit {0}) text.now stop) }
 {
     let rest = take_word(text, word)?;
-    let rest = take_word(rest, &[end])?;
-    Ok(rest)
+    take_word(rest, &[end])
 }
 
 // Why neither of two texts stands in front.

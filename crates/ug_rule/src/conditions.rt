@@ -60,7 +60,9 @@ fn localtime(line: &[u8], tokens: &mut Tokens, ending: Ending) -> Result<CondKin
     open(tokens, ending)?;
     let token = next(tokens, ending)?;
     let place = token.start as u64;
-    let span = required(span(word(line, &token)), FaultKind::BadCondition, place)?;
+    let found = span(word(line, &token));
+    drop(token);
+    let span = required(found, FaultKind::BadCondition, place)?;
     close(tokens, ending)?;
     Ok(CondKind::LocalTime {
         begin: span.begin,
@@ -80,8 +82,10 @@ fn close_query(line: &[u8], tokens: &mut Tokens, ending: Ending, query: &Query) 
     if !matches!(token.kind, TokenKind::ParenClose) {
         return Err(stray(FaultKind::ConditionInQuery, line, &token));
     }
+    let place = token.start as u64;
+    drop(token);
     if is_blank(query) {
-        return Err(Stop::at(FaultKind::BadCondition, token.start as u64));
+        return Err(Stop::at(FaultKind::BadCondition, place));
     }
     Ok(())
 }
@@ -110,7 +114,9 @@ fn past_argument(line: &[u8], tokens: &mut Tokens, ending: Ending) -> Result<u32
 {
     let token = next(tokens, ending)?;
     let place = token.start as u64;
-    let past = required(past(word(line, &token)), FaultKind::BadCondition, place)?;
+    let found = past(word(line, &token));
+    drop(token);
+    let past = required(found, FaultKind::BadCondition, place)?;
     close(tokens, ending)?;
     Ok(past)
 }
@@ -123,7 +129,9 @@ fn chance_argument(line: &[u8], tokens: &mut Tokens, ending: Ending) -> Result<u
 {
     let token = next(tokens, ending)?;
     let place = token.start as u64;
-    let chance = required(chance(word(line, &token)), FaultKind::BadCondition, place)?;
+    let found = chance(word(line, &token));
+    drop(token);
+    let chance = required(found, FaultKind::BadCondition, place)?;
     close(tokens, ending)?;
     Ok(chance)
 }
@@ -200,11 +208,9 @@ fn named(
     ensures shorter { length tokens.new ≤ length tokens.old }
 {
     let place = token.start as u64;
-    let name = required(
-        condition(word(line, &token)),
-        FaultKind::BadCondition,
-        place,
-    )?;
+    let found = condition(word(line, &token));
+    drop(token);
+    let name = required(found, FaultKind::BadCondition, place)?;
     let kind = kind(alloc, line, tokens, ending, name)?;
     Ok(Cond { negated, kind })
 }
@@ -225,6 +231,7 @@ fn condition_from(
     if !matches!(token.kind, TokenKind::Bang) {
         return named(alloc, line, tokens, ending, false, token);
     }
+    drop(token);
     let name = next(tokens, ending)?;
     named(alloc, line, tokens, ending, true, name)
 }
@@ -247,9 +254,13 @@ fn items(
         }
         match condition_from(alloc, line, tokens, ending, token) {
             Ok(item) => items.push(item)?,
-            Err(stop) => return Err(stop),
+            Err(stop) => {
+                drop(items);
+                return Err(stop);
+            }
         }
     }
+    drop(items);
     Err(ending.missing(FaultKind::OpenSet))
 }
 
@@ -314,16 +325,15 @@ pub fn conditions(
     match tokens.next() {
         Some(token) => {
             if opens(&token) {
-                return set(
-                    alloc,
-                    line,
-                    tokens,
-                    ending.within(token.start as u64),
-                    Op::Equals,
-                );
+                let place = token.start as u64;
+                drop(token);
+                return set(alloc, line, tokens, ending.within(place), Op::Equals);
             }
             match operator(word(line, &token)) {
-                Some(op) => behind_operator(alloc, line, tokens, ending, op),
+                Some(op) => {
+                    drop(token);
+                    behind_operator(alloc, line, tokens, ending, op)
+                }
                 None => single(alloc, line, tokens, ending, token),
             }
         }

@@ -6,7 +6,7 @@ ghost use Rattle.ug_rule.specs.Faults.{kind_number, fault_at, AnswersRead, Gives
 use thiserror::Error;
 use ug_types::NoMemory;
 
-#[derive(Clone, Copy, Debug, PartialEq, Eq, Error)]
+#[derive(Clone, Copy, Debug, Error)]
 pub enum RuleFault {
     /// The first fault from the left, and the number of bytes before it. The kinds: 1, a backslash that begins no
     /// escape; 2, a string without end, at its quote; 3, a byte that begins no token; 4, no target; 5, an unknown word

@@ -19,6 +19,7 @@ fn read_line(alloc: Global, line: &[u8]) -> Result<Option<Rule>, Stop>
 {
     let tokens = read(alloc, line)?;
     if tokens.as_slice().is_empty() {
+        drop(tokens);
         return Ok(None);
     }
     Ok(Some(rule(alloc, line, tokens)?))

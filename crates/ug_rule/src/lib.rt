@@ -16,4 +16,5 @@ pub use laws::{
     attributes_law, conditions_law, lines_law, one_meaning, rules_law, text_law, text_lines_law,
     values_law,
 };
+pub use queries::empty_query;
 pub use rules::{parse_query, parse_rule};

@@ -9,6 +9,7 @@ use crate::fault::{Ending, FaultKind, Stop};
 use crate::tokens_left::{Tokens, word};
 use crate::values::{FromToken, single, text, value};
 use std::alloc::Global;
+use std::mem::replace;
 use ug_lex::{Token, TokenKind};
 use ug_types::{Id, Query, Text, Values};
 use ug_words::{Attr, attribute, is_if};
@@ -20,6 +21,7 @@ pub struct Named {
     pub place: u64,
 }
 
+/// A query without attributes, which fits each device.
 pub fn empty_query() -> Query
     ensures { result ≡ queries.no_query }
 {
@@ -81,7 +83,7 @@ fn put_value<T: FromToken>(
         (λ p. Ok (Some p.0, p.1))) }
     ensures shorter { length tokens.new ≤ length tokens.old }
 {
-    *place = Some(value(alloc, line, tokens, ending)?);
+    drop(replace(place, Some(value(alloc, line, tokens, ending)?)));
     Ok(())
 }
 
@@ -96,7 +98,7 @@ fn put_text(
         (on_ok (values.text_of line.now ending tokens.old) (λ p. Ok (Some p.0, p.1))) }
     ensures shorter { length tokens.new ≤ length tokens.old }
 {
-    *place = Some(text(line, tokens, ending)?);
+    drop(replace(place, Some(text(line, tokens, ending)?)));
     Ok(())
 }
 
@@ -187,7 +189,7 @@ pub fn add_attributes(
 fn has_colon(word: &[u8]) -> bool
     ensures { result ≡ queries.has_colon word.now }
 {
-    word.iter().any(|b| b':' == *b)
+    word.contains(&b':')
 }
 
 fn id_query(id: Values<Id>) -> Query
@@ -216,10 +218,7 @@ fn bare_id(alloc: Global, line: &[u8], tokens: &mut Tokens) -> Result<Query, Sto
         return Ok(empty_query());
     }
     match tokens.next() {
-        Some(token) => {
-            let id = single(alloc, line, token)?;
-            Ok(id_query(id))
-        }
+        Some(token) => Ok(id_query(single(alloc, line, token)?)),
         None => Ok(empty_query()),
     }
 }

@@ -12,6 +12,7 @@ use crate::fault::{Ending, FaultKind, RuleFault, Stop, answer, required, where_g
 use crate::queries::{add_attributes, query, query_ends, stray};
 use crate::tokens_left::{Tokens, read, word};
 use std::alloc::Global;
+use std::mem::replace;
 use ug_lex::Token;
 use ug_types::{Conds, List, Query, Rule, Target};
 use ug_words::is_if;
@@ -58,33 +59,30 @@ fn last_attributes(
     line: &[u8],
     tokens: &mut Tokens,
     ending: Ending,
-    query: &mut Query,
+    rule: &mut Rule,
 ) -> Result<(), Stop>
-    ensures { (target : Target) → (conds : Option Conds) →
-        AnswersRead (on_ok result (λ _. Ok (rules.rule_with target query.new conds)))
-        (rules.last_attributes line.now ending target query.old conds tokens.old) }
+    ensures { AnswersRead (on_ok result (λ _. Ok rule.new))
+        (rules.last_attributes line.now
+        ending rule.old.target rule.old.query rule.old.conds tokens.old) }
 {
-    add_attributes(alloc, line, tokens, ending, query)?;
+    add_attributes(alloc, line, tokens, ending, &mut rule.query)?;
     rule_ends(line, tokens)
 }
 
-// The conditions or none, and what stands behind them.
+// Adds the conditions or none, and what stands behind them.
 fn later_parts(
     alloc: Global,
     line: &[u8],
     tokens: &mut Tokens,
     ending: Ending,
-    query: &mut Query,
-) -> Result<Option<Conds>, Stop>
-    ensures { (target : Target) →
-        AnswersRead (on_ok result (λ conds. Ok (rules.rule_with target query.new conds)))
-        (rules.later_parts line.now ending target query.old tokens.old) }
+    rule: &mut Rule,
+) -> Result<(), Stop>
+    ensures { AnswersRead (on_ok result (λ _. Ok rule.new))
+        (rules.later_parts line.now ending rule.old.target rule.old.query tokens.old) }
 {
     let conds = conds(alloc, line, tokens, ending)?;
-    match last_attributes(alloc, line, tokens, ending, query) {
-        Ok(()) => Ok(conds),
-        Err(stop) => Err(stop),
-    }
+    drop(replace(&mut rule.conds, conds));
+    last_attributes(alloc, line, tokens, ending, rule)
 }
 
 // What stands behind the target.
@@ -93,15 +91,14 @@ fn parts(alloc: Global, line: &[u8], tokens: &mut Tokens, target: Target) -> Res
     ensures { AnswersRead result (rules.parts_of line.now target tokens.old) }
 {
     let ending = end_of(line);
-    let mut query = query(alloc, line, tokens, ending)?;
-    match later_parts(alloc, line, tokens, ending, &mut query) {
-        Ok(conds) => Ok(Rule {
-            target,
-            query,
-            conds,
-        }),
-        Err(stop) => Err(stop),
-    }
+    let query = query(alloc, line, tokens, ending)?;
+    let mut rule = Rule {
+        target,
+        query,
+        conds: None,
+    };
+    let read = later_parts(alloc, line, tokens, ending, &mut rule);
+    where_good(rule, read)
 }
 
 /// The rule that the tokens of a line are.
@@ -113,11 +110,9 @@ pub fn rule(alloc: Global, line: &[u8], tokens: List<Token>) -> Result<Rule, Sto
     match tokens.next() {
         Some(token) => {
             let place = token.start as u64;
-            let target = required(
-                Target::named(word(line, &token)),
-                FaultKind::NoTarget,
-                place,
-            )?;
+            let named = Target::named(word(line, &token));
+            drop(token);
+            let target = required(named, FaultKind::NoTarget, place)?;
             parts(alloc, line, &mut tokens, target)
         }
         None => Err(Stop::at(FaultKind::NoTarget, line.len() as u64)),
@@ -139,6 +134,7 @@ fn whole_query(alloc: Global, line: &[u8], tokens: List<Token>) -> Result<Query,
     let ending = end_of(line);
     let query = query(alloc, line, &mut tokens, ending)?;
     let ended = query_ends(line, &mut tokens, ending, &query);
+    drop(tokens);
     where_good(query, ended)
 }
 

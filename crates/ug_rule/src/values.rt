@@ -106,8 +106,15 @@ fn items<T: FromToken>(
         if closes(&token) {
             return filled(items, token.start as u64);
         }
-        items.push(item(line, token)?)?;
+        match item(line, token) {
+            Ok(item) => items.push(item)?,
+            Err(stop) => {
+                drop(items);
+                return Err(stop);
+            }
+        }
     }
+    drop(items);
     Err(ending.missing(FaultKind::OpenSet))
 }
 
@@ -134,10 +141,13 @@ pub fn brace(tokens: &mut Tokens, ending: Ending, kind: FaultKind) -> Result<u64
 {
     match tokens.next() {
         Some(token) => {
-            if opens(&token) {
-                Ok(token.start as u64)
+            let place = token.start as u64;
+            let opens = opens(&token);
+            drop(token);
+            if opens {
+                Ok(place)
             } else {
-                Err(Stop::at(kind, token.start as u64))
+                Err(Stop::at(kind, place))
             }
         }
         None => Err(ending.missing(kind)),
@@ -184,16 +194,15 @@ pub fn value<T: FromToken>(
     match tokens.next() {
         Some(token) => {
             if opens(&token) {
-                return set(
-                    alloc,
-                    line,
-                    tokens,
-                    ending.within(token.start as u64),
-                    Op::Equals,
-                );
+                let place = token.start as u64;
+                drop(token);
+                return set(alloc, line, tokens, ending.within(place), Op::Equals);
             }
             match operator(word(line, &token)) {
-                Some(op) => behind_operator(alloc, line, tokens, ending, op),
+                Some(op) => {
+                    drop(token);
+                    behind_operator(alloc, line, tokens, ending, op)
+                }
                 None => single(alloc, line, token),
             }
         }

@@ -254,7 +254,10 @@ impl KeptRules {
         match edit {
             Edit::Insert { after, rule, mark } => self.insert(after, rule, mark),
             Edit::Remove { id } => self.remove(id),
-            Edit::Retarget { id, rule } => self.retarget(id, &rule),
+            Edit::Retarget { id, rule } => {
+                self.retarget(id, &rule);
+                drop(rule);
+            }
         }
     }
 

@@ -83,5 +83,7 @@ pub fn generate_policy<S: Source, K: Sink>(
     ensures written { result ≡ 5 → Rose (K.faults out.old) (K.faults out.new) }
 {
     let mut generator = Generator::new();
-    run(alloc, input, out, &mut generator, kernel)
+    let status = run(alloc, input, out, &mut generator, kernel);
+    drop(generator);
+    status
 }

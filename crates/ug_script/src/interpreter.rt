@@ -19,6 +19,7 @@ use crate::taken::{Taken, silently};
 use crate::text::put;
 use crate::totals::Totals;
 use std::alloc::Global;
+use std::mem::replace;
 use ug_command_io::{Machine, Ran};
 use ug_generate::generated_text;
 use ug_steps::StepFault;
@@ -56,7 +57,7 @@ impl Interpreter {
     {
         match begin(alloc, line) {
             Ok(running) => {
-                self.running = Some(running);
+                drop(replace(&mut self.running, Some(running)));
                 Ran::Done
             }
             Err(StepFault::Bad) => Ran::Bad,

@@ -29,6 +29,7 @@ use crate::taken::{Taken, silently};
 use crate::text::whole_text;
 use crate::totals::Totals;
 use std::alloc::Global;
+use std::mem::replace;
 use ug_command_io::Ran;
 use ug_print::RulesTextFault;
 use ug_steps::{Plan, SetupLine, Step, StepFault, parse_line};
@@ -40,13 +41,6 @@ fn takes_setup(phase: &Phase) -> bool
     ensures { result ≡ script.takes_setup (phase_of phase.now) }
 {
     matches!(phase, Phase::SettingUp)
-}
-
-/// A line that may not stand there.
-fn refuse(_line: SetupLine) -> Ran
-    ensures { result ≡ Ran.Bad }
-{
-    Ran::Bad
 }
 
 fn add_planned(plan: &mut Vec<Planned>, planned: Planned) -> Result<(), NoMemory>
@@ -169,7 +163,7 @@ impl Running {
         ensures { script_of self.new ≡ with_setup_closed (script_of self.old) }
     {
         if takes_setup(&self.phase) {
-            self.phase = Phase::Unstarted;
+            drop(replace(&mut self.phase, Phase::Unstarted));
         }
     }
 
@@ -182,7 +176,8 @@ impl Running {
             (Some (script_of self.new), w) held held result }
     {
         if !takes_setup(&self.phase) {
-            return refuse(line);
+            drop(line);
+            return Ran::Bad;
         }
         match self.setup.add(line) {
             Ok(()) => Ran::Done,
@@ -218,6 +213,7 @@ impl Running {
             Move::Plug(device) => self.carry_out(Move::Plug(device), kernel),
             Move::Unplug(name) => self.carry_out(Move::Unplug(name), kernel),
             Move::Iface(_) => {
+                drop(action);
                 self.close();
                 Ran::Done
             }
@@ -244,7 +240,7 @@ impl Running {
                 let setup = &self.setup;
                 let plan = &mut self.plan;
                 let ran = planned_event(alloc, setup, &mut session, plan, event, kernel);
-                self.phase = Phase::Started(session);
+                drop(replace(&mut self.phase, Phase::Started(session)));
                 ran
             }
             Err(RulesTextFault::TooLong) => Taken::TooLong,
@@ -268,7 +264,7 @@ impl Running {
             Ok(session) => {
                 let mut session = session;
                 let ran = restart_session(alloc, &self.setup, &mut session);
-                self.phase = Phase::Started(session);
+                drop(replace(&mut self.phase, Phase::Started(session)));
                 ran
             }
             Err(RulesTextFault::TooLong) => Ran::TooLong,
@@ -359,12 +355,22 @@ impl Running {
             → StepReads (Some step) (script_of self.old) kernel.old }
     {
         match step {
-            Step::Skip => Taken::Silent,
+            Step::Skip => {
+                drop(step);
+                Taken::Silent
+            }
             Step::Setup(line) => silently(self.set_up(line)),
             Step::Move(action) => silently(self.carry_out(action, kernel)),
             Step::Schedule(plan) => silently(self.schedule(plan, kernel)),
-            Step::Event(event) => self.event(alloc, &event, kernel),
-            Step::Restart => silently(self.restart(alloc)),
+            Step::Event(event) => {
+                let taken = self.event(alloc, &event, kernel);
+                drop(event);
+                taken
+            }
+            Step::Restart => {
+                drop(step);
+                silently(self.restart(alloc))
+            }
         }
     }
 
@@ -390,10 +396,14 @@ impl Running {
             (Some (script_of self.new), kernel.new) held held result }
     {
         match step {
-            Step::Skip => Ran::Done,
+            Step::Skip => {
+                drop(step);
+                Ran::Done
+            }
             Step::Setup(line) => self.set_up(line),
             Step::Move(action) => self.move_devices(action, kernel),
             Step::Schedule(_) | Step::Event(_) | Step::Restart => {
+                drop(step);
                 self.close();
                 Ran::Done
             }

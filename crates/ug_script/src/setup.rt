@@ -1,6 +1,7 @@
 // What the lines give that stand before all others.
-ghost use Rattle.std.specs.Prelude.{◌≡◌, ◌++◌, ◌∷◌, [], Some, IfOk};
+ghost use Rattle.std.specs.Prelude.{◌≡◌, ◌++◌, ◌∷◌, [], Some, IfErr, IfOk, OnOk};
 ghost use Rattle.ug_steps.specs.Grammar.{AsksForRule, HoldsRule};
+ghost use Rattle.ug_steps.specs.declared.step.SetupLine.TheVariants.{Seed, Zone};
 ghost use Rattle.ug_script.specs.Setup as lines;
 ghost use Rattle.ug_script.specs.Setup.{Adds, no_setup, one_line_more};
 ghost use Rattle.ug_rule.specs.Grammar.{WellFormed};
@@ -56,15 +57,26 @@ fn is_offset(seconds: i32) -> bool
     -86399 <= seconds && seconds <= 86399
 }
 
+fn add_item<T: Drop>(item: T, items: &mut Vec<T>) -> Result<(), StepFault>
+    ensures memory { IfErr result (λ fault. fault ≡ StepFault.Memory) }
+    ensures added { OnOk result (items.new.items ≡ items.old.items ++ item ∷ []) }
+{
+    match items.push(item) {
+        Ok(()) => Ok(()),
+        Err(_) => Err(StepFault::Memory),
+    }
+}
+
 impl Setup {
     /// No line was taken.
     pub fn new(alloc: Global) -> Result<Setup, NoMemory>
         ensures { IfOk result (λ setup. setup ≡ no_setup) }
     {
+        let settings = SettingsReader::new(alloc)?;
         Ok(Setup {
             folder: FolderLines::new(alloc),
             rules: RuleLines::new(alloc),
-            settings: SettingsReader::new(alloc)?,
+            settings,
             access: Vec::new(alloc),
             seed: None,
             zone: None,
@@ -78,25 +90,17 @@ impl Setup {
         ensures { Adds (one_line_more line self.old) result self.old self.new }
     {
         match line {
-            SetupLine::Rule(rule) => self.add_rule(rule),
-            SetupLine::Folder(line) => self.add_folder_line(line),
+            SetupLine::Rule(rule) => {
+                let added = self.add_rule(&rule);
+                drop(rule);
+                added
+            }
+            SetupLine::Folder(line) => self.add_folder_line(&line),
             SetupLine::Conf(text) => self.add_setting(text.bytes()),
-            SetupLine::Access(line) => self.add_access(line),
-            SetupLine::Seed(seed) => {
-                if self.seed.is_some() {
-                    return Err(StepFault::Bad);
-                }
-                self.seed = Some(seed);
-                Ok(())
-            }
-            SetupLine::Zone(offset) => {
-                if self.zone.is_some() || !is_offset(offset) {
-                    return Err(StepFault::Bad);
-                }
-                self.zone = Some(offset);
-                Ok(())
-            }
-            SetupLine::IfaceRule(rule) => self.add_iface_rule(rule),
+            SetupLine::Access(line) => add_item(line, &mut self.access),
+            SetupLine::Seed(seed) => self.add_seed(seed),
+            SetupLine::Zone(offset) => self.add_zone(offset),
+            SetupLine::IfaceRule(rule) => add_item(rule, &mut self.ifaces),
         }
     }
 
@@ -107,27 +111,27 @@ impl Setup {
         self.folder.len() + self.rules.len() < MAX_RULES
     }
 
-    fn add_folder_line(&mut self, line: FolderLine) -> Result<(), StepFault>
-        requires { HoldsRule line.text }
-        ensures { Adds (lines.one_folder_line_more line self.old) result self.old self.new }
+    fn add_folder_line(&mut self, line: &FolderLine) -> Result<(), StepFault>
+        requires { HoldsRule line.now.text }
+        ensures { Adds (lines.one_folder_line_more line.now self.old) result self.old self.new }
     {
         if !self.has_room() {
             return Err(StepFault::Bad);
         }
-        match self.folder.push(&line) {
+        match self.folder.push(line) {
             Ok(()) => Ok(()),
             Err(_) => Err(StepFault::Memory),
         }
     }
 
-    fn add_rule(&mut self, rule: Rule) -> Result<(), StepFault>
-        requires { WellFormed rule }
-        ensures { Adds (lines.one_rule_more rule self.old) result self.old self.new }
+    fn add_rule(&mut self, rule: &Rule) -> Result<(), StepFault>
+        requires { WellFormed rule.now }
+        ensures { Adds (lines.one_rule_more rule.now self.old) result self.old self.new }
     {
         if !self.has_room() {
             return Err(StepFault::Bad);
         }
-        match self.rules.push(&rule) {
+        match self.rules.push(rule) {
             Ok(()) => Ok(()),
             Err(_) => Err(StepFault::Memory),
         }
@@ -146,23 +150,23 @@ impl Setup {
         }
     }
 
-    fn add_access(&mut self, line: AccessLine) -> Result<(), StepFault>
-        ensures { Adds (Some (record self.old { access = self.old.access ++ line ∷ [] }))
-            result self.old self.new }
+    fn add_seed(&mut self, seed: [u8; 32]) -> Result<(), StepFault>
+        ensures { Adds (one_line_more (Seed seed) self.old) result self.old self.new }
     {
-        match self.access.push(line) {
-            Ok(()) => Ok(()),
-            Err(_) => Err(StepFault::Memory),
+        if self.seed.is_some() {
+            return Err(StepFault::Bad);
         }
+        self.seed = Some(seed);
+        Ok(())
     }
 
-    fn add_iface_rule(&mut self, rule: IfaceRule) -> Result<(), StepFault>
-        ensures { Adds (Some (record self.old { ifaces = self.old.ifaces ++ rule ∷ [] }))
-            result self.old self.new }
+    fn add_zone(&mut self, offset: i32) -> Result<(), StepFault>
+        ensures { Adds (one_line_more (Zone offset) self.old) result self.old self.new }
     {
-        match self.ifaces.push(rule) {
-            Ok(()) => Ok(()),
-            Err(_) => Err(StepFault::Memory),
+        if self.zone.is_some() || !is_offset(offset) {
+            return Err(StepFault::Bad);
         }
+        self.zone = Some(offset);
+        Ok(())
     }
 }

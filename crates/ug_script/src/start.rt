@@ -19,6 +19,7 @@ use jiff::tz::{Offset, TimeZone};
 use rand_chacha::ChaCha20Rng;
 use rand_core::{Rng, SeedableRng};
 use std::alloc::Global;
+use std::mem::replace;
 use ug_conf::{Settings, default_settings};
 use ug_core::{Daemon, StartFault};
 use ug_policy::MAX_RULES;
@@ -161,11 +162,11 @@ fn start_on(
     ensures read { OnOk result (disk.new ≡ after_reading disk.old) }
     ensures still { disk.new.ran_out ≡ false → IsStillOn disk.old disk.new }
 {
-    let settings = settings_of(alloc, setup)?;
+    let folder = setup.folder.files(alloc)?;
     let access = access_of(alloc, setup)?;
+    let settings = settings_of(alloc, setup)?;
     let rng = rng_for(setup);
     let zone = zone_for(setup);
-    let folder = setup.folder.files(alloc)?;
     match Daemon::start(alloc, settings, access, rng, zone, first, folder, disk) {
         Ok(daemon) => Ok(daemon),
         Err(fault) => Err(no_start(fault)),
@@ -190,8 +191,14 @@ pub fn start_daemon(alloc: Global, setup: &Setup) -> Result<Session, RulesTextFa
             before: setup.folder.len(),
             disk,
         }),
-        Err(NoStart::TooLong) => Err(RulesTextFault::TooLong),
-        Err(NoStart::Memory) => Err(RulesTextFault::Memory),
+        Err(NoStart::TooLong) => {
+            drop(disk);
+            Err(RulesTextFault::TooLong)
+        }
+        Err(NoStart::Memory) => {
+            drop(disk);
+            Err(RulesTextFault::Memory)
+        }
         Err(NoStart::BadRules) => unreachable!(),
     }
 }
@@ -212,7 +219,7 @@ pub fn restart_daemon(alloc: Global, setup: &Setup, session: &mut Session) -> Re
     let first = session.daemon.next_event();
     match start_on(alloc, setup, first, &mut session.disk) {
         Ok(daemon) => {
-            session.daemon = daemon;
+            drop(replace(&mut session.daemon, daemon));
             Ok(())
         }
         Err(NoStart::Memory) => Err(NoMemory),

@@ -134,5 +134,7 @@ pub fn summarize<S: Source, K: Sink>(
     ensures written { result ≡ 5 → Rose (K.faults out.old) (K.faults out.new) }
 {
     let mut summarizer = Summarizer::new();
-    run(alloc, input, out, &mut summarizer, kernel)
+    let status = run(alloc, input, out, &mut summarizer, kernel);
+    drop(summarizer);
+    status
 }

@@ -189,18 +189,18 @@ fn add_users(users: &[Principal], added: &mut Added) -> Result<(), NoMemory>
 }
 
 /// Adds the users, and lists all that something was added for.
-fn open_with(alloc: Global, users: &[Principal], mut added: Added) -> Result<Access, NoMemory>
-    requires { added.principals.items ≡ added_for added.acl }
-    ensures acl { IfOk result (λ access. access.acl ≡ added.acl ++ user_additions users.now) }
-    ensures listed { IfOk result (λ access. AreListed (added_for access.acl) access.principals) }
-    ensures few { IfOk result (λ access. length access.principals < 2 ^ 32) }
+fn list_with(
+    alloc: Global,
+    users: &[Principal],
+    added: &mut Added,
+) -> Result<List<Principal>, NoMemory>
+    requires { added.old.principals.items ≡ added_for added.old.acl }
+    ensures acl { OnOk result (added.new.acl ≡ added.old.acl ++ user_additions users.now) }
+    ensures listed { IfOk result (λ principals. AreListed (added_for added.new.acl) principals) }
+    ensures few { IfOk result (λ principals. length principals < 2 ^ 32) }
 {
-    add_users(users, &mut added)?;
-    let principals = list_in_order(alloc, added.principals.as_slice())?;
-    Ok(Access {
-        acl: added.acl,
-        principals,
-    })
+    add_users(users, added)?;
+    list_in_order(alloc, added.principals.as_slice())
 }
 
 /// What the files of the access folder grant, in byte order of their names, and behind that everything to the users and groups of the
@@ -221,7 +221,21 @@ pub fn read_access<F: ConfFiles>(
         acl: Acl::new(alloc),
         principals: Vec::new(alloc),
     };
-    add_folder(alloc, settings.access_folder.bytes(), files, &mut added)?;
-    let access = open_with(alloc, settings.users.as_slice(), added)?;
-    Ok(access)
+    match add_folder(alloc, settings.access_folder.bytes(), files, &mut added) {
+        Ok(()) => {}
+        Err(why) => {
+            drop(added);
+            return Err(why);
+        }
+    }
+    match list_with(alloc, settings.users.as_slice(), &mut added) {
+        Ok(principals) => Ok(Access {
+            acl: added.acl,
+            principals,
+        }),
+        Err(NoMemory) => {
+            drop(added);
+            Err(NotStarted::Memory)
+        }
+    }
 }

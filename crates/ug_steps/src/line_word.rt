@@ -2,6 +2,8 @@
 ghost use Rattle.std.specs.Prelude.{◌≡◌};
 ghost use Rattle.ug_steps.specs.LineWords.{line_word_of, plan_word_of, setup_word_of};
 
+use crate::words::is_word;
+
 /// A line's first word.
 #[derive(Clone, Copy)]
 pub enum LineWord {
@@ -32,25 +34,25 @@ pub enum LineWord {
 fn setup_word(text: &[u8]) -> Option<LineWord>
     ensures { result ≡ setup_word_of text.now }
 {
-    if text == b"rule".as_slice() {
+    if is_word(text, b"rule") {
         return Some(LineWord::Rule);
     }
-    if text == b"folder".as_slice() {
+    if is_word(text, b"folder") {
         return Some(LineWord::Folder);
     }
-    if text == b"conf".as_slice() {
+    if is_word(text, b"conf") {
         return Some(LineWord::Conf);
     }
-    if text == b"access".as_slice() {
+    if is_word(text, b"access") {
         return Some(LineWord::Access);
     }
-    if text == b"seed".as_slice() {
+    if is_word(text, b"seed") {
         return Some(LineWord::Seed);
     }
-    if text == b"zone".as_slice() {
+    if is_word(text, b"zone") {
         return Some(LineWord::Zone);
     }
-    if text == b"iface-rule".as_slice() {
+    if is_word(text, b"iface-rule") {
         return Some(LineWord::IfaceRule);
     }
     None
@@ -61,19 +63,19 @@ fn setup_word(text: &[u8]) -> Option<LineWord>
 fn plan_word(text: &[u8]) -> Option<LineWord>
     ensures { result ≡ plan_word_of text.now }
 {
-    if text == b"before".as_slice() {
+    if is_word(text, b"before") {
         return Some(LineWord::Before);
     }
-    if text == b"after".as_slice() {
+    if is_word(text, b"after") {
         return Some(LineWord::After);
     }
-    if text == b"fail".as_slice() {
+    if is_word(text, b"fail") {
         return Some(LineWord::Fail);
     }
-    if text == b"disk".as_slice() {
+    if is_word(text, b"disk") {
         return Some(LineWord::Disk);
     }
-    if text == b"stop".as_slice() {
+    if is_word(text, b"stop") {
         return Some(LineWord::Stop);
     }
     setup_word(text)
@@ -83,25 +85,25 @@ fn plan_word(text: &[u8]) -> Option<LineWord>
 pub fn line_word(text: &[u8]) -> Option<LineWord>
     ensures { result ≡ line_word_of text.now }
 {
-    if text == b"plug".as_slice() {
+    if is_word(text, b"plug") {
         return Some(LineWord::Plug);
     }
-    if text == b"unplug".as_slice() {
+    if is_word(text, b"unplug") {
         return Some(LineWord::Unplug);
     }
-    if text == b"iface".as_slice() {
+    if is_word(text, b"iface") {
         return Some(LineWord::Iface);
     }
-    if text == b"uniface".as_slice() {
+    if is_word(text, b"uniface") {
         return Some(LineWord::Uniface);
     }
-    if text == b"sweep".as_slice() {
+    if is_word(text, b"sweep") {
         return Some(LineWord::Sweep);
     }
-    if text == b"order".as_slice() {
+    if is_word(text, b"order") {
         return Some(LineWord::Order);
     }
-    if text == b"hint".as_slice() {
+    if is_word(text, b"hint") {
         return Some(LineWord::Hint);
     }
     plan_word(text)

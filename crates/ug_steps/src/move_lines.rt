@@ -18,14 +18,19 @@ use ug_sysfs::{IfaceMove, Move};
 fn move_behind(alloc: Global, word: LineWord, text: &[u8]) -> Result<Move, StepFault>
     ensures { Parses (grammar.move_behind word text.now) result }
 {
+    let bad = StepFault::Bad;
     match word {
-        LineWord::Plug => Ok(Move::Plug(device(alloc, text)?)),
-        LineWord::Unplug => Ok(Move::Unplug(name(text).ok_or(StepFault::Bad)?)),
-        LineWord::Iface => Ok(Move::Iface(IfaceMove::Add(new_iface(text).ok_or(StepFault::Bad)?))),
-        LineWord::Uniface => Ok(Move::Iface(IfaceMove::Remove(iface_name(text).ok_or(
-            StepFault::Bad,
-        )?))),
-        _ => Err(StepFault::Bad),
+        LineWord::Plug => device(alloc, text).map(Move::Plug),
+        LineWord::Unplug => name(text).ok_or(bad).map(Move::Unplug),
+        LineWord::Iface => new_iface(text)
+            .ok_or(bad)
+            .map(IfaceMove::Add)
+            .map(Move::Iface),
+        LineWord::Uniface => iface_name(text)
+            .ok_or(bad)
+            .map(IfaceMove::Remove)
+            .map(Move::Iface),
+        _ => Err(bad),
     }
 }
 

@@ -10,7 +10,7 @@ use crate::plan_lines::{disk_fail, failing, scheduled, stop};
 use crate::plugs::device;
 use crate::setup_lines::{offset, read_access, read_folder_line, read_iface_rule, read_rule, seed};
 use crate::step::{Plan, SetupLine, Step, StepFault};
-use crate::words::{moment, name, space};
+use crate::words::{is_word, moment, name, space};
 use std::alloc::Global;
 use ug_sysfs::{IfaceMove, Move};
 use ug_types::{Event, Moment, Text};
@@ -77,7 +77,7 @@ pub fn parse_line(alloc: Global, line: &[u8]) -> Result<Step, StepFault>
     if line.is_empty() || line.starts_with(b"#") {
         return Ok(Step::Skip);
     }
-    if line == b"restart".as_slice() {
+    if is_word(line, b"restart") {
         return Ok(Step::Restart);
     }
     match space(line) {

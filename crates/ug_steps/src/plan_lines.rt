@@ -7,7 +7,7 @@ ghost use Rattle.ug_steps.specs.Words.{Parses};
 
 use crate::move_lines::move_line;
 use crate::step::StepFault;
-use crate::words::{moment, space};
+use crate::words::{is_word, moment, space};
 use std::alloc::Global;
 use ug_store::{Mishap, Planned};
 use ug_sysfs::{Failing, Scheduled};
@@ -64,7 +64,7 @@ fn failing_at(effect: bool, text: &[u8]) -> Option<Failing>
 fn is_effect(word: &[u8]) -> bool
     ensures { result ≡ grammar.is_effect word.now }
 {
-    word == b"effect".as_slice()
+    is_word(word, b"effect")
 }
 
 /// A call's number, and `effect` behind it where a write is to have its effect all the same.
@@ -97,7 +97,7 @@ fn mishap(effect: bool) -> Mishap
 fn is_fail(word: &[u8]) -> bool
     ensures { result ≡ grammar.is_fail word.now }
 {
-    word == b"fail".as_slice()
+    is_word(word, b"fail")
 }
 
 fn failing_on_disk(text: &[u8]) -> Option<Planned>
@@ -133,10 +133,10 @@ pub fn disk_fail(text: &[u8]) -> Option<Planned>
 fn mishap_word(word: &[u8]) -> Option<Mishap>
     ensures { result ≡ grammar.mishap_word word.now }
 {
-    if word == b"old".as_slice() {
+    if is_word(word, b"old") {
         return Some(Mishap::NoEffect);
     }
-    if word == b"new".as_slice() {
+    if is_word(word, b"new") {
         return Some(Mishap::Effect);
     }
     None

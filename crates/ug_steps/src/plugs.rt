@@ -5,7 +5,7 @@ ghost use Rattle.ug_steps.specs.Plugs as plugs;
 ghost use Rattle.ug_steps.specs.Words.{Parses};
 
 use crate::step::StepFault;
-use crate::words::{bytes, name, space};
+use crate::words::{bytes, is_word, name, space};
 use std::alloc::Global;
 use ug_lex::{LexFault, Token, TokenKind, tokens};
 use ug_sysfs::NewDevice;
@@ -154,10 +154,10 @@ fn with_digits(alloc: Global, name: NodeName, on: bool, text: &[u8]) -> Result<N
 pub fn start(word: &[u8]) -> Option<bool>
     ensures { result ≡ start_of word.now }
 {
-    if word == b"0".as_slice() {
+    if is_word(word, b"0") {
         return Some(false);
     }
-    if word == b"1".as_slice() {
+    if is_word(word, b"1") {
         return Some(true);
     }
     None

@@ -47,8 +47,11 @@ fn check_rule(alloc: Global, line: &[u8]) -> Result<(), StepFault>
     ensures bad { result ≡ Err StepFault.Bad
         → (fault : Fault) × (rule_read line.now ≡ Err fault) }
 {
-    match &parse_rule(alloc, line) {
-        Ok(_) => Ok(()),
+    match parse_rule(alloc, line) {
+        Ok(rule) => {
+            drop(rule);
+            Ok(())
+        }
         Err(RuleFault::Bad { .. }) => Err(StepFault::Bad),
         Err(RuleFault::Memory) => Err(StepFault::Memory),
     }

@@ -30,4 +30,5 @@ pub mod MapChanges
 pub mod Agreement
 pub mod Above
 pub mod Asked
+pub mod Brought
 pub mod Watched

@@ -1,9 +1,10 @@
 -- One name more.
-use Rattle.std.proofs.Common.{◌≡◌, ℕ, ◌+◌, ◌<◌, ◌≤◌, Bool, Option, List, ◌∷◌, ◌++◌, length, get_or, set, map, take, drop, sym, ap, ◌∙◌, subst, arith}
+use Rattle.std.proofs.Common.{◌≡◌, ℕ, ◌+◌, ◌<◌, ◌≤◌, Bool, Option, List, ◌∷◌, ◌++◌, length, get_or, set, map, take, drop, refl, sym, ap, ◌∙◌, subst, arith}
 use Rattle.std.proofs.lemmas.List.Edits.{map_over_more}
 use Rattle.std.proofs.lemmas.Grind.{common_steps}
 use Rattle.std.proofs.lemmas.List.{drop_more, get_or_default}
-use Rattle.ug_table.proofs.Common.{Terms, Write, Entry, Standing, Call, Answer, Runs, State, Kept, Answers, Laters, Settled, settling_all, resettling_all, settling, resettling}
+use Rattle.ug_kernel.specs.Tree.{Prog, Return}
+use Rattle.ug_table.proofs.Common.{Terms, Write, Wrote, FailedCall, Entry, Standing, Call, Answer, Runs, after_write, State, Kept, Answers, Laters, Settled, settling_all, resettling_all, settling, resettling}
 use Rattle.ug_kernel.proofs.Runs.{runs_then}
 use Rattle.ug_audit.specs.declared.journal.Journal.{Journal}
 use Rattle.ug_audit.specs.Journal.{Notes, AuditorTold}
@@ -36,3 +37,10 @@ changed_more f xs ys i d y is lt same h =
 -- a state whose fields are those of another
 pub same_state : {J : Type 0} (ss rs : List Standing) (next after : ℕ) (listed seen : Bool) (judge : J) (hub : Option Write) (es : List Entry) → rs ≡ ss → after ≡ next → seen ≡ listed → let made : State J = record { standings = rs; next = after; listed = seen; judge = judge; hub = hub; entries = es } in let was : State J = record { standings = ss; next = next; listed = listed; judge = judge; hub = hub; entries = es } in made ≡ was
 same_state ss rs next after listed seen judge hub es a b c = λ i. record { standings = a i; next = b i; listed = c i; judge = judge; hub = hub; entries = es }
+
+-- the outcome of a write, noted behind its intent
+pub noted_write : {S : Type 0} (gives : S → (call : Call) → Answer call → S → Type 0) (s : S) (name : List ℕ) (number : ℕ) (what : Write) (before entries : List Entry) (outcome : Wrote) (failed told : FailedCall) (r : Settled × List Entry) → entries ≡ before → failed ≡ told → after_write name number what entries outcome failed ≡ Return r → Runs gives s (after_write name number what before outcome told) r s
+noted_write gives s name number what before entries outcome failed told r e f h =
+    subst (λ (es : List Entry). Runs gives s (after_write name number what es outcome told) r s) e
+    (subst (λ (x : FailedCall). Runs gives s (after_write name number what entries outcome x) r s) f
+    (subst (λ (p : Prog (Settled × List Entry)). Runs gives s p r s) (sym h) (refl, refl)))

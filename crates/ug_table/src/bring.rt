@@ -4,16 +4,16 @@ ghost use Rattle.ug_types.specs.Names.{parent_of};
 ghost use Rattle.ug_kernel.specs.declared.control.Write.{Write};
 ghost use Rattle.ug_kernel.specs.declared.control.Control.TheVariants.{Default};
 ghost use Rattle.ug_kernel.specs.declared.control.Write.TheVariants.{Remove};
-ghost use Rattle.ug_kernel.specs.Tree.{Runs};
+ghost use Rattle.ug_kernel.specs.Tree.{Return, Runs};
 ghost use Rattle.ug_audit.specs.Journal.{Notes, noted_in};
 ghost use Rattle.ug_table.specs.declared.standing.Settled.TheVariants.{Stands};
 ghost use Rattle.ug_table.specs.Done.{control_of};
-ghost use Rattle.ug_table.specs.Bring.{wants, write_of, is_reject, is_to_go, valuing, to_once, after_hold, once, writing, bringing, default_write, default_due, defaulted_known, treating};
+ghost use Rattle.ug_table.specs.Bring.{wants, write_of, is_reject, is_to_go, valuing, to_once, after_hold, after_write, once, writing, bringing, default_write, default_due, defaulted_known, treating};
 
 use crate::standing::{Known, Settled};
 use std::alloc::Global;
 use ug_audit::{Auditor, Entry, Journal};
-use ug_kernel::{Held, Sysfs, Write, Wrote};
+use ug_kernel::{FailedCall, Held, Sysfs, Write, Wrote};
 use ug_node::{RemoveHold, failed_call, hold_default, hold_remove, put};
 use ug_types::{NodeName, Target};
 
@@ -55,6 +55,40 @@ fn is_to_go(known: Known) -> bool
     is_reject(known.verdict) && !known.removed
 }
 
+// Notes what became of a write, and how the settling goes on behind it.
+fn note_write(
+    out: &mut Journal,
+    name: &NodeName,
+    number: u64,
+    write: Write,
+    outcome: Wrote,
+    failed: FailedCall,
+) -> Settled
+    requires { 2 ≤ (noted_in out.old).spare }
+    ensures after { after_write name.now number write (noted_in out.old).entries outcome failed
+        ≡ Return (result, (noted_in out.new).entries) }
+    ensures journal { Notes (λ b. ⟦<dyn Auditor as Auditor>⟧ b.vtable) 2 out.old out.new }
+    ensures stands { result ≡ Stands → (noted_in out.old).spare ≤ (noted_in out.new).spare + 1 }
+{
+    out.push(Entry::Wrote {
+        number,
+        name: *name,
+        write,
+        outcome,
+    });
+    match outcome {
+        Wrote::Done => Settled::Stands,
+        Wrote::Gone => {
+            out.push(Entry::Gone {
+                number,
+                name: *name,
+            });
+            Settled::Nobody
+        }
+        Wrote::Failed => Settled::Fault(failed),
+    }
+}
+
 /// Writes where the value differs from the one that the verdict wants.
 #[tactic(auto, unfolding(crate::specs::Bring::valuing))]
 fn set_value<Y: Sysfs>(
@@ -81,23 +115,8 @@ fn set_value<Y: Sysfs>(
         write,
     });
     let outcome = sysfs.write(known.held, write);
-    out.push(Entry::Wrote {
-        number,
-        name: *name,
-        write,
-        outcome,
-    });
-    match outcome {
-        Wrote::Done => Settled::Stands,
-        Wrote::Gone => {
-            out.push(Entry::Gone {
-                number,
-                name: *name,
-            });
-            Settled::Nobody
-        }
-        Wrote::Failed => Settled::Fault(failed_call(sysfs)),
-    }
+    let failed = failed_call(sysfs);
+    note_write(out, name, number, write, outcome, failed)
 }
 
 // Writes to a file of a device that was held, and closes it.
@@ -126,23 +145,7 @@ fn write_file<Y: Sysfs>(
     let wrote = put(sysfs, file, write);
     let failed = failed_call(sysfs);
     sysfs.close(file);
-    out.push(Entry::Wrote {
-        number,
-        name: *name,
-        write,
-        outcome: wrote,
-    });
-    match wrote {
-        Wrote::Done => Settled::Stands,
-        Wrote::Gone => {
-            out.push(Entry::Gone {
-                number,
-                name: *name,
-            });
-            Settled::Nobody
-        }
-        Wrote::Failed => Settled::Fault(failed),
-    }
+    note_write(out, name, number, write, wrote, failed)
 }
 
 // Writes to a file of a device where it is held.

@@ -68,7 +68,9 @@ pub fn facts_of(
         }
         (_, read) => {
             let hash = parent_hash(alloc, read.as_ref())?;
-            record_and_hash(alloc, name, &bound.attrs, bound.core_long, hash.bytes())
+            let facts = record_and_hash(alloc, name, &bound.attrs, bound.core_long, hash.bytes());
+            drop(hash);
+            facts
         }
     }
 }

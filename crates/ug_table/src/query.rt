@@ -1,5 +1,5 @@
 // Copies of queries, and whether two are the same.
-ghost use Rattle.std.specs.Prelude.{◌≡◌, true, IfOk};
+ghost use Rattle.std.specs.Prelude.{◌≡◌, ◌++◌, ◌∷◌, [], true, IfOk};
 
 use std::alloc::Global;
 use std::mem::replace;
@@ -115,12 +115,25 @@ pub fn is_same(one: &Query, other: &Query) -> bool
         && same_label(&one.label, &other.label)
 }
 
+// Puts a copy of the item behind others, where there is memory for it.
+fn copy_behind<T: Value>(alloc: Global, item: &T, made: &mut List<T>) -> bool
+    ensures { result ≡ true → made.new ≡ made.old ++ item.now ∷ [] }
+{
+    match item.copy(alloc) {
+        Ok(copied) => made.push(copied).is_ok(),
+        Err(_) => false,
+    }
+}
+
 fn copy_items<T: Value>(alloc: Global, items: &[T]) -> Result<List<T>, NoMemory>
     ensures { IfOk result (λ made. made ≡ items.now) }
 {
     let mut made = List::new(alloc);
     for item in items {
-        made.push(item.copy(alloc)?)?;
+        if !copy_behind(alloc, item, &mut made) {
+            drop(made);
+            return Err(NoMemory);
+        }
     }
     Ok(made)
 }

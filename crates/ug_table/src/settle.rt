@@ -1,5 +1,5 @@
 // The settling of one name.
-ghost use Rattle.std.specs.Prelude.{true, false, IfOk, ◌≡◌, ◌≤◌, ◌<◌, ◌+◌, ◌++◌, ◌∷◌, [], ◌-◌, ◌^◌, length, is_none, IsSome, Some, None};
+ghost use Rattle.std.specs.Prelude.{true, false, IfOk, ◌≡◌, ◌≤◌, ◌<◌, ◌+◌, ◌++◌, ◌∷◌, [], ◌-◌, ◌^◌, length, is_none, IsSome, Some, None, vec_capacity};
 ghost use Rattle.ug_types.specs.Names.{parent_of};
 ghost use Rattle.ug_kernel.specs.Tree.{Runs, Room};
 ghost use Rattle.ug_table.specs.Slots.{place_of};
@@ -8,7 +8,7 @@ ghost use Rattle.ug_audit.specs.Journal.{Notes, noted_in};
 ghost use Rattle.ug_audit.specs.declared.entry.Entry.TheVariants.{Unsettled};
 ghost use Rattle.ug_table.specs.State.{state_of, kept_of, terms_of};
 ghost use Rattle.ug_table.specs.Order.{KeepsOrder};
-ghost use Rattle.ug_table.specs.Standings.{numbered, standing_of, did_default};
+ghost use Rattle.ug_table.specs.Standings.{named, numbered, standing_of, did_default};
 ghost use Rattle.ug_table.specs.One.{resettling_numbered, GoesAsPart, SettlesOne, ResettlesOne, NeedsRoom};
 ghost use Rattle.ug_table.specs.Marks.{LeavesMarks, has_name, has_number};
 ghost use Rattle.ug_table.specs.declared.standing.Standing.{Standing};
@@ -41,6 +41,23 @@ fn is_stands(settled: Settled) -> bool
         Settled::Stands => true,
         _ => false,
     }
+}
+
+// Holds a place for a standing of that name and number, and room for one name more.
+fn hold_place(
+    standings: &mut Standings,
+    names: &mut Vec<NodeName>,
+    name: &NodeName,
+    number: u64,
+) -> bool
+    requires unnamed { named name.now standings.old.items ≡ None }
+    requires unnumbered { numbered number standings.old.items ≡ None }
+    ensures items { standings.new.items ≡ standings.old.items }
+    ensures place { result ≡ true → standings.new.place ≡ place_of name.now number }
+    ensures room { result ≡ true → length standings.old.items < vec_capacity names.new }
+    ensures kept { vec_capacity names.old ≤ vec_capacity names.new }
+{
+    names.reserve(standings.count() + 1).is_ok() && standings.reserve(name, number).is_ok()
 }
 
 /// Keeps a new standing, unless its device is gone.
@@ -174,10 +191,9 @@ impl Table {
     {
         let number = self.next;
         let held = bound.held;
-        if self.names.reserve(self.standings.count() + 1).is_err() {
-            return self.lack_memory(sysfs, name, held, judge, hub_default, out);
-        }
-        if self.standings.reserve(name, number).is_err() {
+        if !hold_place(&mut self.standings, &mut self.names, name, number) {
+            drop(judged);
+            drop(hash);
             return self.lack_memory(sysfs, name, held, judge, hub_default, out);
         }
         let (verdict, cause) = judge.verdict(&judged, is_controller(name), present, bound.on, self);

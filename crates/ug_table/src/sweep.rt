@@ -144,6 +144,32 @@ fn resettle_all<Y: Sysfs>(
     }
 }
 
+/// Settles each standing again, in order. There is room for their names.
+fn resettle_each<Y: Sysfs>(
+    alloc: Global,
+    standings: &mut Standings,
+    names: &mut Vec<NodeName>,
+    sysfs: &mut Y,
+    hub_default: Option<Write>,
+    out: &mut Journal,
+)
+    requires spare { 8 * length standings.old.items ≤ (noted_in out.old).spare }
+    requires room { length standings.old.items ≤ vec_capacity names.old }
+    ensures runs { Runs Y.gives sysfs.old
+        (resettling_all hub_default (names_of standings.old.items)
+        (kept_of standings.old.items (noted_in out.old).entries))
+        (kept_of standings.new.items (noted_in out.new).entries) sysfs.new }
+    ensures journal { Notes (λ b. ⟦<dyn Auditor as Auditor>⟧ b.vtable)
+        (8 * length standings.old.items) out.old out.new }
+    ensures keeps { KeepsOrder standings.old.items standings.new.items }
+    ensures len { length standings.new.items ≤ length standings.old.items }
+    ensures capacity { vec_capacity names.new ≡ vec_capacity names.old }
+{
+    names.clear();
+    standings.names_into(names);
+    resettle_all(alloc, standings, sysfs, names, hub_default, out);
+}
+
 impl Table {
     /// Drops the standings of other names than these.
     fn part<A: Judge>(
@@ -273,13 +299,11 @@ impl Table {
         ensures len { length self.new.standings ≤ length self.old.standings }
     {
         out.push(Entry::UnsettledAll { fault });
-        self.names.clear();
-        self.standings.names_into(&mut self.names);
-        resettle_all(
+        resettle_each(
             alloc,
             &mut self.standings,
+            &mut self.names,
             sysfs,
-            &self.names,
             hub_default,
             out,
         );

@@ -38,22 +38,25 @@ fn end_with<K: Sink>(out: &mut K, line: &[u8], status: u8) -> ExitCode {
 
 // Runs the command of these words, and gives its status.
 fn run<K: Sink>(rt: HostRuntime, words: &[&str], out: &mut K) -> u8 {
-    let mut input = ReaderSource::new(rt.reader());
     match words {
         ["daemon", behind @ ..] => serve(rt, behind),
         ["replay", ..] => {
+            let mut input = ReaderSource::new(rt.reader());
             let mut kernel = SimKernel::new(rt.alloc());
             let status = run_replay(rt.alloc(), words, &mut input, out, &mut kernel);
             drop(kernel);
+            drop(input);
             status
         }
         _ => {
+            let mut input = ReaderSource::new(rt.reader());
             let mut link = SocketLink::new(rt);
             let status = run_tool(rt.alloc(), words, &mut input, out, &mut link);
             if status == 8 {
                 tell_link(&rt, &link);
             }
             drop(link);
+            drop(input);
             status
         }
     }
@@ -73,14 +76,19 @@ fn main(rt: HostRuntime) -> ExitCode {
         }
     };
     let Some(words) = words_of(alloc, texts.as_slice()) else {
+        drop(texts);
         return end_with(&mut out, b"no memory\n", 6);
     };
     if let Some(status) = tell_about(&rt, &words) {
+        drop(words);
+        drop(texts);
         return ExitCode::from(status);
     }
     tell_waiting(&rt, &words);
     let status = run(rt, &words, &mut out);
     tell_line(&rt, lines.text());
     tell(&rt, &words, status);
+    drop(words);
+    drop(texts);
     ExitCode::from(status)
 }

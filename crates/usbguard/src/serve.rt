@@ -91,10 +91,15 @@ fn serve_with(
 ) -> u8 {
     let alloc = rt.alloc();
     let Ok((output, reader)) = make_auditors(&rt, &found) else {
+        drop(found);
+        drop(devices);
         return 6;
     };
     let mut members: Vec<Box<dyn Auditor>> = Vec::new(alloc);
     if members.push(output).is_err() || members.push(reader).is_err() {
+        drop(members);
+        drop(found);
+        drop(devices);
         return 6;
     }
     let zone = LocalZone::read(&rt, alloc, "/etc/localtime");
@@ -125,6 +130,8 @@ fn serve_with(
     };
     let refusal = found.take();
     tell_end(&rt, status, refusal.as_ref(), &paths);
+    drop(refusal);
+    drop(found);
     drop(disk);
     drop(files);
     drop(zone);
@@ -140,19 +147,28 @@ pub fn serve(rt: HostRuntime, words: &[&str]) -> u8 {
         return 6;
     };
     let Ok(found) = make_found(&rt) else {
+        drop(devices);
         return 6;
     };
     let Ok(seed) = read_seed(&rt) else {
+        drop(found);
+        drop(devices);
         return 4;
     };
     let mut waiter = match make_waiter(rt) {
         Ok(waiter) => waiter,
-        Err(e) => return status_without(&e),
+        Err(e) => {
+            drop(found);
+            drop(devices);
+            return status_without(&e);
+        }
     };
     let mut links = match make_links(rt, &waiter) {
         Ok(links) => links,
         Err(e) => {
             drop(waiter);
+            drop(found);
+            drop(devices);
             return status_without(&e);
         }
     };

@@ -30,7 +30,11 @@ fn input_of(command: &Command) -> Option<(&'static str, &'static str)> {
 // The same of the command of these words.
 fn input_for(rt: &HostRuntime, words: &[&str]) -> Option<(&'static str, &'static str)> {
     match read_command(rt.alloc(), words) {
-        Ok(command) => input_of(&command),
+        Ok(command) => {
+            let input = input_of(&command);
+            drop(command);
+            input
+        }
         Err(_) => None,
     }
 }

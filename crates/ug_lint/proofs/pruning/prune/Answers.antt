@@ -14,7 +14,7 @@ loop-rule-preserved c =
     let rule = c.in-Some.rule in
     let kept = c.loop-rule.kept.items in
     let now : c.keep.new.kept.items ≡ kept ++ kept_unless (is_covered before rule) rule =
-    c.in_ok-keep.ensures ∙ ap (λ (v : List Rule). kept ++ kept_unless (is_covered v rule) rule) c.as_slice.ensures.value in
+    c.in-Ok.ensures ∙ ap (λ (v : List Rule). kept ++ kept_unless (is_covered v rule) rule) c.as_slice.ensures.value in
     record {
       few = omega (arith, c.loop-rule.invariant.few, c.in-Some.ensures.cases);
       left =

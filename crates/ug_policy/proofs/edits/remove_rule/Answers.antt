@@ -9,7 +9,7 @@ returns-in-Some-clause-entries c =
     let id = c.args.id in
     let es = c.args.entries.now.items in
     let first = first_some (has_id id) es c.in-Some.place (rw c.deref.ensures.value at (sym c.place_of.ensures ∙ c.in-Some.is)) in
-    c.remove-removed.ensures.items ∙ sym (removed_first id es c.in-Some.place first.0 c.requires first.1)
+    c.remove.ensures.items ∙ sym (removed_first id es c.in-Some.place first.0 c.requires first.1)
 
 pub returns-in-Some-clause-ok : goal.returns-in-Some-clause-ok
 returns-in-Some-clause-ok c =

@@ -1,5 +1,5 @@
 use Rattle.std.proofs.Common.{arith}
-use Rattle.std.proofs.lemmas.Result.{err_from_is_err_and}
+use Rattle.std.proofs.lemmas.Result.{IfErr-weaker, IfOk-weaker, err_from_is_err_and}
 use Rattle.ug_proto.proofs.AnswerScans.{count_stops, answer_stops, answer_taken}
 use Rattle.ug_proto.proofs.parse.take_answer.Goals as goal
 
@@ -8,11 +8,10 @@ returns-in_err-count-clause-err c =
     let p = err_from_is_err_and c.from_residual.result c.from_residual.ensures.1 in
     rw (p.1, p.2) (count_stops c.args.text.now c.in_err-count.field-0.0 c.in_err-count.ensures.err)
 
-pub returns-in_err-lines-clause-err : goal.returns-in_err-lines-clause-err
-returns-in_err-lines-clause-err c =
-    let p = err_from_is_err_and c.from_residual-in_err-lines.result c.from_residual-in_err-lines.ensures.1 in
-    rw (p.1, p.2) (answer_stops c.in_ok-count.count c.args.text.now c.in_ok-count.rest.now c.in_err-lines.field-0.0 (omega (arith, c.in_ok-count.ensures.ok.0)) c.in_ok-count.ensures.ok.1 c.in_err-lines.ensures.err)
-
 pub returns-clause-ok : goal.returns-clause-ok
 returns-clause-ok c =
-    answer_taken c.in_ok-count.count c.args.text.now c.in_ok-count.rest.now c.in_ok-lines.rest.now c.in_ok-lines.lines (omega (arith, c.in_ok-count.ensures.ok.0)) c.in_ok-count.ensures.ok.1 c.in_ok-lines.ensures.ok
+    IfOk-weaker c.take_lines.result _ _ (λ p h. answer_taken c.in_ok-count.count c.args.text.now c.in_ok-count.rest.now p.1.now p.0 (omega (arith, c.in_ok-count.ensures.ok.0)) c.in_ok-count.ensures.ok.1 h) c.take_lines.ensures.ok
+
+pub returns-clause-err : goal.returns-clause-err
+returns-clause-err c =
+    IfErr-weaker c.take_lines.result _ _ (λ s h. answer_stops c.in_ok-count.count c.args.text.now c.in_ok-count.rest.now s (omega (arith, c.in_ok-count.ensures.ok.0)) c.in_ok-count.ensures.ok.1 h) c.take_lines.ensures.err

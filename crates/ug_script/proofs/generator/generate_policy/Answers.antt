@@ -6,13 +6,13 @@ use Rattle.ug_script.proofs.Skimmed.{faults_alone, first_policy}
 use Rattle.ug_script.proofs.generator.generate_policy.Goals as goal
 
 pub returns-clause-answers : goal.returns-clause-answers
-returns-clause-answers g c = λ all base a b. (generator_state c.run.new.machine, rw c.new-generator.ensures at (c.run.ensures.answers all base a b))
+returns-clause-answers g c = λ all base a b. (generator_state c.run-status.new.machine, rw c.new-generator.ensures at (c.run-status.ensures.answers all base a b))
 
 pub returns-clause-policy : goal.returns-clause-policy
 returns-clause-policy g c = λ all base a b e.
-    let done = (rw c.new-generator.ensures at (c.run.ensures.answers all base a b)).done e in
+    let done = (rw c.new-generator.ensures at (c.run-status.ensures.answers all base a b)).done e in
     (whole_text generate_end (plays generate_step (Going 0 [] (None, c.args.kernel.now)) (lines_of all)), done.2, first_policy c.args.kernel.now (lines_of all) done.1)
 
 pub returns-clause-alone : goal.returns-clause-alone
 returns-clause-alone g c = λ all base a b.
-    faults_alone c.args.kernel.now all base _ _ _ _ (rw c.new-generator.ensures at (c.run.ensures.answers all base a b))
+    faults_alone c.args.kernel.now all base _ _ _ _ (rw c.new-generator.ensures at (c.run-status.ensures.answers all base a b))

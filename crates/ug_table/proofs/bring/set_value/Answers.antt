@@ -1,13 +1,7 @@
 -- One journal after another.
-use Rattle.std.proofs.Common.{rules, arith}
-use Rattle.ug_audit.proofs.Noting.{goes_on}
+use Rattle.std.proofs.Common.{arith}
+use Rattle.ug_table.proofs.Loops.{notes_then}
 use Rattle.ug_table.proofs.bring.set_value.Goals as goal
 
-pub returns-in-Done-clause-journal : goal.returns-in-Done-clause-journal
-returns-in-Done-clause-journal g c = search (rules, arith, goes_on)
-
-pub returns-in-Gone-clause-journal : goal.returns-in-Gone-clause-journal
-returns-in-Gone-clause-journal g c = search (rules, arith, goes_on)
-
-pub returns-in-Failed-clause-journal : goal.returns-in-Failed-clause-journal
-returns-in-Failed-clause-journal g c = search (rules, arith, goes_on)
+pub returns-clause-journal : goal.returns-clause-journal
+returns-clause-journal g c = notes_then _ 1 2 _ _ _ _ (c.push.ensures.same, c.push.ensures.room, omega (arith, c.push.ensures.spare)) c.note_write.ensures.journal (omega arith)

@@ -13,7 +13,7 @@ returns-clause-notes g c =
 
 pub returns-clause-written : goal.returns-clause-written
 returns-clause-written g c =
-    order_writes g.Y.Sysfs.gives g.D.RuleDisk.keeps c.args.who.now c.args.line.now (daemon_of c.args.self.now) c.choose-choice.result c.args.sysfs.now c.choose-choice.new.sysfs c.args.disk.now c.store-stored.new.disk c.store-stored.result c.choose-choice.ensures.runs c.store-stored.ensures.runs c.store-stored.ensures.written
+    order_writes g.Y.Sysfs.gives g.D.RuleDisk.keeps c.args.who.now c.args.line.now (daemon_of c.args.self.now) c.choose-change.result c.args.sysfs.now c.choose-change.new.sysfs c.args.disk.now c.store-stored.new.disk c.store-stored.result c.choose-change.ensures.runs c.store-stored.ensures.runs c.store-stored.ensures.written
 
 pub returns-clause-whole : goal.returns-clause-whole
 returns-clause-whole g c = subst (λ (r : Option Reply). IfSome r (λ (x : Reply). HasWholeLines x)) (sym c.reply.ensures.reply) c.carry_out-reply.ensures.whole
