@@ -15,7 +15,11 @@ fn read_by(alloc: Global, word: CommandWord, words: &[&str]) -> Result<Command, 
 {
     match simple_command(alloc, word) {
         Ok(command) => match find_values(command, words) {
-            Ok(matches) => meaning(alloc, word, &matches),
+            Ok(matches) => {
+                let command = meaning(alloc, word, &matches);
+                drop(matches);
+                command
+            }
             Err(fault) => Err(fault),
         },
         Err(_) => Err(WordsFault::Memory),

@@ -2,7 +2,7 @@
 ghost use Rattle.std.specs.Prelude.{◌≡◌};
 ghost use Rattle.ug_arguments.specs.CommandWords.{asking_word_in, rule_word_in, word_in};
 
-use ug_types::Target;
+use ug_types::{Target, is_word};
 
 /// A command, by its first word.
 #[derive(Clone, Copy)]
@@ -27,19 +27,19 @@ pub enum CommandWord {
 
 // The words of the commands about rules, and `watch`.
 #[tactic(auto, unfolding(crate::specs::CommandWords::rule_word_in))]
-fn rule_word(text: &str) -> Option<CommandWord>
+fn rule_word(text: &[u8]) -> Option<CommandWord>
     ensures { result ≡ rule_word_in text.now }
 {
-    if text == "list-rules" {
+    if is_word(text, b"list-rules") {
         return Some(CommandWord::ListRules);
     }
-    if text == "append-rule" {
+    if is_word(text, b"append-rule") {
         return Some(CommandWord::AppendRule);
     }
-    if text == "remove-rule" {
+    if is_word(text, b"remove-rule") {
         return Some(CommandWord::RemoveRule);
     }
-    if text == "watch" {
+    if is_word(text, b"watch") {
         return Some(CommandWord::Watch);
     }
     None
@@ -47,54 +47,60 @@ fn rule_word(text: &str) -> Option<CommandWord>
 
 // The words of the commands that ask the daemon.
 #[tactic(auto, unfolding(crate::specs::CommandWords::asking_word_in))]
-fn asking_word(text: &str) -> Option<CommandWord>
+fn asking_word(text: &[u8]) -> Option<CommandWord>
     ensures { result ≡ asking_word_in text.now }
 {
-    if text == "get-parameter" {
+    if is_word(text, b"get-parameter") {
         return Some(CommandWord::GetParameter);
     }
-    if text == "set-parameter" {
+    if is_word(text, b"set-parameter") {
         return Some(CommandWord::SetParameter);
     }
-    if text == "list-devices" {
+    if is_word(text, b"list-devices") {
         return Some(CommandWord::ListDevices);
     }
-    if text == "allow-device" {
+    if is_word(text, b"allow-device") {
         return Some(CommandWord::Device(Target::Allow));
     }
-    if text == "block-device" {
+    if is_word(text, b"block-device") {
         return Some(CommandWord::Device(Target::Block));
     }
-    if text == "reject-device" {
+    if is_word(text, b"reject-device") {
         return Some(CommandWord::Device(Target::Reject));
     }
     rule_word(text)
 }
 
 #[tactic(auto, unfolding(crate::specs::CommandWords::word_in))]
-pub fn command_word(text: &str) -> Option<CommandWord>
+fn word_of(text: &[u8]) -> Option<CommandWord>
     ensures { result ≡ word_in text.now }
 {
-    if text == "replay" {
+    if is_word(text, b"replay") {
         return Some(CommandWord::Replay);
     }
-    if text == "make-script" {
+    if is_word(text, b"make-script") {
         return Some(CommandWord::MakeScript);
     }
-    if text == "read-descriptor" {
+    if is_word(text, b"read-descriptor") {
         return Some(CommandWord::ReadDescriptor);
     }
-    if text == "check-rules" {
+    if is_word(text, b"check-rules") {
         return Some(CommandWord::CheckRules);
     }
-    if text == "lint-rules" {
+    if is_word(text, b"lint-rules") {
         return Some(CommandWord::LintRules);
     }
-    if text == "generate-policy" {
+    if is_word(text, b"generate-policy") {
         return Some(CommandWord::GeneratePolicy);
     }
-    if text == "add-user" {
+    if is_word(text, b"add-user") {
         return Some(CommandWord::AddUser);
     }
     asking_word(text)
+}
+
+pub fn command_word(text: &str) -> Option<CommandWord>
+    ensures { result ≡ word_in text.now }
+{
+    word_of(text.as_bytes())
 }

@@ -29,7 +29,11 @@ pub fn read_daemon_words(alloc: Global, words: &[&str]) -> Result<Text, WordsFau
     let all = behind_daemon(alloc, words)?;
     match daemon_command(alloc) {
         Ok(command) => match find_values(command, all.as_slice()) {
-            Ok(matches) => settings(alloc, &matches),
+            Ok(matches) => {
+                let path = settings(alloc, &matches);
+                drop(matches);
+                path
+            }
             Err(fault) => Err(fault),
         },
         Err(_) => Err(WordsFault::Memory),

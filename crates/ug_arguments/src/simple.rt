@@ -62,7 +62,10 @@ fn with<'a>(
 {
     match command {
         Ok(command) => command.arg(arg),
-        Err(fault) => Err(fault),
+        Err(fault) => {
+            drop(arg);
+            Err(fault)
+        }
     }
 }
 

@@ -39,7 +39,7 @@ fn are_word_bytes(text: &str) -> bool
     text.as_bytes().iter().all(|byte| is_word_byte(*byte))
 }
 
-fn is_word(text: &str) -> bool
+fn is_plain_word(text: &str) -> bool
     ensures { result ≡ values.is_plain_word text.now }
 {
     text.len() >= 1 && are_word_bytes(text)
@@ -57,7 +57,7 @@ pub fn word(alloc: Global, matches: &ArgMatches, id: &str) -> Result<Text, Words
         Some(text) => text,
         None => return Err(WordsFault::Bad),
     };
-    if is_word(text) {
+    if is_plain_word(text) {
         return Ok(Text::of(alloc, text.as_bytes())?);
     }
     Err(WordsFault::Bad)

@@ -5,7 +5,7 @@ ghost use Rattle.ug_client.specs.NoticeLines as lines;
 
 use ug_numerals::parse_decimal;
 use ug_parameter::ParameterName;
-use ug_types::{NodeName, Principal, Target};
+use ug_types::{NodeName, Principal, Target, is_word};
 
 /// The first word, where a space stands behind it, and what stands behind that.
 fn cut_word(text: &[u8]) -> Option<(&[u8], &[u8])>
@@ -44,23 +44,23 @@ fn is_name(word: &[u8]) -> bool
 fn is_name_or_star(word: &[u8]) -> bool
     ensures { result ≡ lines.is_name_or_star word.now }
 {
-    word == b"*".as_slice() || is_name(word)
+    is_word(word, b"*") || is_name(word)
 }
 
 fn is_write(word: &[u8]) -> bool
     ensures { result ≡ lines.is_write word.now }
 {
-    word == b"on".as_slice()
-        || word == b"off".as_slice()
-        || word == b"remove".as_slice()
-        || word == b"default-off".as_slice()
-        || word == b"default-on".as_slice()
+    is_word(word, b"on")
+        || is_word(word, b"off")
+        || is_word(word, b"remove")
+        || is_word(word, b"default-off")
+        || is_word(word, b"default-on")
 }
 
 fn is_outcome(word: &[u8]) -> bool
     ensures { result ≡ lines.is_outcome word.now }
 {
-    word == b"done".as_slice() || word == b"gone".as_slice() || word == b"failed".as_slice()
+    is_word(word, b"done") || is_word(word, b"gone") || is_word(word, b"failed")
 }
 
 // A kind and a place.
@@ -76,10 +76,10 @@ fn is_malformed(text: &[u8]) -> bool
 fn is_cause_alone(text: &[u8]) -> bool
     ensures { result ≡ lines.is_cause_alone text.now }
 {
-    text == b"implicit".as_slice()
-        || text == b"present".as_slice()
-        || text == b"keep".as_slice()
-        || text == b"inserted".as_slice()
+    is_word(text, b"implicit")
+        || is_word(text, b"present")
+        || is_word(text, b"keep")
+        || is_word(text, b"inserted")
 }
 
 fn is_cause(text: &[u8]) -> bool
@@ -87,13 +87,13 @@ fn is_cause(text: &[u8]) -> bool
 {
     match cut_word(text) {
         Some((word, rest)) => {
-            if word == b"rule".as_slice() {
+            if is_word(word, b"rule") {
                 return is_number(rest);
             }
-            if word == b"order".as_slice() {
+            if is_word(word, b"order") {
                 return Principal::parse(rest).is_some();
             }
-            if word == b"malformed".as_slice() {
+            if is_word(word, b"malformed") {
                 return is_malformed(rest);
             }
             false
@@ -115,8 +115,8 @@ fn is_fault(text: &[u8]) -> bool
     ensures { result ≡ lines.is_fault text.now }
 {
     match cut_word(text) {
-        Some((word, rest)) => word == b"fault".as_slice() && are_numbers(rest),
-        None => text == b"memory".as_slice(),
+        Some((word, rest)) => is_word(word, b"fault") && are_numbers(rest),
+        None => is_word(text, b"memory"),
     }
 }
 
@@ -210,19 +210,19 @@ fn is_parameter(text: &[u8]) -> bool
 fn is_behind(word: &[u8], rest: &[u8]) -> bool
     ensures { result ≡ lines.is_behind word.now rest.now }
 {
-    if word == b"judged".as_slice() {
+    if is_word(word, b"judged") {
         return is_judged(rest);
     }
-    if word == b"wrote".as_slice() {
+    if is_word(word, b"wrote") {
         return is_wrote(rest);
     }
-    if word == b"gone".as_slice() {
+    if is_word(word, b"gone") {
         return is_gone(rest);
     }
-    if word == b"unsettled".as_slice() {
+    if is_word(word, b"unsettled") {
         return is_unsettled(rest);
     }
-    if word == b"parameter".as_slice() {
+    if is_word(word, b"parameter") {
         return is_parameter(rest);
     }
     false

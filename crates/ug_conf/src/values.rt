@@ -8,7 +8,7 @@ use crate::settings::{AuthDefault, Present};
 use crate::spelled::{OneWord, spelled};
 use std::alloc::Global;
 use ug_parameter::Inserted;
-use ug_types::{List, NoMemory, Principal, Target, Text};
+use ug_types::{List, NoMemory, Principal, Target, Text, is_word};
 
 /// A key with its value.
 #[derive(Drop)]
@@ -100,10 +100,10 @@ fn auth_default(word: &[u8]) -> Option<AuthDefault>
 fn flag(word: &[u8]) -> Option<bool>
     ensures { result ≡ flag_of word.now }
 {
-    if word == b"true".as_slice() {
+    if is_word(word, b"true") {
         return Some(true);
     }
-    if word == b"false".as_slice() {
+    if is_word(word, b"false") {
         return Some(false);
     }
     None

@@ -1,5 +1,5 @@
 -- A text's rules are read right into a list, behind those of the folder.
-use Rattle.std.proofs.Common.{◌≡◌, ◌≤◌, ◌<◌, ℕ, zero, suc, ◌+◌, add-one, Bool, true, false, ◌||◌, if◌then◌else◌, nat_le, nat_lt, List, [], ◌∷◌, ◌++◌, length, length-append, append_assoc, append-nil, take, drop, get_or, Option, Some, None, Result, Ok, Err, inl, inr, refl, sym, subst, ap, ◌∙◌, arith}
+use Rattle.std.proofs.Common.{◌≡◌, ◌≤◌, ◌<◌, ℕ, zero, suc, ◌+◌, add-one, Bool, true, false, ◌||◌, if◌then◌else◌, nat_le, nat_lt, List, [], ◌∷◌, ◌++◌, length, length-append, append_assoc, append-nil, take, drop, get_or, Option, Some, None, Result, Ok, Err, inl, refl, sym, subst, ap, ◌∙◌, arith}
 use Rattle.std.specs.Prelude.{All, IfSome, OnErr, OnOk}
 use Rattle.std.specs.List.{AllByRecursion, list_any}
 use Rattle.std.proofs.Math.Seq.{drop-cons}
@@ -205,9 +205,6 @@ folder_bad (g ∷ files) more f place rules bad h reads = by (file_read g.text) 
     by (Ok a) (Err other) k rest = let none : ⊥ = cc in absurd none
     by (Err other) q k rest = let none : ⊥ = cc in absurd none
 
-pub files_none : (listed : Option (List Marked)) → listed ≡ Some [] → ListsFolder [] listed
-files_none listed is = record { rules = []; reads = refl; all = subst (λ (o : Option (List Marked)). AreAllListed o []) (sym is) (refl, omega arith) }
-
 pub files_more : (files : List FolderFile) (i : ℕ) (f : FolderFile) (listed next : Option (List Marked)) → i < length files → f ≡ get_or files i f → ListsFolder (take i files) listed → text_read (listing_line mark.Folder) listed f.text ≡ Ok next → ListsFolder (take (i + 1) files) next
 files_more files i f listed next within at h read =
     let all = found (marked_rules mark.Folder h.rules) mark.Folder f.text listed next h.all read in
@@ -230,22 +227,6 @@ files_bad files i f start last (file.Bad bad) within at h read =
 files_bad files i f start last file.Memory within at h read = tt
 
 -- ---- what is told of the folder
-
-pub takes_folder : (files : List FolderFile) (listed : Option (List Marked)) (o : Option Rules) → nat_le (folder_length files) text_limit ≡ true → ListsFolder files listed → marked_of o ≡ listed → TakesFolder files (Ok o)
-takes_folder files listed o short h is = (
-  h.rules,
-  ap (λ (b : Bool). if b then rules_of_folder (folder_read 0 files) else Err fault.FolderTooLong) short ∙ ap rules_of_folder h.reads,
-  subst (λ (l : Option (List Marked)). AreAllListed l (marked_rules mark.Folder h.rules)) (sym is) h.all,
-)
-
-pub refuses_folder : (files : List FolderFile) (e : StartFault) → nat_le (folder_length files) text_limit ≡ true → IsFolderListed files (Err e) → TakesFolder files (Err e)
-refuses_folder files (fault.BadFolder place bad) short h = inl (ap (λ (b : Bool). if b then rules_of_folder (folder_read 0 files) else Err fault.FolderTooLong) short ∙ ap rules_of_folder h)
-refuses_folder files fault.Memory short h = inr refl
-refuses_folder files fault.FolderTooLong short h = absurd h
-refuses_folder files fault.TooLong short h = absurd h
-refuses_folder files fault.TooMany short h = absurd h
-refuses_folder files (fault.BadRules bad) short h = absurd h
-refuses_folder files (fault.Disk count) short h = absurd h
 
 pub refuses_long : (files : List FolderFile) → nat_le (folder_length files) text_limit ≡ false → TakesFolder files (Err fault.FolderTooLong)
 refuses_long files long = inl (ap (λ (b : Bool). if b then rules_of_folder (folder_read 0 files) else Err fault.FolderTooLong) long)

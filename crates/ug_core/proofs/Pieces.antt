@@ -1,9 +1,8 @@
 -- What a piece of a stream of uevents brings to an event.
-use Rattle.std.proofs.Common.{◌≡◌, ◌↔◌, ℕ, ◌+◌, ◌*◌, ◌≤◌, Bool, true, false, ◌&&◌, nat_eq, nat_lt, List, [], ◌∷◌, ◌++◌, length, Option, Some, None, Result, Ok, Err, inl, inr, refl, sym, ap, subst, ◌∙◌, append_assoc, append-nil, arith}
+use Rattle.std.proofs.Common.{◌≡◌, ℕ, ◌+◌, ◌*◌, ◌≤◌, Bool, true, false, ◌&&◌, nat_eq, nat_lt, List, [], ◌∷◌, ◌++◌, length, Option, Some, None, Result, Ok, Err, inl, inr, refl, sym, ap, subst, ◌∙◌, append_assoc, append-nil, arith}
 use Rattle.std.proofs.lemmas.Bool.{cond_both}
 use Rattle.std.proofs.lemmas.Grind.{flat_map-append}
 use Rattle.std.proofs.lemmas.List.{length-append}
-use Rattle.ug_types.specs.Elements.{Has}
 use Rattle.ug_kernel.specs.declared.calls.FailedCall.{FailedCall}
 use Rattle.ug_audit.specs.declared.entry.Entry.{Entry}
 use Rattle.ug_audit.specs.declared.entry.Entry.TheVariants as entry
@@ -18,7 +17,7 @@ use Rattle.ug_uevent.specs.Streams.{BegunMessage, Partial, Overlong, Message, Wh
 use Rattle.ug_uevent.specs.declared.hint.Hint.{Hint}
 use Rattle.ug_core.specs.Due.{FitsDue}
 use Rattle.ug_core.specs.Event.{DaemonState}
-use Rattle.ug_core.specs.Hinting.{AnswerEach, MeetsPiece, ReadsMessages, TakesPiece, hinted_names, listed_name, name_hinted, names_due, refusal_of, refusals}
+use Rattle.ug_core.specs.Hinting.{AnswerEach, MeetsPiece, ReadsMessages, hinted_names, listed_name, name_hinted, names_due, refusal_of, refusals}
 use Rattle.ug_core.specs.Pending.{saves_in}
 
 -- ---- no more messages end in a piece than it has bytes
@@ -109,22 +108,6 @@ due_order false names o = tt
 pub due_few : (listed : Bool) (names : List (List ℕ)) → length (names_due listed names) ≤ length names
 due_few true names = omega arith
 due_few false names = omega arith
-
-pub takes_so : (piece : List ℕ) (d e : DaemonState) (fed left : Stream) (read names due : List (List ℕ)) (before after : List Entry)
-    → fed ≡ stream_with_piece d.stream piece → ReadsMessages fed.messages read before after → before ≡ d.sweep.entries → left ≡ record { messages = []; begun = fed.begun }
-    → AreInOrder names → ((name : List ℕ) → Has names name ↔ Has read name) → due ≡ names_due d.sweep.listed names
-    → e ≡ record d { sweep = record d.sweep { entries = after }; stream = left; due = Some due } → TakesPiece piece d e
-takes_so piece d e fed left read names due before after fed_is r first left_is order same due_is is =
-    let entries : after ≡ d.sweep.entries ++ refusals r.answers = r.noted ∙ ap (λ (v : List Entry). v ++ refusals r.answers) first in
-    let stream : left ≡ record { messages = []; begun = (stream_with_piece d.stream piece).begun } = left_is ∙ (λ i. record { messages = []; begun = (fed_is i).begun }) in
-    record {
-      answers = r.answers;
-      each = subst (λ (v : Stream). AnswerEach v.messages r.answers) fed_is r.each;
-      names = names;
-      order = order;
-      hinted = λ name. subst (λ (v : List (List ℕ)). Has names name ↔ Has v name) r.hinted (same name);
-      state = is ∙ (λ i. record d { sweep = record d.sweep { entries = entries i }; stream = stream i; due = Some (due_is i) });
-    }
 
 -- ---- what a piece leaves of the daemon
 

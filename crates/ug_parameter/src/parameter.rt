@@ -2,7 +2,7 @@
 ghost use Rattle.std.specs.Prelude.{◌≡◌, ◌≤◌, length};
 ghost use Rattle.ug_parameter.specs.Parameters.{inserted_of, inserted_word, parameter_name, parameter_of, parameter_set, parameter_with, value_word};
 
-use ug_types::Target;
+use ug_types::{Target, is_word};
 
 /// InsertedDevicePolicy of usbguard-daemon.conf(5): what is done with a device that comes later.
 #[derive(Clone, Copy)]
@@ -45,13 +45,13 @@ impl Inserted {
     pub fn named(word: &[u8]) -> Option<Inserted>
         ensures { result ≡ inserted_of word.now }
     {
-        if word == b"block".as_slice() {
+        if is_word(word, b"block") {
             return Some(Inserted::Block);
         }
-        if word == b"reject".as_slice() {
+        if is_word(word, b"reject") {
             return Some(Inserted::Reject);
         }
-        if word == b"apply-policy".as_slice() {
+        if is_word(word, b"apply-policy") {
             return Some(Inserted::Apply);
         }
         None
@@ -75,10 +75,10 @@ impl ParameterName {
     pub fn named(word: &[u8]) -> Option<ParameterName>
         ensures { result ≡ parameter_of word.now }
     {
-        if word == b"ImplicitPolicyTarget".as_slice() {
+        if is_word(word, b"ImplicitPolicyTarget") {
             return Some(ParameterName::ImplicitPolicyTarget);
         }
-        if word == b"InsertedDevicePolicy".as_slice() {
+        if is_word(word, b"InsertedDevicePolicy") {
             return Some(ParameterName::InsertedDevicePolicy);
         }
         None

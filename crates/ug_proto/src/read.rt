@@ -8,7 +8,7 @@ use crate::request::{Request, RequestFault};
 use crate::split::{behind_word, first_word};
 use std::alloc::Global;
 use ug_numerals::parse_decimal;
-use ug_types::{After, Target, Text};
+use ug_types::{After, Target, Text, is_word};
 
 // The next word of a line of that length, of which the rest begins with a space where it isn't empty.
 fn next_word(total: usize, rest: &[u8]) -> Result<&[u8], RequestFault>
@@ -79,7 +79,7 @@ fn next_number(total: usize, rest: &[u8]) -> Result<u64, RequestFault>
 fn after(word: &[u8]) -> Option<After>
     ensures { result ≡ after_in word.now }
 {
-    if word == b"end".as_slice() {
+    if is_word(word, b"end") {
         return Some(After::End);
     }
     match parse_decimal(word) {
@@ -106,10 +106,10 @@ fn next_after(total: usize, rest: &[u8]) -> Result<After, RequestFault>
 fn kind(word: &[u8]) -> Option<bool>
     ensures { result ≡ rule_kind_in word.now }
 {
-    if word == b"permanent".as_slice() {
+    if is_word(word, b"permanent") {
         return Some(true);
     }
-    if word == b"temporary".as_slice() {
+    if is_word(word, b"temporary") {
         return Some(false);
     }
     None
@@ -185,7 +185,7 @@ fn permanence(
             permanent: false,
         });
     }
-    if first_word(&rest[1..]) == b"permanent".as_slice() {
+    if is_word(first_word(&rest[1..]), b"permanent") {
         return end(
             total,
             behind_word(&rest[1..]),
@@ -263,16 +263,16 @@ fn rule_request(
     ensures err { IfErr result (λ fault.
         IsWrongAt fault (rule_request_read word.now total rest.now)) }
 {
-    if word == b"list-rules".as_slice() {
+    if is_word(word, b"list-rules") {
         return end(total, rest, Request::ListRules);
     }
-    if word == b"append-rule".as_slice() {
+    if is_word(word, b"append-rule") {
         return append_rule(alloc, total, rest);
     }
-    if word == b"remove-rule".as_slice() {
+    if is_word(word, b"remove-rule") {
         return remove_rule(total, rest);
     }
-    if word == b"watch".as_slice() {
+    if is_word(word, b"watch") {
         return end(total, rest, Request::Watch);
     }
     Err(RequestFault::Bad(0))
@@ -284,22 +284,22 @@ fn named(alloc: Global, word: &[u8], total: usize, rest: &[u8]) -> Result<Reques
     ensures ok { IfOk result (λ r. named_read word.now total rest.now ≡ Ok r) }
     ensures err { IfErr result (λ fault. IsWrongAt fault (named_read word.now total rest.now)) }
 {
-    if word == b"get-parameter".as_slice() {
+    if is_word(word, b"get-parameter") {
         return get_parameter(alloc, total, rest);
     }
-    if word == b"set-parameter".as_slice() {
+    if is_word(word, b"set-parameter") {
         return set_parameter(alloc, total, rest);
     }
-    if word == b"list-devices".as_slice() {
+    if is_word(word, b"list-devices") {
         return end(total, rest, Request::ListDevices);
     }
-    if word == b"allow-device".as_slice() {
+    if is_word(word, b"allow-device") {
         return device(Target::Allow, total, rest);
     }
-    if word == b"block-device".as_slice() {
+    if is_word(word, b"block-device") {
         return device(Target::Block, total, rest);
     }
-    if word == b"reject-device".as_slice() {
+    if is_word(word, b"reject-device") {
         return device(Target::Reject, total, rest);
     }
     rule_request(alloc, word, total, rest)

@@ -1,5 +1,5 @@
 -- Entries have by their kinds the numbers that their lines have.
-use Rattle.std.proofs.Common.{◌≡◌, ◌<◌, ◌≤◌, ℕ, ◌+◌, Bool, true, false, cond, nat_eq, List, [], ◌∷◌, ◌++◌, length, Option, None, suc, drop, drop-cons, get_or, inl, inr, refl, sym, ap, subst, ◌∙◌, append_assoc, append-nil, arith}
+use Rattle.std.proofs.Common.{◌≡◌, ◌<◌, ◌≤◌, ℕ, ◌+◌, Bool, true, false, cond, nat_eq, List, [], ◌∷◌, ◌++◌, length, suc, drop, drop-cons, get_or, inl, inr, refl, sym, ap, subst, ◌∙◌, append_assoc, append-nil, arith}
 use Rattle.std.specs.List.{starts_with}
 use Rattle.std.specs.Prelude.{codes, decimal, Ok, Err}
 use Rattle.std.proofs.lemmas.List.{drop_all}
@@ -15,7 +15,7 @@ use Rattle.ug_lines.specs.Splitting.{Closed, IsLine}
 use Rattle.ug_lines.proofs.FirstLine.{nothing}
 use Rattle.ug_lines.proofs.TextLines.{split_only, text_lines}
 use Rattle.ug_proto.specs.declared.reply.Reply.{Reply}
-use Rattle.ug_script.specs.Replay.{EventOutcome, lines_text, outcome_text, reply_lines}
+use Rattle.ug_script.specs.Replay.{EventOutcome, lines_text, outcome_text}
 use Rattle.ug_script.specs.declared.totals.Totals.{Totals}
 use Rattle.ug_script.specs.Summing.{begins_event, count, bounded_count, sets_verdict, tells_unsettled, tells_write, with_lines}
 use Rattle.ug_script.proofs.Counted.{four, lines_behind, one_more, with_both}
@@ -127,9 +127,6 @@ all_counted es i t u past none whole =
     ∙ whole
 
 -- ---- an event
-
-pub without_reply : (es : List Entry) (reply : Option Reply) (t : Totals) → reply ≡ None → of_entries es t ≡ with_lines (lines_of (outcome_text (record { entries = es; reply = reply }))) t
-without_reply es reply t none = ap (λ (text : List ℕ). with_lines (lines_of text) t) (sym (append-nil (lines_text es)) ∙ ap (λ (r : Option Reply). lines_text es ++ reply_lines r) (sym none))
 
 pub text_behind : (outcome : EventOutcome) (passed : List ℕ) (t u : Totals) → u ≡ with_lines (lines_of (outcome_text outcome)) t → with_lines (lines_of passed) u ≡ with_lines (lines_of (outcome_text outcome ++ passed)) t
 text_behind outcome passed t u is =

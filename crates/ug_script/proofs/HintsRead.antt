@@ -371,7 +371,3 @@ refusals_nobody (Err bad ∷ answers) = refusals_nobody answers
 pub meets_judge : (piece : List ℕ) (d e : DaemonState) → MeetsPiece piece d e → e.sweep.judge ≡ d.sweep.judge
 meets_judge piece d e (inl h) = ap (λ (x : DaemonState). x.sweep.judge) h.state
 meets_judge piece d e (inr h) = ap (λ (x : DaemonState). x.sweep.judge) h
-
-pub meets_standings : (piece : List ℕ) (d e : DaemonState) → MeetsPiece piece d e → e.sweep.standings ≡ d.sweep.standings
-meets_standings piece d e (inl h) = ap (λ (x : DaemonState). x.sweep.standings) h.state
-meets_standings piece d e (inr h) = ap (λ (x : DaemonState). x.sweep.standings) h

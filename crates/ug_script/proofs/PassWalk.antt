@@ -93,9 +93,6 @@ device_passed aim w end es v text longer h sure is = elim h [
   ]
 ]
 
-pub none_passed : (w : World) (text : List ℕ) → IsPassedOver [] w text w text
-none_passed w text = inr (sym (append-nil text), refl)
-
 -- ---- the walk
 
 -- what is left to do makes up what is to be done, or the kernel has run out

@@ -2,7 +2,7 @@
 ghost use Rattle.std.specs.Prelude.{◌≡◌};
 ghost use Rattle.ug_steps.specs.LineWords.{line_word_of, plan_word_of, setup_word_of};
 
-use crate::words::is_word;
+use ug_types::is_word;
 
 /// A line's first word.
 #[derive(Clone, Copy)]

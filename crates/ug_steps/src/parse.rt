@@ -10,10 +10,10 @@ use crate::plan_lines::{disk_fail, failing, scheduled, stop};
 use crate::plugs::device;
 use crate::setup_lines::{offset, read_access, read_folder_line, read_iface_rule, read_rule, seed};
 use crate::step::{Plan, SetupLine, Step, StepFault};
-use crate::words::{is_word, moment, name, space};
+use crate::words::{moment, name, space};
 use std::alloc::Global;
 use ug_sysfs::{IfaceMove, Move};
-use ug_types::{Event, Moment, Text};
+use ug_types::{Event, Moment, Text, is_word};
 
 /// What stands behind a line's first word.
 #[tactic(auto, unfolding(crate::specs::Grammar::step_by_word))]

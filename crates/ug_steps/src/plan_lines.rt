@@ -7,10 +7,11 @@ ghost use Rattle.ug_steps.specs.Words.{Parses};
 
 use crate::move_lines::move_line;
 use crate::step::StepFault;
-use crate::words::{is_word, moment, space};
+use crate::words::{moment, space};
 use std::alloc::Global;
 use ug_store::{Mishap, Planned};
 use ug_sysfs::{Failing, Scheduled};
+use ug_types::is_word;
 
 /// The number of a call, from 1 to 1,048,576.
 fn call(text: &[u8]) -> Option<u64>

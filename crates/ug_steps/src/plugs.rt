@@ -5,11 +5,11 @@ ghost use Rattle.ug_steps.specs.Plugs as plugs;
 ghost use Rattle.ug_steps.specs.Words.{Parses};
 
 use crate::step::StepFault;
-use crate::words::{bytes, is_word, name, space};
+use crate::words::{bytes, name, space};
 use std::alloc::Global;
 use ug_lex::{LexFault, Token, TokenKind, tokens};
 use ug_sysfs::NewDevice;
-use ug_types::{NoMemory, NodeName, Text};
+use ug_types::{NoMemory, NodeName, Text, is_word};
 
 /// The texts of a device's files, each with its newline, where it has them.
 #[derive(Drop)]

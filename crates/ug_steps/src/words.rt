@@ -1,6 +1,5 @@
 // Names, numbers and hexadecimal words of a script's lines.
 ghost use Rattle.std.specs.Prelude.{◌≡◌, ◌||◌, Some, find, nat_eq, not};
-ghost use Rattle.std.specs.Cmp.Lexicographic.{pointwise};
 ghost use Rattle.std.specs.List.{list_any, position};
 ghost use Rattle.ug_steps.specs.Words as words;
 ghost use Rattle.ug_steps.specs.Words.{name_of, moment_word, bytes_of, Parses};
@@ -35,13 +34,6 @@ pub fn moment(text: &[u8]) -> Option<u64>
         }
         None => None,
     }
-}
-
-/// Whether the text is that word.
-pub fn is_word(text: &[u8], word: &[u8]) -> bool
-    ensures { result ≡ pointwise nat_eq text.now word.now }
-{
-    text == word
 }
 
 /// Where the first space is.

@@ -144,9 +144,6 @@ still_in_order m ms up le =
     let p = place m ms up in
     IsNonDecreasingBy-insert turn_of ms (queue_place m ms) m up le p.low p.high
 
-pub rest_in_order : (m : Scheduled) (ms : List Scheduled) → AreByTurn (m ∷ ms) → AreByTurn ms
-rest_in_order m ms up i j d le lt = up (suc i) (suc j) d (omega (arith, le)) (omega (arith, lt))
-
 pub put_either : {T E : Type 0} (Q : Type 0) (r : Result T E) (m : Scheduled) (ms ns : List Scheduled) (at : ℕ) → AreByTurn ms → at ≤ length ms → at ≡ queue_place m ms → OnOk r (ns ≡ insert ms at m) → OnErr r ((ns ≡ ms) × Q) → AreByTurn ns
 put_either Q (Ok x) m ms ns at up le is ok err =
     let whole : ns ≡ with_move m ms = ok ∙ ap (λ (i : ℕ). insert ms i m) is in

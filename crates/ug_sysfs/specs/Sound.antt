@@ -1,5 +1,5 @@
 -- The moves of a script keep a kernel sound.
-use Rattle.std.proofs.Common.{◌≡◌, ℕ, ◌<◌, ◌≤◌, Bool, true, false, ◌||◌, cond, eqb, nat_lt, List, [], ◌∷◌, ◌++◌, length, take, drop, Option, Some, None, refl, sym, ◌∙◌, ap, subst, arith, inl, inr, length-append}
+use Rattle.std.proofs.Common.{◌≡◌, ℕ, ◌<◌, Bool, true, false, ◌||◌, cond, eqb, nat_lt, List, [], ◌∷◌, ◌++◌, length, take, drop, Option, Some, None, refl, sym, ◌∙◌, ap, subst, arith, inl, inr, length-append}
 use Rattle.std.proofs.lemmas.Bool.{or_parts, ltb-true}
 use Rattle.std.proofs.lemmas.List.{take-append-drop}
 use Rattle.std.proofs.lemmas.Option.{none-some, same_Some}
@@ -8,7 +8,6 @@ use Rattle.ug_types.specs.Names.{parent_of}
 use Rattle.ug_kernel.specs.declared.device.Device.{Device}
 use Rattle.ug_kernel.specs.Kernel.{Kernel, Live, live_count, IsSound, IsKernel}
 use Rattle.ug_kernel.proofs.Places.{at_push, in_front}
-use Rattle.ug_kernel.proofs.Stayed.{live_count_begins}
 use Rattle.ug_kernel.proofs.Sounds.{sound_push, Kept, sound_fewer, kernel_moves}
 use Rattle.ug_sysfs.specs.declared.script.NewDevice.{NewDevice}
 use Rattle.ug_sysfs.specs.declared.script.Move.{Move}
@@ -58,12 +57,6 @@ length_felled target ds =
           (take-append-drop target ds),
       length-append (take target ds) (drop target ds),
     )
-
-pub count_felled : (target : ℕ) (ds : List Device)
-    → live_count (fall target (take target ds) (drop target ds)) ≤ live_count ds
-count_felled target ds =
-    live_count_begins ds (fall target (take target ds) (drop target ds))
-    (begins_unplug (Some target) ds) (length_felled target ds)
 
 -- a parent is born before its child, and lives while its child lives
 pub record IsTree (ds : List Device) : Type 0 where

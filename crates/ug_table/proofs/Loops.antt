@@ -1,8 +1,6 @@
 -- One name more.
-use Rattle.std.proofs.Common.{◌≡◌, ℕ, ◌+◌, ◌<◌, ◌≤◌, Bool, Option, List, ◌∷◌, ◌++◌, length, get_or, set, map, take, drop, refl, sym, ap, ◌∙◌, subst, arith}
-use Rattle.std.proofs.lemmas.List.Edits.{map_over_more}
-use Rattle.std.proofs.lemmas.Grind.{common_steps}
-use Rattle.std.proofs.lemmas.List.{drop_more, get_or_default}
+use Rattle.std.proofs.Common.{◌≡◌, ℕ, ◌+◌, ◌<◌, ◌≤◌, Bool, Option, List, ◌∷◌, length, get_or, drop, refl, sym, ap, ◌∙◌, subst, arith}
+use Rattle.std.proofs.lemmas.List.{drop_more}
 use Rattle.ug_kernel.specs.Tree.{Prog, Return}
 use Rattle.ug_table.proofs.Common.{Terms, Write, Wrote, FailedCall, Entry, Standing, Call, Answer, Runs, after_write, State, Kept, Answers, Laters, Settled, settling_all, resettling_all, settling, resettling}
 use Rattle.ug_kernel.proofs.Runs.{runs_then}
@@ -26,13 +24,6 @@ resettling_more {S} gives hub names i name w s u p lt e h r t k =
 -- what is noted in two parts
 pub notes_then : {X : Type 0} {F : X → Type 0} (told : AuditorTold X F) (m n most : ℕ) (a b c : Journal X F) → Notes told m a b → Notes told n b c → m + n ≤ most → Notes told most a c
 notes_then told m n most a b c h k le = (goes_on told a b c h.0 k.0, k.1 ∙ h.1, omega (arith, h.2, k.2, le))
-
--- one standing more is changed
-pub changed_more : (f : Standing → Standing) (xs ys : List Standing) (i : ℕ) (d y : Standing) → y ≡ f (get_or ys i d) → i < length xs → length ys ≡ length xs → ys ≡ map f (take i xs) ++ drop i xs → set ys i y ≡ map f (take (i + 1) xs) ++ drop (i + 1) xs
-changed_more f xs ys i d y is lt same h =
-    let within : i < length ys = omega arith in
-    let read : get_or ys i d ≡ get_or ys i (get_or ys i d) = grind (arith, common_steps, get_or_default) in
-    ap (set ys i) is ∙ map_over_more f xs ys i (get_or ys i d) lt h read
 
 -- a state whose fields are those of another
 pub same_state : {J : Type 0} (ss rs : List Standing) (next after : ℕ) (listed seen : Bool) (judge : J) (hub : Option Write) (es : List Entry) → rs ≡ ss → after ≡ next → seen ≡ listed → let made : State J = record { standings = rs; next = after; listed = seen; judge = judge; hub = hub; entries = es } in let was : State J = record { standings = ss; next = next; listed = listed; judge = judge; hub = hub; entries = es } in made ≡ was

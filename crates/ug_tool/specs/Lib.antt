@@ -1,3 +1,4 @@
+pub mod CarriedOut
 pub mod Client
 pub mod Faults
 pub mod Replay

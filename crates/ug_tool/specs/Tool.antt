@@ -20,16 +20,3 @@ asks_daemon GeneratePolicy = false
 asks_daemon (AddUser name asked) = false
 asks_daemon (Ask socket request) = true
 asks_daemon (Watch socket most) = true
-
--- its status is one of a command that reads an input, and not one that tells of rules
-abbrev pub gives_ended : Command → Bool
-gives_ended Replay = true
-gives_ended Summarize = true
-gives_ended (MakeScript events start) = true
-gives_ended ReadDescriptor = true
-gives_ended CheckRules = false
-gives_ended (LintRules prune) = false
-gives_ended GeneratePolicy = true
-gives_ended (AddUser name asked) = true
-gives_ended (Ask socket request) = false
-gives_ended (Watch socket most) = false

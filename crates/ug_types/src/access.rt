@@ -2,6 +2,8 @@
 ghost use Rattle.std.specs.Prelude.{◌≡◌, ◌≤◌, length};
 ghost use Rattle.ug_types.specs.Access.{section_word, privilege_word, section_of, privilege_of};
 
+use crate::word::is_word;
+
 /// What a privilege is about.
 #[derive(Clone, Copy)]
 pub enum Section {
@@ -39,16 +41,16 @@ impl Section {
     pub fn named(word: &[u8]) -> Option<Section>
         ensures { result ≡ section_of word.now }
     {
-        if word == b"Devices".as_slice() {
+        if is_word(word, b"Devices") {
             return Some(Section::Devices);
         }
-        if word == b"Policy".as_slice() {
+        if is_word(word, b"Policy") {
             return Some(Section::Policy);
         }
-        if word == b"Exceptions".as_slice() {
+        if is_word(word, b"Exceptions") {
             return Some(Section::Exceptions);
         }
-        if word == b"Parameters".as_slice() {
+        if is_word(word, b"Parameters") {
             return Some(Section::Parameters);
         }
         None
@@ -74,13 +76,13 @@ impl Privilege {
     pub fn named(word: &[u8]) -> Option<Privilege>
         ensures { result ≡ privilege_of word.now }
     {
-        if word == b"modify".as_slice() {
+        if is_word(word, b"modify") {
             return Some(Privilege::Modify);
         }
-        if word == b"list".as_slice() {
+        if is_word(word, b"list") {
             return Some(Privilege::List);
         }
-        if word == b"listen".as_slice() {
+        if is_word(word, b"listen") {
             return Some(Privilege::Listen);
         }
         None

@@ -23,6 +23,7 @@ mod target;
 mod text;
 mod text_fault;
 mod verdict;
+mod word;
 
 pub use access::{Privilege, Section};
 pub use event::Event;
@@ -43,3 +44,4 @@ pub use source::{Source, Taken};
 pub use text::Text;
 pub use text_fault::{Fault, FileFault, LineFault, Numbered, TextFault};
 pub use verdict::{Cause, Moment, Target};
+pub use word::is_word;

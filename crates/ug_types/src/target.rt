@@ -3,6 +3,7 @@ ghost use Rattle.std.specs.Prelude.{◌≡◌, ◌≤◌, length};
 ghost use Rattle.ug_types.specs.Targets.{target_word, target_of};
 
 use crate::verdict::Target;
+use crate::word::is_word;
 
 impl Target {
     /// The word for it.
@@ -22,13 +23,13 @@ impl Target {
     pub fn named(word: &[u8]) -> Option<Target>
         ensures { result ≡ target_of word.now }
     {
-        if word == b"allow".as_slice() {
+        if is_word(word, b"allow") {
             return Some(Target::Allow);
         }
-        if word == b"block".as_slice() {
+        if is_word(word, b"block") {
             return Some(Target::Block);
         }
-        if word == b"reject".as_slice() {
+        if is_word(word, b"reject") {
             return Some(Target::Reject);
         }
         None

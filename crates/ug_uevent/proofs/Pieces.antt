@@ -2,7 +2,6 @@
 use Rattle.std.proofs.Common.{◌≡◌, ℕ, suc, ◌+◌, ◌-◌, ◌<◌, ◌≤◌, List, [], ◌∷◌, ◌++◌, length, take, drop, get_or, Bool, true, false, cond, nat_eq, nat_lt, refl, sym, ◌∙◌, ap, append_assoc, arith, length-take, drop-cons}
 use Rattle.std.specs.Prelude.{◌&&◌}
 use Rattle.std.proofs.lemmas.Bool.Decides.{nat_tests}
-use Rattle.std.proofs.lemmas.List.{take_more}
 use Rattle.ug_types.proofs.Known.{to_end}
 use Rattle.ug_uevent.specs.Streams.{BegunMessage, Partial, Overlong, Message, Whole, TooLong, Stream, nothing_begun, with_byte, byte_then, behind_messages, stream_of, whole_stream, stream_with_piece, waiting}
 
@@ -78,16 +77,3 @@ pub too_long_at : (bytes : List ℕ) (i : ℕ) (fresh : Bool) → i < length byt
 too_long_at bytes i fresh h l e q =
     let long : length (take i bytes) ≡ i = omega (arith, length-take i bytes) in
     sym q ∙ ap (stream_of (Partial (take i bytes) fresh)) (next bytes i h) ∙ too_long (take i bytes) fresh (get_or bytes i 0) (drop (i + 1) bytes) e (omega (arith, long))
-
-pub ends_at : (bytes : List ℕ) (i : ℕ) (fresh : Bool) → i < length bytes → (nat_eq (get_or bytes i 0) 0 && fresh) ≡ true → At bytes i fresh ≡ whole_stream bytes
-    → whole_stream bytes ≡ behind_messages (Whole (take i bytes) ∷ []) (whole_stream (drop (i + 1) bytes))
-ends_at bytes i fresh h e q =
-    sym q ∙ ap (stream_of (Partial (take i bytes) fresh)) (next bytes i h) ∙ message_ends (take i bytes) fresh (get_or bytes i 0) (drop (i + 1) bytes) e
-
-pub grows_at : (bytes : List ℕ) (i : ℕ) (fresh : Bool) → i < length bytes → i < 8191 → (nat_eq (get_or bytes i 0) 0 && fresh) ≡ false → At bytes i fresh ≡ whole_stream bytes
-    → At bytes (i + 1) (nat_eq (get_or bytes i 0) 0) ≡ whole_stream bytes
-grows_at bytes i fresh h l e q =
-    let long : length (take i bytes) ≡ i = omega (arith, length-take i bytes) in
-    ap (λ (t : List ℕ). stream_of (Partial t (nat_eq (get_or bytes i 0) 0)) (drop (i + 1) bytes)) (take_more bytes i 0 h)
-    ∙ sym (grows (take i bytes) fresh (get_or bytes i 0) (drop (i + 1) bytes) e (omega (arith, long)))
-    ∙ sym (ap (stream_of (Partial (take i bytes) fresh)) (next bytes i h)) ∙ q

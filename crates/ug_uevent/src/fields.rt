@@ -5,6 +5,7 @@ ghost use Rattle.ug_uevent.specs.Reading as reading;
 use crate::cut::length_before;
 use crate::fault::UeventKind;
 use ug_numerals::parse_decimal;
+use ug_types::is_word;
 
 /// A key whose value is read. Each is set once at most.
 #[derive(Clone, Copy)]
@@ -47,16 +48,16 @@ impl Found {
 fn field_of(key: &[u8]) -> Option<Field>
     ensures { result ≡ reading.field_of key.now }
 {
-    if key == b"ACTION".as_slice() {
+    if is_word(key, b"ACTION") {
         return Some(Field::Action);
     }
-    if key == b"DEVPATH".as_slice() {
+    if is_word(key, b"DEVPATH") {
         return Some(Field::Path);
     }
-    if key == b"SUBSYSTEM".as_slice() {
+    if is_word(key, b"SUBSYSTEM") {
         return Some(Field::Subsystem);
     }
-    if key == b"SEQNUM".as_slice() {
+    if is_word(key, b"SEQNUM") {
         return Some(Field::Number);
     }
     None
@@ -66,7 +67,7 @@ fn field_of(key: &[u8]) -> Option<Field>
 fn is_usb(value: &[u8]) -> bool
     ensures { result ≡ reading.is_usb value.now }
 {
-    value == b"usb".as_slice()
+    is_word(value, b"usb")
 }
 
 // A field that isn't set yet.

@@ -11,6 +11,7 @@ use crate::fault::{UeventFault, UeventKind, fault_at};
 use crate::fields::{Found, read_string};
 use crate::hint::{Action, Hint};
 use crate::path::name_in;
+use ug_types::is_word;
 
 /// Reads one message without the zero byte that closes it: strings, each with a zero byte behind
 /// it, which the last may lack. The first is `ACTION@DEVPATH`, each later one `KEY=VALUE`. The
@@ -28,13 +29,13 @@ pub fn parse_uevent(message: &[u8]) -> Result<Hint, UeventFault>
 fn action_of(word: &[u8]) -> Action
     ensures { result ≡ reading.action_of word.now }
 {
-    if word == b"add".as_slice() {
+    if is_word(word, b"add") {
         return Action::Add;
     }
-    if word == b"remove".as_slice() {
+    if is_word(word, b"remove") {
         return Action::Remove;
     }
-    if word == b"change".as_slice() {
+    if is_word(word, b"change") {
         return Action::Change;
     }
     Action::Other

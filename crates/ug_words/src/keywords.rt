@@ -3,7 +3,7 @@ ghost use Rattle.std.specs.Prelude.{◌≡◌};
 ghost use Rattle.ug_words.specs.Keywords.{operator_of, attribute_of, condition_of};
 ghost use Rattle.ug_words.specs.Keywords as keywords;
 
-use ug_types::Op;
+use ug_types::{Op, is_word};
 
 /// An attribute's name.
 #[derive(Clone, Copy)]
@@ -35,19 +35,19 @@ pub enum CondName {
 pub fn operator(word: &[u8]) -> Option<Op>
     ensures { result ≡ operator_of word.now }
 {
-    if word == b"all-of".as_slice() {
+    if is_word(word, b"all-of") {
         return Some(Op::AllOf);
     }
-    if word == b"one-of".as_slice() {
+    if is_word(word, b"one-of") {
         return Some(Op::OneOf);
     }
-    if word == b"none-of".as_slice() {
+    if is_word(word, b"none-of") {
         return Some(Op::NoneOf);
     }
-    if word == b"equals".as_slice() {
+    if is_word(word, b"equals") {
         return Some(Op::Equals);
     }
-    if word == b"equals-ordered".as_slice() {
+    if is_word(word, b"equals-ordered") {
         return Some(Op::EqualsOrdered);
     }
     None
@@ -57,31 +57,31 @@ pub fn operator(word: &[u8]) -> Option<Op>
 pub fn attribute(word: &[u8]) -> Option<Attr>
     ensures { result ≡ attribute_of word.now }
 {
-    if word == b"id".as_slice() {
+    if is_word(word, b"id") {
         return Some(Attr::Id);
     }
-    if word == b"serial".as_slice() {
+    if is_word(word, b"serial") {
         return Some(Attr::Serial);
     }
-    if word == b"name".as_slice() {
+    if is_word(word, b"name") {
         return Some(Attr::Name);
     }
-    if word == b"hash".as_slice() {
+    if is_word(word, b"hash") {
         return Some(Attr::Hash);
     }
-    if word == b"parent-hash".as_slice() {
+    if is_word(word, b"parent-hash") {
         return Some(Attr::ParentHash);
     }
-    if word == b"via-port".as_slice() {
+    if is_word(word, b"via-port") {
         return Some(Attr::ViaPort);
     }
-    if word == b"with-interface".as_slice() {
+    if is_word(word, b"with-interface") {
         return Some(Attr::Interface);
     }
-    if word == b"with-connect-type".as_slice() {
+    if is_word(word, b"with-connect-type") {
         return Some(Attr::Connect);
     }
-    if word == b"label".as_slice() {
+    if is_word(word, b"label") {
         return Some(Attr::Label);
     }
     None
@@ -91,25 +91,25 @@ pub fn attribute(word: &[u8]) -> Option<Attr>
 pub fn condition(word: &[u8]) -> Option<CondName>
     ensures { result ≡ condition_of word.now }
 {
-    if word == b"localtime".as_slice() {
+    if is_word(word, b"localtime") {
         return Some(CondName::LocalTime);
     }
-    if word == b"allowed-matches".as_slice() {
+    if is_word(word, b"allowed-matches") {
         return Some(CondName::AllowedMatches);
     }
-    if word == b"rule-applied".as_slice() {
+    if is_word(word, b"rule-applied") {
         return Some(CondName::RuleApplied);
     }
-    if word == b"rule-evaluated".as_slice() {
+    if is_word(word, b"rule-evaluated") {
         return Some(CondName::RuleEvaluated);
     }
-    if word == b"random".as_slice() {
+    if is_word(word, b"random") {
         return Some(CondName::Random);
     }
-    if word == b"true".as_slice() {
+    if is_word(word, b"true") {
         return Some(CondName::True);
     }
-    if word == b"false".as_slice() {
+    if is_word(word, b"false") {
         return Some(CondName::False);
     }
     None
@@ -119,5 +119,5 @@ pub fn condition(word: &[u8]) -> Option<CondName>
 pub fn is_if(word: &[u8]) -> bool
     ensures { result ≡ keywords.is_if word.now }
 {
-    word == b"if".as_slice()
+    is_word(word, b"if")
 }

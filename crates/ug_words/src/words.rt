@@ -4,7 +4,7 @@ ghost use Rattle.std.specs.List.{position};
 ghost use Rattle.ug_words.specs.Words.{two_of, four_of, has_colon_at, id_of, id_of_vendor, interface_of, interface_of_class, interface_of_subclass, with_decimal_digit, digits_of, decimal_of, part_of, minute_of, time_of, first_second, last_second, span_of, past_of, billionths_of, chance_of};
 
 use hex::FromHex;
-use ug_types::{Id, Iface};
+use ug_types::{Id, Iface, is_word};
 
 /// From one second of the day to another, both within it.
 #[derive(Clone, Copy)]
@@ -58,7 +58,7 @@ fn id_behind_vendor(vendor: Option<u16>, text: &[u8]) -> Option<Id>
         Some(vendor) => vendor,
         None => return None,
     };
-    if text == b"*".as_slice() {
+    if is_word(text, b"*") {
         return Some(Id {
             vendor: Some(vendor),
             product: None,
@@ -78,7 +78,7 @@ fn id_behind_vendor(vendor: Option<u16>, text: &[u8]) -> Option<Id>
 pub fn id(word: &[u8]) -> Option<Id>
     ensures { result ≡ id_of word.now }
 {
-    if word == b"*:*".as_slice() {
+    if is_word(word, b"*:*") {
         return Some(Id {
             vendor: None,
             product: None,
@@ -98,7 +98,7 @@ fn interface_behind_subclass(class: u8, subclass: Option<u8>, text: &[u8]) -> Op
         Some(subclass) => subclass,
         None => return None,
     };
-    if text == b"*".as_slice() {
+    if is_word(text, b"*") {
         return Some(Iface {
             class,
             subclass: Some(subclass),
@@ -123,7 +123,7 @@ fn interface_behind_class(class: Option<u8>, text: &[u8]) -> Option<Iface>
         Some(class) => class,
         None => return None,
     };
-    if text == b"*:*".as_slice() {
+    if is_word(text, b"*:*") {
         return Some(Iface {
             class,
             subclass: None,
@@ -329,10 +329,10 @@ fn billionths(fraction: &[u8]) -> Option<u32>
 pub fn chance(text: &[u8]) -> Option<u32>
     ensures { result ≡ chance_of text.now }
 {
-    if text == b"0".as_slice() {
+    if is_word(text, b"0") {
         return Some(0);
     }
-    if text == b"1".as_slice() {
+    if is_word(text, b"1") {
         return Some(1_000_000_000);
     }
     if text.starts_with(b"0.") {

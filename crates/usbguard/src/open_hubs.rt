@@ -31,8 +31,14 @@ fn is_open(rt: &HostRuntime, devices: &str, name: &str) -> Option<bool> {
     let path = [devices, "/", name, "/authorized_default"]
         .concat(rt.alloc())
         .ok()?;
-    match read_text(rt, path.as_str()) {
-        Some(text) => Some(switches_on(text.as_slice())),
+    let text = read_text(rt, path.as_str());
+    drop(path);
+    match text {
+        Some(text) => {
+            let is_on = switches_on(text.as_slice());
+            drop(text);
+            Some(is_on)
+        }
         None => Some(false),
     }
 }
@@ -41,8 +47,11 @@ fn is_open(rt: &HostRuntime, devices: &str, name: &str) -> Option<bool> {
 fn count_open(rt: &HostRuntime, devices: &str) -> Option<u64> {
     let mut count = 0u64;
     for entry in fs::read_dir(rt, devices).ok()? {
-        let entry = entry.ok()?;
-        if is_open(rt, devices, entry.file_name())? {
+        let is_one = match entry {
+            Ok(entry) => is_open(rt, devices, entry.file_name()),
+            Err(_) => None,
+        };
+        if is_one? {
             count = count.saturating_add(1);
         }
     }
@@ -52,7 +61,9 @@ fn count_open(rt: &HostRuntime, devices: &str) -> Option<u64> {
 // The settings in that file, where they are good ones.
 fn settings_at(rt: &HostRuntime, path: &Text) -> Option<Settings> {
     let text = read_text(rt, str::from_utf8(path.bytes()).ok()?)?;
-    parse_conf(rt.alloc(), text.as_slice()).ok()
+    let settings = parse_conf(rt.alloc(), text.as_slice()).ok();
+    drop(text);
+    settings
 }
 
 // Whether the settings of a daemon with these words are good ones, and leave the default of each root hub as it is.
@@ -60,7 +71,9 @@ fn leave_defaults(rt: &HostRuntime, words: &[&str]) -> bool {
     let Ok(path) = read_daemon_words(rt.alloc(), words) else {
         return false;
     };
-    match settings_at(rt, &path) {
+    let found = settings_at(rt, &path);
+    drop(path);
+    match found {
         Some(settings) => {
             let leaves = leaves_defaults(&settings);
             drop(settings);

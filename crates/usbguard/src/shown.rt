@@ -72,20 +72,34 @@ fn put_blanks(shown: &mut String, count: usize) -> Option<()> {
     Some(())
 }
 
+fn put_marked(shown: &mut String, part: &str, count: usize) -> Option<()> {
+    put_plain(shown, part)?;
+    shown.push_str("\n    ").ok()?;
+    put_blanks(shown, count)?;
+    shown.push_str("^\n").ok()
+}
+
 /// A part of a line, and a caret below it, before which so many characters stand.
 fn marked(alloc: Global, part: &str, count: usize) -> Option<String> {
     let mut shown = String::from_str(alloc, "    ").ok()?;
-    put_plain(&mut shown, part)?;
-    shown.push_str("\n    ").ok()?;
-    put_blanks(&mut shown, count)?;
-    shown.push_str("^\n").ok()?;
+    if put_marked(&mut shown, part, count).is_none() {
+        drop(shown);
+        return None;
+    }
     Some(shown)
+}
+
+/// The same of a text.
+fn show_in(alloc: Global, text: &[u8], spot: Spot) -> Option<String> {
+    let line = str::from_utf8(line_of(text, spot)?).ok()?;
+    let (part, count) = around(line, usize::try_from(spot.place).ok()?)?;
+    marked(alloc, part, count)
 }
 
 /// The line of a file in which a fault stands, and a caret below its place: two lines, each with its end. None where they can't be had.
 pub fn show_line(rt: &HostRuntime, path: &str, spot: Spot) -> Option<String> {
     let text = read_text(rt, path)?;
-    let line = str::from_utf8(line_of(text.as_slice(), spot)?).ok()?;
-    let (part, count) = around(line, usize::try_from(spot.place).ok()?)?;
-    marked(rt.alloc(), part, count)
+    let shown = show_in(rt.alloc(), text.as_slice(), spot);
+    drop(text);
+    shown
 }

@@ -27,6 +27,7 @@ pub fn read_texts(rt: &HostRuntime) -> Result<Vec<String>, TextsFault> {
     let mut kept = Vec::new(rt.alloc());
     for text in texts.skip(1) {
         if kept.push(text).is_err() {
+            drop(kept);
             return Err(TextsFault::Memory);
         }
     }

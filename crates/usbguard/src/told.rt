@@ -1,6 +1,7 @@
 // What a daemon that has ended tells a person.
 use crate::shown::{Spot, show_line};
 use crate::words::{access_fault, rule_fault, settings_fault};
+use std::alloc::Global;
 use std::{fs, str};
 use ug_host::{RefusedPart, StartRefusal};
 use ug_types::Principal;
@@ -34,20 +35,35 @@ fn folder_of(path: &str) -> &str {
     }
 }
 
+// Keeps a name that is none of a user or a group, where it comes before the one that was kept; false where memory is short.
+fn keep_odd(alloc: Global, name: &str, odd: &mut Option<String>) -> bool {
+    let is_first = match odd {
+        Some(other) => name.as_bytes() < other.as_bytes(),
+        None => true,
+    };
+    if !is_first || Principal::parse(name.as_bytes()).is_some() {
+        return true;
+    }
+    match String::from_str(alloc, name) {
+        Ok(name) => {
+            *odd = Some(name);
+            true
+        }
+        Err(_) => false,
+    }
+}
+
 // The first name in a folder, in byte order, that is none of a user or a group.
 fn odd_name(rt: &HostRuntime, folder: &str) -> Option<String> {
     let mut odd: Option<String> = None;
     for entry in fs::read_dir(rt, folder).ok()? {
-        let entry = entry.ok()?;
-        let name = entry.file_name();
-        if Principal::parse(name.as_bytes()).is_none() {
-            let first = match &odd {
-                Some(other) => name.as_bytes() < other.as_bytes(),
-                None => true,
-            };
-            if first {
-                odd = Some(String::from_str(rt.alloc(), name).ok()?);
-            }
+        let is_kept = match entry {
+            Ok(entry) => keep_odd(rt.alloc(), entry.file_name(), &mut odd),
+            Err(_) => false,
+        };
+        if !is_kept {
+            drop(odd);
+            return None;
         }
     }
     odd

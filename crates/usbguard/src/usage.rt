@@ -141,14 +141,23 @@ fn add_line(text: &mut String, line: &str) -> Result<(), AllocError> {
     text.push('\n')
 }
 
+fn add_lines(text: &mut String) -> Result<(), AllocError> {
+    for usage in USAGES.iter() {
+        add_line(text, usage.line)?;
+    }
+    text.push_str("The manual page usbguard(1) says what each does.")
+}
+
 // How each command is used.
 fn text_of_all(alloc: Global) -> Result<String, AllocError> {
     let mut text = String::from_str(alloc, "usage:\n")?;
-    for usage in USAGES.iter() {
-        add_line(&mut text, usage.line)?;
+    match add_lines(&mut text) {
+        Ok(()) => Ok(text),
+        Err(e) => {
+            drop(text);
+            Err(e)
+        }
     }
-    text.push_str("The manual page usbguard(1) says what each does.")?;
-    Ok(text)
 }
 
 /// How the command of that word is used, or each, where there is no such command.

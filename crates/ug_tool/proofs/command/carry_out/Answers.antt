@@ -1,4 +1,4 @@
-use Rattle.std.proofs.Common.{◌≡◌, ◌≤◌, false, refl, subst, arith}
+use Rattle.std.proofs.Common.{◌≡◌, ◌≤◌, false, inl, refl, subst, arith}
 use Rattle.ug_iface.specs.Bus.{IsSoundBus}
 use Rattle.ug_sysfs.specs.Serving.{bus_in}
 use Rattle.ug_lines.specs.Lines.{lines_of}
@@ -8,27 +8,71 @@ use Rattle.ug_script.specs.Against.{RefusesScript}
 use Rattle.ug_script.specs.Laws.{coming_in}
 use Rattle.ug_tool.proofs.command.carry_out.Goals as goal
 
-pub returns-in-Replay-clause-replayed : goal.returns-in-Replay-clause-replayed
-returns-in-Replay-clause-replayed g c = λ is all base a b.
-    let r = c.replay_over-status.ensures.replayed all base a b in
-    (r.0, c.replay_over-status.new.kernel, r.1)
+pub returns-in-Replay-clause-carried : goal.returns-in-Replay-clause-carried
+returns-in-Replay-clause-carried g c = rw c.in-Replay.is (record {
+  journal = λ all base a b.
+      let r = c.replay_over-status.ensures.replayed all base a b in
+      (r.0, c.replay_over-status.new.kernel, r.1);
+  why = c.replay_over-status.ensures.why;
+  too_long = c.replay_over-status.ensures.too_long;
+  carries = c.replay_over-status.ensures.carries;
+  ended = c.replay_over-status.ensures.ended;
+})
 
-pub returns-in-GeneratePolicy-clause-generated : goal.returns-in-GeneratePolicy-clause-generated
-returns-in-GeneratePolicy-clause-generated g c = λ is all base a b.
-    let r = rw c.new-kernel-in-GeneratePolicy.ensures at (c.generate_policy-status.ensures.answers all base a b) in
-    (r.0, c.generate_policy-status.new.kernel, r.1)
+pub returns-in-Summarize-clause-carried : goal.returns-in-Summarize-clause-carried
+returns-in-Summarize-clause-carried g c = rw c.in-Summarize.is (record {
+  numbers = λ all base a b.
+      let r = rw c.new-kernel-in-Summarize.ensures at (c.summarize-status.ensures.answers all base a b) in
+      (r.0, c.summarize-status.new.kernel, r.1);
+  told = λ all base a b. rw c.new-kernel-in-Summarize.ensures at (c.summarize-status.ensures.told all base a b);
+  why = λ all a.
+      subst (λ (w : World). w.ran_out ≡ false → IsSoundBus (bus_in w) → w.faults ≡ 0 → coming_in w ≤ 1048576 → c.summarize-status.result ≡ 2 → RefusesScript w (lines_of all)) c.new-kernel-in-Summarize.ensures (c.summarize-status.ensures.why all a) refl bus_new_sound refl (omega arith);
+  ended = c.summarize-status.ensures.ended;
+})
 
-pub returns-in-GeneratePolicy-clause-policy : goal.returns-in-GeneratePolicy-clause-policy
-returns-in-GeneratePolicy-clause-policy g c = λ is all base a b. rw c.new-kernel-in-GeneratePolicy.ensures at (c.generate_policy-status.ensures.policy all base a b)
+pub returns-in-MakeScript-clause-carried : goal.returns-in-MakeScript-clause-carried
+returns-in-MakeScript-clause-carried g c = rw c.in-MakeScript.is (record {
+  text = inl c.write_script.ensures.ends;
+  unread = refl;
+  ended = c.write_script.ensures.ended;
+})
 
-pub returns-in-Summarize-clause-summarized : goal.returns-in-Summarize-clause-summarized
-returns-in-Summarize-clause-summarized g c = λ is all base a b.
-    let r = rw c.new-kernel-in-Summarize.ensures at (c.summarize-status.ensures.answers all base a b) in
-    (r.0, c.summarize-status.new.kernel, r.1)
+pub returns-in-ReadDescriptor-clause-carried : goal.returns-in-ReadDescriptor-clause-carried
+returns-in-ReadDescriptor-clause-carried g c = rw c.in-ReadDescriptor.is (record {
+  answer = c.list_descriptors.ensures.answers;
+  ended = c.list_descriptors.ensures.others;
+})
 
-pub returns-in-Summarize-clause-summary : goal.returns-in-Summarize-clause-summary
-returns-in-Summarize-clause-summary g c = λ is all base a b. rw c.new-kernel-in-Summarize.ensures at (c.summarize-status.ensures.told all base a b)
+pub returns-in-CheckRules-clause-carried : goal.returns-in-CheckRules-clause-carried
+returns-in-CheckRules-clause-carried g c = rw c.in-CheckRules.is (record {
+  answer = c.check_rules.ensures.answers;
+  ended = c.check_rules.ensures.others;
+})
 
-pub returns-in-Summarize-clause-why_summary : goal.returns-in-Summarize-clause-why_summary
-returns-in-Summarize-clause-why_summary g c = λ is all a.
-    subst (λ (w : World). w.ran_out ≡ false → IsSoundBus (bus_in w) → w.faults ≡ 0 → coming_in w ≤ 1048576 → c.summarize-status.result ≡ 2 → RefusesScript w (lines_of all)) c.new-kernel-in-Summarize.ensures (c.summarize-status.ensures.why all a) refl bus_new_sound refl (omega arith)
+pub returns-in-LintRules-clause-carried : goal.returns-in-LintRules-clause-carried
+returns-in-LintRules-clause-carried g c = rw c.in-LintRules.is (record {
+  answer = c.lint_rules.ensures.answers;
+  ended = c.lint_rules.ensures.others;
+})
+
+pub returns-in-GeneratePolicy-clause-carried : goal.returns-in-GeneratePolicy-clause-carried
+returns-in-GeneratePolicy-clause-carried g c = rw c.in-GeneratePolicy.is (record {
+  lines = λ all base a b.
+      let r = rw c.new-kernel-in-GeneratePolicy.ensures at (c.generate_policy-status.ensures.answers all base a b) in
+      (r.0, c.generate_policy-status.new.kernel, r.1);
+  policy = λ all base a b. rw c.new-kernel-in-GeneratePolicy.ensures at (c.generate_policy-status.ensures.policy all base a b);
+  alone = c.generate_policy-status.ensures.alone;
+  ended = c.generate_policy-status.ensures.ended;
+})
+
+pub returns-in-AddUser-clause-carried : goal.returns-in-AddUser-clause-carried
+returns-in-AddUser-clause-carried g c = rw c.in-AddUser.is (record {
+  answer = c.add_user.ensures.answers;
+  ended = c.add_user.ensures.others;
+})
+
+pub returns-in-Ask-clause-carried : goal.returns-in-Ask-clause-carried
+returns-in-Ask-clause-carried g c = rw c.in-Ask.is (rw c.bytes.ensures at c.ask_daemon.ensures.asks, refl)
+
+pub returns-in-Watch-clause-carried : goal.returns-in-Watch-clause-carried
+returns-in-Watch-clause-carried g c = rw c.in-Watch.is (rw c.bytes-in-Watch.ensures at c.watch_daemon.ensures.watches, refl)
