@@ -1,3 +1,4 @@
 pub mod SimpleApps
 pub mod Found
 pub mod RequestLengths
+pub mod ChosenWords

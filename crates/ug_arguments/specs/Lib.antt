@@ -1,3 +1,4 @@
+pub mod Arguments
 pub mod CommandLines
 pub mod CommandWords
 pub mod Commands

@@ -26,6 +26,27 @@ pub enum Command {
     Watch { socket: Text, most: u64 },
 }
 
+impl Command {
+    /// Drops it. A crate that calls this need not prove how its parts are dropped.
+    pub fn discard(self) {
+        match self {
+            Command::Ask { socket, request } => {
+                drop(socket);
+                request.discard();
+            }
+            Command::Watch { socket, most: _ } => drop(socket),
+            Command::Replay
+            | Command::Summarize
+            | Command::MakeScript { .. }
+            | Command::ReadDescriptor
+            | Command::CheckRules
+            | Command::LintRules { .. }
+            | Command::GeneratePolicy
+            | Command::AddUser { .. } => {}
+        }
+    }
+}
+
 /// Why words were not read.
 #[derive(Clone, Copy)]
 pub enum WordsFault {

@@ -1,6 +1,9 @@
 // The words that choose a command.
 ghost use Rattle.std.specs.Prelude.{◌≡◌};
-ghost use Rattle.ug_arguments.specs.CommandWords.{asking_word_in, rule_word_in, word_in};
+ghost use Rattle.ug_arguments.specs.Arguments as words;
+ghost use Rattle.ug_arguments.specs.Arguments.{all_words};
+ghost use Rattle.ug_arguments.specs.CommandWords.{word_in};
+ghost use Rattle.ug_arguments.specs.SimpleCommands.{app_of_word};
 
 use ug_types::{Target, is_word};
 
@@ -25,82 +28,71 @@ pub enum CommandWord {
     Watch,
 }
 
-// The words of the commands about rules, and `watch`.
-#[tactic(auto, unfolding(crate::specs::CommandWords::rule_word_in))]
-fn rule_word(text: &[u8]) -> Option<CommandWord>
-    ensures { result ≡ rule_word_in text.now }
+/// The word of a command.
+#[tactic(auto, unfolding(crate::specs::SimpleCommands::app_of_word))]
+pub fn name_of<'a>(word: CommandWord) -> &'a str
+    ensures { result.now ≡ (app_of_word word).top.name }
 {
-    if is_word(text, b"list-rules") {
-        return Some(CommandWord::ListRules);
+    match word {
+        CommandWord::Replay => "replay",
+        CommandWord::MakeScript => "make-script",
+        CommandWord::ReadDescriptor => "read-descriptor",
+        CommandWord::CheckRules => "check-rules",
+        CommandWord::LintRules => "lint-rules",
+        CommandWord::GeneratePolicy => "generate-policy",
+        CommandWord::AddUser => "add-user",
+        CommandWord::GetParameter => "get-parameter",
+        CommandWord::SetParameter => "set-parameter",
+        CommandWord::ListDevices => "list-devices",
+        CommandWord::Device(Target::Allow) => "allow-device",
+        CommandWord::Device(Target::Block) => "block-device",
+        CommandWord::Device(Target::Reject) => "reject-device",
+        CommandWord::ListRules => "list-rules",
+        CommandWord::AppendRule => "append-rule",
+        CommandWord::RemoveRule => "remove-rule",
+        CommandWord::Watch => "watch",
     }
-    if is_word(text, b"append-rule") {
-        return Some(CommandWord::AppendRule);
-    }
-    if is_word(text, b"remove-rule") {
-        return Some(CommandWord::RemoveRule);
-    }
-    if is_word(text, b"watch") {
-        return Some(CommandWord::Watch);
-    }
-    None
 }
 
-// The words of the commands that ask the daemon.
-#[tactic(auto, unfolding(crate::specs::CommandWords::asking_word_in))]
-fn asking_word(text: &[u8]) -> Option<CommandWord>
-    ensures { result ≡ asking_word_in text.now }
+fn all() -> &'static [CommandWord]
+    ensures { result.now ≡ all_words }
 {
-    if is_word(text, b"get-parameter") {
-        return Some(CommandWord::GetParameter);
-    }
-    if is_word(text, b"set-parameter") {
-        return Some(CommandWord::SetParameter);
-    }
-    if is_word(text, b"list-devices") {
-        return Some(CommandWord::ListDevices);
-    }
-    if is_word(text, b"allow-device") {
-        return Some(CommandWord::Device(Target::Allow));
-    }
-    if is_word(text, b"block-device") {
-        return Some(CommandWord::Device(Target::Block));
-    }
-    if is_word(text, b"reject-device") {
-        return Some(CommandWord::Device(Target::Reject));
-    }
-    rule_word(text)
+    &[
+        CommandWord::Replay,
+        CommandWord::MakeScript,
+        CommandWord::ReadDescriptor,
+        CommandWord::CheckRules,
+        CommandWord::LintRules,
+        CommandWord::GeneratePolicy,
+        CommandWord::AddUser,
+        CommandWord::GetParameter,
+        CommandWord::SetParameter,
+        CommandWord::ListDevices,
+        CommandWord::Device(Target::Allow),
+        CommandWord::Device(Target::Block),
+        CommandWord::Device(Target::Reject),
+        CommandWord::ListRules,
+        CommandWord::AppendRule,
+        CommandWord::RemoveRule,
+        CommandWord::Watch,
+    ]
 }
 
-#[tactic(auto, unfolding(crate::specs::CommandWords::word_in))]
-fn word_of(text: &[u8]) -> Option<CommandWord>
-    ensures { result ≡ word_in text.now }
+fn spells_command(text: &str, word: CommandWord) -> bool
+    ensures { result ≡ words.spells_command text.now word }
 {
-    if is_word(text, b"replay") {
-        return Some(CommandWord::Replay);
-    }
-    if is_word(text, b"make-script") {
-        return Some(CommandWord::MakeScript);
-    }
-    if is_word(text, b"read-descriptor") {
-        return Some(CommandWord::ReadDescriptor);
-    }
-    if is_word(text, b"check-rules") {
-        return Some(CommandWord::CheckRules);
-    }
-    if is_word(text, b"lint-rules") {
-        return Some(CommandWord::LintRules);
-    }
-    if is_word(text, b"generate-policy") {
-        return Some(CommandWord::GeneratePolicy);
-    }
-    if is_word(text, b"add-user") {
-        return Some(CommandWord::AddUser);
-    }
-    asking_word(text)
+    is_word(text.as_bytes(), name_of(word).as_bytes())
 }
 
+/// The command that a word chooses.
 pub fn command_word(text: &str) -> Option<CommandWord>
     ensures { result ≡ word_in text.now }
 {
-    word_of(text.as_bytes())
+    let words = all();
+    for word in words {
+        if spells_command(text, *word) {
+            return Some(*word);
+        }
+    }
+    None
 }

@@ -1,180 +1,110 @@
 // The simple command of each first word.
-ghost use Rattle.std.specs.Prelude.{◌≡◌, IfOk, false};
-ghost use Rattle.clap.specs.Words.{App, Rule, app_of, new_app, rule_of, with_rule};
-ghost use Rattle.ug_arguments.specs.SimpleCommands as simple;
-ghost use Rattle.ug_arguments.specs.SimpleCommands.{add_user_app, append_rule_app, app_of_word, asking_app, daemon_app, device_app, lint_rules_app, make_script_app, replay_app};
+ghost use Rattle.std.specs.Prelude.{◌≡◌, IfOk, false, map};
+ghost use Rattle.clap.specs.Words.{app_of, rule_of};
+ghost use Rattle.ug_arguments.specs.Arguments.{app_taking, rule_by};
+ghost use Rattle.ug_arguments.specs.SimpleCommands.{app_of_word, daemon_app};
 
-use crate::command_word::CommandWord;
+use crate::command_word::{CommandWord, name_of};
 use clap::{Arg, ArgAction, Command};
 use std::alloc::{AllocError, Global};
-use ug_types::Target;
 
-fn required<'a>(alloc: Global, id: &'a str) -> Arg<'a>
-    ensures rule { rule_of result ≡ simple.required_word id.entry.now }
+/// What a command takes, by the name that it is found by.
+pub enum Argument<'a> {
+    /// A word that has to be there.
+    Word(&'a str),
+    /// `--NAME VALUE`, which may be left out.
+    LongOption(&'a str),
+    /// `-L VALUE`, which may be left out.
+    ShortOption(&'a str, char),
+    /// `--NAME`, which may be left out.
+    LongFlag(&'a str),
+    /// `-L`, which may be left out.
+    Flag(&'a str, char),
+}
+
+fn arg_of<'a>(alloc: Global, argument: &Argument<'a>) -> Arg<'a>
+    ensures rule { rule_of result ≡ rule_by argument.now }
     ensures own { result.global ≡ false }
 {
-    Arg::new(alloc, id).required(true)
-}
-
-fn long_option<'a>(alloc: Global, id: &'a str) -> Arg<'a>
-    ensures rule { rule_of result ≡ simple.long_option id.entry.now }
-    ensures own { result.global ≡ false }
-{
-    Arg::new(alloc, id).long(id)
-}
-
-fn short_option<'a>(alloc: Global, id: &'a str, letter: char) -> Arg<'a>
-    ensures rule { rule_of result ≡ simple.short_option id.entry.now letter }
-    ensures own { result.global ≡ false }
-{
-    Arg::new(alloc, id).short(letter)
-}
-
-fn flag<'a>(alloc: Global, id: &'a str, letter: char) -> Arg<'a>
-    ensures rule { rule_of result ≡ simple.flag id.entry.now letter }
-    ensures own { result.global ≡ false }
-{
-    Arg::new(alloc, id).short(letter).action(ArgAction::SetTrue)
-}
-
-fn long_flag<'a>(alloc: Global, id: &'a str) -> Arg<'a>
-    ensures rule { rule_of result ≡ simple.long_flag id.entry.now }
-    ensures own { result.global ≡ false }
-{
-    Arg::new(alloc, id).long(id).action(ArgAction::SetTrue)
-}
-
-// A command that takes no words.
-fn bare<'a>(alloc: Global, name: &'a str) -> Result<Command<'a>, AllocError>
-    ensures { IfOk result (λ c. app_of c ≡ new_app name.entry.now) }
-{
-    Ok(Command::new(alloc, name))
-}
-
-// The command with one argument more, where the command was made.
-fn with<'a>(
-    command: Result<Command<'a>, AllocError>,
-    arg: Arg<'a>,
-) -> Result<Command<'a>, AllocError>
-    requires { arg.global ≡ false }
-    ensures { (app : App) (rule : Rule) → IfOk command.entry (λ c. app_of c ≡ app)
-        → rule_of arg.entry ≡ rule → IfOk result (λ c. app_of c ≡ with_rule app rule) }
-{
-    match command {
-        Ok(command) => command.arg(arg),
-        Err(fault) => {
-            drop(arg);
-            Err(fault)
-        }
+    match argument {
+        Argument::Word(id) => Arg::new(alloc, id).required(true),
+        Argument::LongOption(id) => Arg::new(alloc, id).long(id),
+        Argument::ShortOption(id, letter) => Arg::new(alloc, id).short(*letter),
+        Argument::LongFlag(id) => Arg::new(alloc, id).long(id).action(ArgAction::SetTrue),
+        Argument::Flag(id, letter) => Arg::new(alloc, id)
+            .short(*letter)
+            .action(ArgAction::SetTrue),
     }
 }
 
-fn replay<'a>(alloc: Global) -> Result<Command<'a>, AllocError>
-    ensures { IfOk result (λ c. app_of c ≡ replay_app) }
+// The command of that name that takes these arguments.
+fn command_taking<'a>(
+    alloc: Global,
+    name: &'a str,
+    arguments: &[Argument<'a>],
+) -> Result<Command<'a>, AllocError>
+    ensures { IfOk result (λ c. app_of c ≡ app_taking name.entry.now arguments.now) }
 {
-    with(bare(alloc, "replay"), long_flag(alloc, "summary"))
+    let mut command = Command::new(alloc, name);
+    for argument in arguments {
+        command = command.arg(arg_of(alloc, argument))?;
+    }
+    Ok(command)
 }
 
-fn make_script<'a>(alloc: Global) -> Result<Command<'a>, AllocError>
-    ensures { IfOk result (λ c. app_of c ≡ make_script_app) }
+#[tactic(auto, unfolding(crate::specs::SimpleCommands::app_of_word))]
+fn arguments_of<'a>(word: CommandWord) -> &'a [Argument<'a>]
+    ensures { map rule_by result.now ≡ (app_of_word word).top.rules }
 {
-    let command = with(bare(alloc, "make-script"), required(alloc, "events"));
-    with(command, required(alloc, "start"))
-}
-
-fn lint_rules<'a>(alloc: Global) -> Result<Command<'a>, AllocError>
-    ensures { IfOk result (λ c. app_of c ≡ lint_rules_app) }
-{
-    with(bare(alloc, "lint-rules"), long_flag(alloc, "prune"))
-}
-
-fn add_user<'a>(alloc: Global) -> Result<Command<'a>, AllocError>
-    ensures { IfOk result (λ c. app_of c ≡ add_user_app) }
-{
-    let command = bare(alloc, "add-user");
-    let command = with(command, required(alloc, "name"));
-    let command = with(command, long_option(alloc, "devices"));
-    let command = with(command, long_option(alloc, "policy"));
-    let command = with(command, long_option(alloc, "exceptions"));
-    with(command, long_option(alloc, "parameters"))
-}
-
-/// A command that asks the daemon.
-fn asking<'a>(alloc: Global, name: &'a str) -> Result<Command<'a>, AllocError>
-    ensures { IfOk result (λ c. app_of c ≡ asking_app name.entry.now) }
-{
-    with(bare(alloc, name), long_option(alloc, "socket"))
-}
-
-fn get_parameter<'a>(alloc: Global) -> Result<Command<'a>, AllocError>
-    ensures { IfOk result (λ c. app_of c ≡ simple.get_parameter_app) }
-{
-    with(asking(alloc, "get-parameter"), required(alloc, "name"))
-}
-
-fn set_parameter<'a>(alloc: Global) -> Result<Command<'a>, AllocError>
-    ensures { IfOk result (λ c. app_of c ≡ simple.set_parameter_app) }
-{
-    let command = with(asking(alloc, "set-parameter"), required(alloc, "name"));
-    with(command, required(alloc, "value"))
-}
-
-fn device<'a>(alloc: Global, name: &'a str) -> Result<Command<'a>, AllocError>
-    ensures { IfOk result (λ c. app_of c ≡ device_app name.entry.now) }
-{
-    let command = with(asking(alloc, name), required(alloc, "number"));
-    with(command, flag(alloc, "permanent", 'p'))
-}
-
-fn append_rule<'a>(alloc: Global) -> Result<Command<'a>, AllocError>
-    ensures { IfOk result (λ c. app_of c ≡ append_rule_app) }
-{
-    let command = with(asking(alloc, "append-rule"), required(alloc, "rule"));
-    let command = with(command, short_option(alloc, "after", 'a'));
-    with(command, flag(alloc, "temporary", 't'))
-}
-
-fn remove_rule<'a>(alloc: Global) -> Result<Command<'a>, AllocError>
-    ensures { IfOk result (λ c. app_of c ≡ simple.remove_rule_app) }
-{
-    with(asking(alloc, "remove-rule"), required(alloc, "id"))
-}
-
-fn watch<'a>(alloc: Global) -> Result<Command<'a>, AllocError>
-    ensures { IfOk result (λ c. app_of c ≡ simple.watch_app) }
-{
-    with(asking(alloc, "watch"), short_option(alloc, "most", 'n'))
+    match word {
+        CommandWord::Replay => &[Argument::LongFlag("summary")],
+        CommandWord::MakeScript => &[Argument::Word("events"), Argument::Word("start")],
+        CommandWord::ReadDescriptor | CommandWord::CheckRules => &[],
+        CommandWord::LintRules => &[Argument::LongFlag("prune")],
+        CommandWord::GeneratePolicy => &[],
+        CommandWord::AddUser => &[
+            Argument::Word("name"),
+            Argument::LongOption("devices"),
+            Argument::LongOption("policy"),
+            Argument::LongOption("exceptions"),
+            Argument::LongOption("parameters"),
+        ],
+        CommandWord::GetParameter => &[Argument::LongOption("socket"), Argument::Word("name")],
+        CommandWord::SetParameter => &[
+            Argument::LongOption("socket"),
+            Argument::Word("name"),
+            Argument::Word("value"),
+        ],
+        CommandWord::ListDevices | CommandWord::ListRules => &[Argument::LongOption("socket")],
+        CommandWord::Device(_) => &[
+            Argument::LongOption("socket"),
+            Argument::Word("number"),
+            Argument::Flag("permanent", 'p'),
+        ],
+        CommandWord::AppendRule => &[
+            Argument::LongOption("socket"),
+            Argument::Word("rule"),
+            Argument::ShortOption("after", 'a'),
+            Argument::Flag("temporary", 't'),
+        ],
+        CommandWord::RemoveRule => &[Argument::LongOption("socket"), Argument::Word("id")],
+        CommandWord::Watch => &[
+            Argument::LongOption("socket"),
+            Argument::ShortOption("most", 'n'),
+        ],
+    }
 }
 
 /// The command `daemon`, for the words behind it.
 pub fn daemon_command<'a>(alloc: Global) -> Result<Command<'a>, AllocError>
     ensures { IfOk result (λ c. app_of c ≡ daemon_app) }
 {
-    with(bare(alloc, "daemon"), long_option(alloc, "conf"))
+    command_taking(alloc, "daemon", &[Argument::LongOption("conf")])
 }
 
 /// The command of a word, for the words behind it.
-#[tactic(auto, unfolding(crate::specs::SimpleCommands::app_of_word))]
 pub fn simple_command<'a>(alloc: Global, word: CommandWord) -> Result<Command<'a>, AllocError>
     ensures { IfOk result (λ c. app_of c ≡ app_of_word word) }
 {
-    match word {
-        CommandWord::Replay => replay(alloc),
-        CommandWord::MakeScript => make_script(alloc),
-        CommandWord::ReadDescriptor => bare(alloc, "read-descriptor"),
-        CommandWord::CheckRules => bare(alloc, "check-rules"),
-        CommandWord::LintRules => lint_rules(alloc),
-        CommandWord::GeneratePolicy => bare(alloc, "generate-policy"),
-        CommandWord::AddUser => add_user(alloc),
-        CommandWord::GetParameter => get_parameter(alloc),
-        CommandWord::SetParameter => set_parameter(alloc),
-        CommandWord::ListDevices => asking(alloc, "list-devices"),
-        CommandWord::Device(Target::Allow) => device(alloc, "allow-device"),
-        CommandWord::Device(Target::Block) => device(alloc, "block-device"),
-        CommandWord::Device(Target::Reject) => device(alloc, "reject-device"),
-        CommandWord::ListRules => asking(alloc, "list-rules"),
-        CommandWord::AppendRule => append_rule(alloc),
-        CommandWord::RemoveRule => remove_rule(alloc),
-        CommandWord::Watch => watch(alloc),
-    }
+    command_taking(alloc, name_of(word), arguments_of(word))
 }

@@ -18,7 +18,13 @@ use ug_users::{Listed, read_list};
 fn is_line(text: &str) -> bool
     ensures { result ≡ values.is_line text.now }
 {
-    text.as_bytes().iter().all(|byte| *byte != b'\n')
+    let bytes = text.as_bytes();
+    for byte in bytes {
+        if *byte == b'\n' {
+            return false;
+        }
+    }
+    true
 }
 
 fn is_rule(text: &str) -> bool
@@ -27,16 +33,16 @@ fn is_rule(text: &str) -> bool
     text.len() >= 1 && is_line(text)
 }
 
-fn is_word_byte(byte: u8) -> bool
-    ensures { result ≡ values.is_plain_byte byte }
-{
-    byte != b'\n' && byte != b' '
-}
-
 fn are_word_bytes(text: &str) -> bool
     ensures { result ≡ values.are_word_bytes text.now }
 {
-    text.as_bytes().iter().all(|byte| is_word_byte(*byte))
+    let bytes = text.as_bytes();
+    for byte in bytes {
+        if *byte == b'\n' || *byte == b' ' {
+            return false;
+        }
+    }
+    true
 }
 
 fn is_plain_word(text: &str) -> bool

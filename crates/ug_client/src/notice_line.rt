@@ -41,12 +41,6 @@ fn is_name(word: &[u8]) -> bool
     NodeName::parse(word).is_ok()
 }
 
-fn is_name_or_star(word: &[u8]) -> bool
-    ensures { result ≡ lines.is_name_or_star word.now }
-{
-    is_word(word, b"*") || is_name(word)
-}
-
 fn is_write(word: &[u8]) -> bool
     ensures { result ≡ lines.is_write word.now }
 {
@@ -73,15 +67,6 @@ fn is_malformed(text: &[u8]) -> bool
     }
 }
 
-fn is_cause_alone(text: &[u8]) -> bool
-    ensures { result ≡ lines.is_cause_alone text.now }
-{
-    is_word(text, b"implicit")
-        || is_word(text, b"present")
-        || is_word(text, b"keep")
-        || is_word(text, b"inserted")
-}
-
 fn is_cause(text: &[u8]) -> bool
     ensures { result ≡ lines.is_cause text.now }
 {
@@ -98,16 +83,12 @@ fn is_cause(text: &[u8]) -> bool
             }
             false
         }
-        None => is_cause_alone(text),
-    }
-}
-
-fn are_numbers(text: &[u8]) -> bool
-    ensures { result ≡ lines.are_numbers text.now }
-{
-    match cut_word(text) {
-        Some((call, count)) => is_number(call) && is_number(count),
-        None => false,
+        None => {
+            is_word(text, b"implicit")
+                || is_word(text, b"present")
+                || is_word(text, b"keep")
+                || is_word(text, b"inserted")
+        }
     }
 }
 
@@ -115,65 +96,46 @@ fn is_fault(text: &[u8]) -> bool
     ensures { result ≡ lines.is_fault text.now }
 {
     match cut_word(text) {
-        Some((word, rest)) => is_word(word, b"fault") && are_numbers(rest),
+        Some((word, rest)) => match cut_word(rest) {
+            Some((call, count)) => {
+                is_word(word, b"fault") && is_number(call) && is_number(count)
+            }
+            None => false,
+        },
         None => is_word(text, b"memory"),
     }
 }
 
-// A verdict and its cause.
-fn is_verdict(text: &[u8]) -> bool
-    ensures { result ≡ lines.is_verdict text.now }
-{
-    match cut_word(text) {
-        Some((verdict, cause)) => Target::named(verdict).is_some() && is_cause(cause),
-        None => false,
-    }
-}
-
-fn is_named_verdict(text: &[u8]) -> bool
-    ensures { result ≡ lines.is_named_verdict text.now }
-{
-    match cut_word(text) {
-        Some((name, rest)) => is_name(name) && is_verdict(rest),
-        None => false,
-    }
-}
-
+// The event's number, a name, a verdict and its cause.
 fn is_judged(text: &[u8]) -> bool
     ensures { result ≡ lines.is_judged text.now }
 {
-    match cut_word(text) {
-        Some((number, rest)) => is_number(number) && is_named_verdict(rest),
-        None => false,
-    }
+    let Some((number, rest)) = cut_word(text) else {
+        return false;
+    };
+    let Some((name, rest)) = cut_word(rest) else {
+        return false;
+    };
+    let Some((verdict, cause)) = cut_word(rest) else {
+        return false;
+    };
+    is_number(number) && is_name(name) && Target::named(verdict).is_some() && is_cause(cause)
 }
 
-// A write and what it came to.
-fn is_written(text: &[u8]) -> bool
-    ensures { result ≡ lines.is_written text.now }
-{
-    match cut_word(text) {
-        Some((write, outcome)) => is_write(write) && is_outcome(outcome),
-        None => false,
-    }
-}
-
-fn is_named_write(text: &[u8]) -> bool
-    ensures { result ≡ lines.is_named_write text.now }
-{
-    match cut_word(text) {
-        Some((name, rest)) => is_name(name) && is_written(rest),
-        None => false,
-    }
-}
-
+// The event's number, a name, a write and what it came to.
 fn is_wrote(text: &[u8]) -> bool
     ensures { result ≡ lines.is_wrote text.now }
 {
-    match cut_word(text) {
-        Some((number, rest)) => is_number(number) && is_named_write(rest),
-        None => false,
-    }
+    let Some((number, rest)) = cut_word(text) else {
+        return false;
+    };
+    let Some((name, rest)) = cut_word(rest) else {
+        return false;
+    };
+    let Some((write, outcome)) = cut_word(rest) else {
+        return false;
+    };
+    is_number(number) && is_name(name) && is_write(write) && is_outcome(outcome)
 }
 
 fn is_gone(text: &[u8]) -> bool
@@ -189,7 +151,7 @@ fn is_unsettled(text: &[u8]) -> bool
     ensures { result ≡ lines.is_unsettled text.now }
 {
     match cut_word(text) {
-        Some((name, fault)) => is_name_or_star(name) && is_fault(fault),
+        Some((name, fault)) => (is_word(name, b"*") || is_name(name)) && is_fault(fault),
         None => false,
     }
 }

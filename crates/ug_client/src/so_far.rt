@@ -22,7 +22,13 @@ pub struct SoFar {
 fn count_newlines(bytes: &[u8]) -> u64
     ensures { result ≡ newlines bytes.now }
 {
-    bytes.iter().filter(|byte| **byte == b'\n').count() as u64
+    let mut count = 0;
+    for byte in bytes {
+        if *byte == b'\n' {
+            count += 1;
+        }
+    }
+    count
 }
 
 /// How many lines are missing at least behind the first line of a reply and what stands behind it.

@@ -16,14 +16,16 @@ use crate::rule_lines::text_of_rules;
 use std::alloc::Global;
 use ug_command_io::{Ended, read_input, refuse_input, write_result};
 use ug_lint::{lint, prune};
-use ug_types::{Sink, Source, TEXT_LIMIT, Text};
+use ug_types::{Sink, Source, TEXT_LIMIT, Text, discard_rules};
 
 fn findings_of(alloc: Global, bytes: &[u8]) -> Result<Text, LintFault>
     ensures linted { IfOk result (λ text. IsLinted bytes.now text) }
     ensures fault { IfErr result (λ fault. IsLintFault fault bytes.now) }
 {
     let rules = read_few(alloc, bytes)?;
-    let found = lint(alloc, rules.as_slice())?;
+    let found = lint(alloc, rules.as_slice());
+    discard_rules(rules);
+    let found = found?;
     Ok(text_of_findings(alloc, found.as_slice())?)
 }
 
@@ -33,7 +35,9 @@ fn pruned_of(alloc: Global, bytes: &[u8]) -> Result<Text, LintFault>
 {
     let rules = read_few(alloc, bytes)?;
     let left = prune(alloc, rules)?;
-    Ok(text_of_rules(alloc, left.as_slice())?)
+    let text = text_of_rules(alloc, left.as_slice());
+    discard_rules(left);
+    Ok(text?)
 }
 
 fn output_of(alloc: Global, pruned: bool, bytes: &[u8]) -> Result<Text, LintFault>

@@ -1,16 +1,18 @@
 -- Conditions one after the other, with the words that they take.
-use Rattle.std.proofs.Common.{◌≡◌, ℕ, suc, List, ◌∷◌, Bool, true, false, not, cond, ◌&&◌, ◌||◌, drop, refl, sym, ap, ◌∙◌}
+use Rattle.std.proofs.Common.{◌≡◌, ◌≤◌, ℕ, suc, List, ◌∷◌, Bool, true, false, not, cond, ◌&&◌, ◌||◌, drop, length, refl, sym, ap, ◌∙◌}
 use Rattle.std.specs.Prelude.{slice_index}
 use Rattle.std.specs.List.{list_all, list_any}
-use Rattle.std.proofs.Math.Bool.{and_assoc, or_assoc}
+use Rattle.std.proofs.Math.Bool.{and_assoc, or_assoc, and-true, or-false}
+use Rattle.std.proofs.lemmas.List.{at_drop_all}
 use Rattle.rand_core.specs.Stream.{Stream, next_u64}
 use Rattle.ug_types.specs.declared.record.DeviceRecord.{DeviceRecord}
 use Rattle.ug_types.specs.declared.rule.Cond.{Cond}
 use Rattle.ug_types.specs.declared.rule.CondKind.{CondKind}
 use Rattle.ug_types.specs.declared.rule.CondKind.TheVariants as kind
+use Rattle.ug_types.specs.declared.rule.Conds.{Conds}
 use Rattle.ug_cond.specs.declared.context.Context.{Context}
 use Rattle.ug_cond.specs.declared.history.History.{History}
-use Rattle.ug_cond.specs.Conditions.{is_so, condition_holds}
+use Rattle.ug_cond.specs.Conditions.{is_so, condition_holds, conditions_hold, by_operator}
 use Rattle.ug_cond.specs.Words.{words_of, behind, is_random, random_count, with_words}
 
 -- the conditions with the next words of a generator
@@ -74,3 +76,15 @@ some_more history ctx records c conds stream next before here h n =
 
 pub behind_more : (c : Cond) (conds : List Cond) (stream next : Stream) → next ≡ after_one c.kind stream → behind (random_count conds) next ≡ behind (random_count (c ∷ conds)) stream
 behind_more c conds stream next n = ap (λ (s : Stream). behind (random_count conds) s) n ∙ sym (rest_behind (random_count conds) stream (is_random c.kind))
+
+-- the walk's end: none is left
+pub walked_value : (history : History) (ctx : Context) (records : List DeviceRecord) (conds : Conds) (items : List Cond) (i : ℕ) (stream start : Stream) (all some held : Bool) → length items ≤ i → (all && list_all (condition_holds history ctx records) (drawn (drop i items) stream)) ≡ list_all (condition_holds history ctx records) (drawn conds.items start) → (some || list_any (condition_holds history ctx records) (drawn (drop i items) stream)) ≡ list_any (condition_holds history ctx records) (drawn conds.items start) → held ≡ by_operator conds.op all some → held ≡ conditions_hold history ctx records conds (words_of (random_count conds.items) start)
+walked_value history ctx records conds items i stream start all some held past each one is =
+    let holds = condition_holds history ctx records in
+    let whole : all ≡ list_all holds (drawn conds.items start) =
+    sym (and-true all) ∙ ap (λ b. all && b) (sym (at_drop_all (λ (cs : List Cond). list_all holds (drawn cs stream)) items i past)) ∙ each in
+    let any : some ≡ list_any holds (drawn conds.items start) =
+    sym (or-false some) ∙ ap (λ b. some || b) (sym (at_drop_all (λ (cs : List Cond). list_any holds (drawn cs stream)) items i past)) ∙ one in
+    is
+    ∙ ap (λ b. by_operator conds.op b some) whole
+    ∙ ap (λ b. by_operator conds.op (list_all holds (drawn conds.items start)) b) any

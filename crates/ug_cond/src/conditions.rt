@@ -26,10 +26,12 @@ fn is_in_time(begin: u32, end: u32, second: u32) -> bool
 fn was_recent(past: Option<u32>, now: Moment, kept: Option<Moment>) -> bool
     ensures { result ≡ conditions.was_recent past now kept }
 {
-    match (kept, past) {
-        (None, _) => false,
-        (Some(_), None) => true,
-        (Some(kept), Some(past)) => now.0.saturating_sub(kept.0) <= past as u64,
+    match kept {
+        None => false,
+        Some(kept) => match past {
+            None => true,
+            Some(past) => now.0.saturating_sub(kept.0) <= past as u64,
+        },
     }
 }
 

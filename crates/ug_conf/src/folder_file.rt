@@ -4,13 +4,18 @@ ghost use Rattle.std.specs.List.{list_all};
 ghost use Rattle.ug_types.specs.Principals.{is_name_byte};
 ghost use Rattle.ug_conf.specs.FolderFiles.{is_rule_file_name};
 
-use ug_types::Text;
+use ug_types::{List, Text};
 
 /// A file of a folder of rules. Its text is as a rule file's.
 #[derive(Drop)]
 pub struct FolderFile {
     pub name: Text,
     pub text: Text,
+}
+
+/// Drops the files of a folder, as `Settings::discard`.
+pub fn discard_files(files: List<FolderFile>) {
+    drop(files);
 }
 
 fn is_name_byte(byte: u8) -> bool

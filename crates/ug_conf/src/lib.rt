@@ -20,7 +20,7 @@ mod values;
 pub use defaults::default_settings;
 pub use fault::FaultKind;
 pub use files::{ConfFiles, FileRead, FolderRead};
-pub use folder_file::{FolderFile, is_rule_file_name};
+pub use folder_file::{FolderFile, discard_files, is_rule_file_name};
 pub use laws::{
     file_names_law, key_words_law, lines_law, one_meaning, reading_is_grammar, value_words_law,
 };

@@ -32,6 +32,9 @@ impl Model for SettingsReader {
 }
 
 impl SettingsReader {
+    /// Drops it, as `Settings::discard`.
+    pub fn discard(self) {}
+
     /// No line yet: the settings are those of `default_settings`.
     pub fn new(alloc: Global) -> Result<SettingsReader, NoMemory>
         ensures { IfOk result (λ reader. reader ≡ record {

@@ -53,3 +53,8 @@ pub struct Settings {
     /// The numbers of the lines whose keys set nothing yet, in the lines' order.
     pub unused: List<u64>,
 }
+
+impl Settings {
+    /// Drops them. A crate that calls this need not prove how their parts are dropped.
+    pub fn discard(self) {}
+}

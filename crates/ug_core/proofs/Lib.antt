@@ -32,3 +32,4 @@ pub mod Stopped
 pub mod Tried
 pub mod ValueLines
 pub mod Told
+pub mod Saves

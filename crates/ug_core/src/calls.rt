@@ -208,7 +208,9 @@ impl<'z, R: Rng> Daemon<'z, R> {
         self.policy.set_moment(event.moment());
         self.report.event = number;
         self.report.entries.clear();
-        drop(self.report.reply.take());
+        if let Some(reply) = self.report.reply.take() {
+            reply.discard();
+        }
         self.report.watch = false;
         drop(self.due.take());
         self.note(event.first_entry(number), panel);

@@ -35,6 +35,14 @@ fn edit_entry(edit: &Edit, next: u64) -> Entry
 }
 
 impl Change {
+    /// Drops it.
+    pub fn discard(self) {
+        match self {
+            Change::Rules(edit) => edit.discard(),
+            Change::Set(_) => {}
+        }
+    }
+
     /// What the journal tells of it, where that is the next rule's id.
     pub fn entry(&self, next: u64) -> Entry
         ensures { result ≡ change_entry self.now next }

@@ -308,7 +308,7 @@ impl<'z, R: Rng> Daemon<'z, R> {
                 change(Change::Rules(edit), Deed::Tell(lines))
             }
             Err(refusal) => {
-                drop(rule);
+                rule.discard();
                 refuse(refusal)
             }
         }
@@ -482,7 +482,7 @@ impl<'z, R: Rng> Daemon<'z, R> {
                 },
             ),
             Err(refusal) => {
-                drop(edit);
+                edit.discard();
                 refuse(refusal)
             }
         }

@@ -28,3 +28,12 @@ pub struct Daemon<'z, R: Rng> {
     ghost room: { 10 * length table.standings + 128 ≤ report.entries.room },
     ghost handed_out: { hints.messages ≡ [] },
 }
+
+impl<'z, R: Rng + Drop> Daemon<'z, R> {
+    /// Drops it. A crate that calls this need not prove how its parts are dropped.
+    pub fn discard(self) {
+        self.policy.discard();
+        self.table.discard();
+        self.report.discard();
+    }
+}

@@ -52,7 +52,7 @@ impl FolderListed {
             (self.new ≡ one_listed (record { mark = Mark.Folder; rule = rule }) self.old) }
     {
         let Some(list) = &mut self.list else {
-            drop(rule);
+            rule.discard();
             return Ok(());
         };
         if list.len() < MAX_RULES {
@@ -60,8 +60,10 @@ impl FolderListed {
             stay_readable(&rule);
             return append(list, rule, Mark::Folder);
         }
-        drop(rule);
-        drop(self.list.take());
+        rule.discard();
+        if let Some(list) = self.list.take() {
+            list.discard();
+        }
         Ok(())
     }
 
@@ -131,7 +133,9 @@ fn list_files(alloc: Global, files: &[FolderFile]) -> Result<FolderListed, Start
         match read_lines(alloc, &mut listed, files[file].text.bytes()) {
             Ok(()) => {}
             Err(fault) => {
-                drop(listed);
+                if let Some(list) = listed.list {
+                    list.discard();
+                }
                 return Err(fault_in(file as u64, fault));
             }
         }

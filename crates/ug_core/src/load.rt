@@ -33,7 +33,9 @@ pub fn load_rules<D: RuleDisk>(
             Ok((store, rules))
         }
         Err(fault) => {
-            drop(folder);
+            if let Some(folder) = folder {
+                folder.discard();
+            }
             Err(fault.into())
         }
     }

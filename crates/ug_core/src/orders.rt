@@ -195,7 +195,7 @@ impl<'z, R: Rng> Daemon<'z, R> {
         let stored = self.save_change(alloc, disk, &change);
         self.note_stored(stored, panel);
         match stored.refusal() {
-            Some(_) => drop(change),
+            Some(_) => change.discard(),
             None => self.put_in_force(change, panel),
         }
         stored
@@ -277,7 +277,9 @@ impl<'z, R: Rng> Daemon<'z, R> {
             self.old panel.old self.new panel.new }
     {
         self.note(Entry::Reply(answer_of(&reply)), panel);
-        drop(replace(&mut self.report.reply, Some(reply)));
+        if let Some(earlier) = replace(&mut self.report.reply, Some(reply)) {
+            earlier.discard();
+        }
     }
 
     // An order is answered, stage by stage.

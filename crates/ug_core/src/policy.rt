@@ -86,6 +86,13 @@ fn judge<R: Rng>(
     }
 }
 
+impl<'z, R: Rng + Drop> Policy<'z, R> {
+    /// Drops it, as `KeptRules::discard`.
+    pub fn discard(self) {
+        self.rules.discard();
+    }
+}
+
 impl<'z, R: Rng> Policy<'z, R> {
     /// These settings and rules, with the clock of that zone and the words of that generator.
     pub fn new(classes: Classes, list: RuleList, zone: TimeZone<'z>, rng: R) -> Policy<'z, R>

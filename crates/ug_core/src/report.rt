@@ -12,3 +12,19 @@ pub struct Report {
     /// Whether the event's order asked for notices, and was answered that it gets them.
     pub watch: bool,
 }
+
+impl Report {
+    /// Drops it, as `Reply::discard`.
+    pub fn discard(self) {
+        let Report {
+            event: _,
+            entries,
+            reply,
+            watch: _,
+        } = self;
+        drop(entries);
+        if let Some(reply) = reply {
+            reply.discard();
+        }
+    }
+}

@@ -34,7 +34,7 @@ pub fn append(list: &mut RuleList, rule: Rule, mark: Mark) -> Result<(), NoMemor
             Ok(())
         }
         Err(error) => {
-            drop(rule);
+            rule.discard();
             Err(error)
         }
     }
@@ -71,14 +71,16 @@ impl RulesListed {
             (self.new ≡ one_listed (record { mark = Mark.File; rule = rule }) self.old) }
     {
         let Some(list) = &mut self.list else {
-            drop(rule);
+            rule.discard();
             return Ok(());
         };
         if list.len() < MAX_RULES {
             return append(list, rule, Mark::File);
         }
-        drop(rule);
-        drop(self.list.take());
+        rule.discard();
+        if let Some(list) = self.list.take() {
+            list.discard();
+        }
         Ok(())
     }
 
@@ -134,7 +136,9 @@ fn list_rules(
     match read {
         Ok(()) => listed.into_list().ok_or(StartFault::TooMany),
         Err(fault) => {
-            drop(listed);
+            if let Some(list) = listed.list {
+                list.discard();
+            }
             Err(fault.into())
         }
     }
@@ -164,7 +168,7 @@ pub fn rules_of_text(
             Ok(list)
         }
         Err(fault) => {
-            drop(list);
+            list.discard();
             Err(fault.into())
         }
     }

@@ -21,7 +21,7 @@ use rand_core::Rng;
 use std::alloc::Global;
 use ug_acl::Acl;
 use ug_audit::Entries;
-use ug_conf::{FolderFile, Settings};
+use ug_conf::{FolderFile, Settings, discard_files};
 use ug_kernel::Write;
 use ug_policy::RuleList;
 use ug_store::{RuleDisk, Store};
@@ -63,7 +63,7 @@ impl<'z, R: Rng + Drop> Beside<'z, R> {
         let mut entries = Entries::new(alloc);
         if entries.reserve(ROOM).is_err() {
             drop(entries);
-            drop(loaded);
+            loaded.1.discard();
             drop(self);
             return Err(StartFault::Memory);
         }
@@ -121,10 +121,10 @@ impl<'z, R: Rng + Drop> Daemon<'z, R> {
             zone,
             first,
         };
-        drop(settings);
+        settings.discard();
         match list_folder(alloc, folder.as_slice()) {
             Ok(listed) => {
-                drop(folder);
+                discard_files(folder);
                 match load_rules(alloc, listed, disk) {
                     Ok(loaded) => beside.start(alloc, loaded),
                     Err(fault) => {
@@ -134,7 +134,7 @@ impl<'z, R: Rng + Drop> Daemon<'z, R> {
                 }
             }
             Err(fault) => {
-                drop(folder);
+                discard_files(folder);
                 drop(beside);
                 Err(fault)
             }

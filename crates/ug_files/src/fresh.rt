@@ -28,17 +28,13 @@ pub struct Fresh<F> {
     places: Places,
 }
 
-fn sync_folder<R: Files>(rt: &R, folder: &str) -> Result<(), FileFault> {
-    let folder = plain(fs::open(rt, folder))?;
-    plain(folder.sync_all())
-}
-
 impl<F> Fresh<F> {
     /// Puts the file in the other's place, and makes that durable.
     pub fn swap<R: Files>(&self, rt: &R) -> Result<(), FileFault> {
         let places = &self.places;
         plain(fs::rename(rt, places.path.as_str(), places.target.as_str()))?;
-        sync_folder(rt, places.folder.as_str())
+        let folder = plain(fs::open(rt, places.folder.as_str()))?;
+        plain(folder.sync_all())
     }
 }
 
@@ -46,14 +42,6 @@ impl<F: OpenFile> Fresh<F> {
     /// Makes the file's bytes durable, and its owner and mode.
     pub fn sync(&self) -> Result<(), FileFault> {
         plain(self.file.sync_all())
-    }
-}
-
-// Removes what an earlier run left at the path.
-fn remove_old<R: Files>(rt: &R, path: &str) -> Result<(), FileFault> {
-    match plain(fs::remove_file(rt, path)) {
-        Err(FileFault::Missing) => Ok(()),
-        removed => removed,
     }
 }
 
@@ -96,21 +84,24 @@ fn places_of(alloc: Global, target: String) -> Result<Places, FileFault> {
     })
 }
 
+// Makes a file at the path, from which it removes what an earlier run left.
 fn create<R: Files>(rt: &R, path: &str) -> Result<R::File, FileFault> {
-    plain(
-        OpenOptions::new()
-            .write(true)
-            .create_new(true)
-            .mode(0o600)
-            .open(rt, path),
-    )
+    match plain(fs::remove_file(rt, path)) {
+        Ok(()) | Err(FileFault::Missing) => plain(
+            OpenOptions::new()
+                .write(true)
+                .create_new(true)
+                .mode(0o600)
+                .open(rt, path),
+        ),
+        Err(fault) => Err(fault),
+    }
 }
 
 fn make_at<R: Files>(rt: &R, places: &Places, bytes: &[u8]) -> Result<R::File, FileFault>
 where
     R::File: AsRawFd,
 {
-    remove_old(rt, places.path.as_str())?;
     let mut file = create(rt, places.path.as_str())?;
     take_over(rt, &file, places.target.as_str())?;
     plain(file.write_all(bytes))?;

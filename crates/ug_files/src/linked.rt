@@ -16,14 +16,6 @@ pub fn folder_of(path: &str) -> &str {
     }
 }
 
-fn is_link<R: Files>(rt: &R, path: &str) -> Result<bool, FileFault> {
-    match plain(fs::symlink_metadata(rt, path)) {
-        Ok(metadata) => Ok(metadata.is_symlink()),
-        Err(FileFault::Missing) => Ok(false),
-        Err(fault) => Err(fault),
-    }
-}
-
 /// The path that a link in that folder has, where it leads to the target.
 fn whole_path(alloc: Global, folder: &str, target: &str) -> Result<String, AllocError> {
     if target.starts_with('/') {
@@ -34,8 +26,10 @@ fn whole_path(alloc: Global, folder: &str, target: &str) -> Result<String, Alloc
 
 /// Where the link at a path leads, or None where no link is there.
 fn follow<R: Files>(rt: &R, alloc: Global, path: &str) -> Result<Option<String>, FileFault> {
-    if !is_link(rt, path)? {
-        return Ok(None);
+    match plain(fs::symlink_metadata(rt, path)) {
+        Ok(metadata) if metadata.is_symlink() => {}
+        Ok(_) | Err(FileFault::Missing) => return Ok(None),
+        Err(fault) => return Err(fault),
     }
     let target = plain(rt.read_link(alloc, path))?;
     let whole = whole_path(alloc, folder_of(path), target.path_text())?;

@@ -43,24 +43,17 @@ pub fn tell_failed(alloc: Global, what: &str, path: &str, error: &io::Error) {
     }
 }
 
-// The text has a slash at its end, or is empty where the folder is the working one.
-fn metadata_of_folder<R: Files>(
-    rt: &R,
-    alloc: Global,
-    folder: &str,
-) -> Result<Metadata, FileFault> {
-    let path = [folder, "."].concat(alloc)?;
-    plain(fs::metadata(rt, path.as_str()))
-}
-
-// Whether nobody else can put another file into the folder.
+// Whether nobody else can put another file into the folder. Its text has a slash at its end, or is empty where it is the working one.
 fn check_folder<R: Files>(rt: &R, alloc: Global, folder: &str) -> Result<(), FileFault> {
-    let metadata = metadata_of_folder(rt, alloc, folder)?;
-    if is_safe_folder(&metadata) {
-        return Ok(());
+    let path = [folder, "."].concat(alloc)?;
+    match plain(fs::metadata(rt, path.as_str())) {
+        Ok(metadata) if is_safe_folder(&metadata) => Ok(()),
+        Ok(metadata) => {
+            tell_unsafe(alloc, folder, &metadata);
+            Err(FileFault::Failed)
+        }
+        Err(fault) => Err(fault),
     }
-    tell_unsafe(alloc, folder, &metadata);
-    Err(FileFault::Failed)
 }
 
 // Whether the file stands at the path.

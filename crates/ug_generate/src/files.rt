@@ -108,11 +108,13 @@ pub fn judged_in(alloc: Global, devices: &[Device], device: &Device) -> Result<J
 {
     let attrs = own_files(alloc, device)?;
     let Ok(parent) = parent_files(alloc, devices, device.parent) else {
-        drop(attrs);
+        attrs.discard();
         return Err(NoMemory);
     };
     let judged = record_of(alloc, &device.name, &attrs, parent.as_ref());
-    drop(attrs);
-    drop(parent);
+    attrs.discard();
+    if let Some(parent) = parent {
+        parent.discard();
+    }
     judged
 }

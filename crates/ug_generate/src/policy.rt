@@ -49,7 +49,7 @@ fn push_rule_at(
         Some(device) => {
             let judged = judged_in(alloc, devices, device)?;
             let pushed = push_rule(alloc, rules, &judged, with_port);
-            drop(judged);
+            judged.discard();
             pushed
         }
         None => Ok(()),

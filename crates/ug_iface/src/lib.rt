@@ -15,5 +15,5 @@ pub use ifaces::Ifaces;
 pub use interface::Interface;
 pub use laws::{iface_lines_law, iface_order_law, iface_rules_law};
 pub use name::IfaceName;
-pub use rules::{IfaceRule, parse_iface_rule};
+pub use rules::{IfaceRule, discard_iface_rules, parse_iface_rule, push_iface_rule};
 pub use settle::{IfaceEntry, Passed, settle_ifaces};

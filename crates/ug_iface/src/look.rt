@@ -11,7 +11,7 @@ use ug_kernel::{Held, Probe};
 use ug_types::Triple;
 
 /// What was found of an interface. Its file is closed on each answer but `Here`.
-#[derive(Clone, Copy, PartialEq, Eq)]
+#[derive(Clone, Copy)]
 pub enum Look {
     /// It is of the held device: its open file, its type, and its value of `authorized`.
     Here {

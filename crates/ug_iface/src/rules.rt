@@ -1,13 +1,13 @@
 // Rules that switch off interfaces.
-ghost use Rattle.std.specs.Prelude.{◌≡◌, IfOk};
+ghost use Rattle.std.specs.Prelude.{◌≡◌, ◌++◌, ◌∷◌, [], IfOk, OnOk};
 ghost use Rattle.ug_iface.specs.Rules as rules;
-ghost use Rattle.ug_iface.specs.Rules.{blanked, lifted, GivesLine};
-ghost use Rattle.ug_rule.specs.Tokens.{word_of, tokens_read};
+ghost use Rattle.ug_iface.specs.Rules.{blanked, GivesLine};
+ghost use Rattle.ug_rule.specs.Tokens.{word_of};
 
 use std::alloc::Global;
 use ug_lex::{LexFault, Token, TokenKind, tokens};
 use ug_rule::{RuleFault, parse_query};
-use ug_types::{Iface, List, NoMemory, Query};
+use ug_types::{Iface, NoMemory, Query, is_word};
 use ug_words::interface;
 
 /// The interfaces that a rule switches off: those of that type, of devices that the query matches.
@@ -15,6 +15,34 @@ use ug_words::interface;
 pub struct IfaceRule {
     pub iface: Iface,
     pub query: Query,
+}
+
+impl IfaceRule {
+    /// Drops it. A crate that calls this need not prove how its parts are dropped.
+    pub fn discard(self) {
+        self.query.discard();
+    }
+}
+
+/// Appends a rule. Where memory is short, the rule is dropped.
+pub fn push_iface_rule(rules: &mut Vec<IfaceRule>, rule: IfaceRule) -> Result<(), NoMemory>
+    ensures { OnOk result (rules.new.items ≡ rules.old.items ++ rule ∷ []) }
+{
+    match rules.reserve(1) {
+        Ok(()) => {
+            rules.push_reserved(rule);
+            Ok(())
+        }
+        Err(_) => {
+            rule.discard();
+            Err(NoMemory)
+        }
+    }
+}
+
+/// Drops rules, as `IfaceRule::discard`.
+pub fn discard_iface_rules(rules: Vec<IfaceRule>) {
+    drop(rules);
 }
 
 // The numbers of kinds of faults.
@@ -35,17 +63,8 @@ const NO_OFF: u8 = 13;
 pub fn parse_iface_rule(alloc: Global, line: &[u8]) -> Result<IfaceRule, RuleFault>
     ensures exact { GivesLine result (rules.iface_rule_read line.now) }
 {
-    match read(alloc, line) {
-        Ok(tokens) => iface_rule(alloc, line, tokens.as_slice()),
-        Err(fault) => Err(fault),
-    }
-}
-
-fn read(alloc: Global, line: &[u8]) -> Result<List<Token>, RuleFault>
-    ensures { GivesLine result (lifted (tokens_read line.now)) }
-{
     match tokens(alloc, line) {
-        Ok(tokens) => Ok(tokens),
+        Ok(tokens) => iface_rule(alloc, line, tokens.as_slice()),
         Err(LexFault::BadEscape(place)) => Err(RuleFault::Bad {
             kind: BAD_ESCAPE,
             place,
@@ -82,7 +101,7 @@ fn iface_rule(alloc: Global, line: &[u8], tokens: &[Token]) -> Result<IfaceRule,
 {
     match tokens {
         [first, behind @ ..] => {
-            if word(line, first) != b"off".as_slice() {
+            if !is_word(word(line, first), b"off") {
                 return Err(RuleFault::Bad {
                     kind: NO_OFF,
                     place: first.start as u64,

@@ -4,7 +4,7 @@ ghost use Rattle.std.specs.List.Sorted.{IsPermutation, IsSorted};
 ghost use Rattle.ug_match.specs.Covers.{covers_interface, covers_number};
 ghost use Rattle.ug_iface.specs.Counting.{CountsFaults};
 ghost use Rattle.ug_iface.specs.Laws.{IsComplete, IsPass};
-ghost use Rattle.ug_iface.specs.Named.{is_named_off, rule_names};
+ghost use Rattle.ug_iface.specs.Named.{is_named_off};
 ghost use Rattle.ug_iface.specs.Settle.{aim_in, aim_of, beginning, noted_off, settling_iface, switching, walking, HasEntryRoom, HasRoomForNames, RunsPass};
 ghost use Rattle.ug_iface.specs.Tree.{RunsIfaces};
 
@@ -84,16 +84,15 @@ fn covers(iface: &Iface, triple: Triple) -> bool
         && is_given_as(iface.protocol, triple.protocol)
 }
 
-fn rule_names(rule: &IfaceRule, device: &DeviceRecord, triple: Triple) -> bool
-    ensures { result ≡ rule_names device.now triple rule.now }
-{
-    matches(&rule.query, device) && covers(&rule.iface, triple)
-}
-
 fn is_named_off(rules: &[IfaceRule], device: &DeviceRecord, triple: Triple) -> bool
     ensures { result ≡ is_named_off rules.now device.now triple }
 {
-    rules.iter().any(|rule| rule_names(rule, device, triple))
+    for rule in rules {
+        if matches(&rule.query, device) && covers(&rule.iface, triple) {
+            return true;
+        }
+    }
+    false
 }
 
 /// What a write was answered, and its failure.
@@ -141,7 +140,6 @@ fn switch_off<Y: Ifaces>(
 }
 
 /// Looks at an interface and switches it off where a rule names it. The answer is whether the device is still there.
-#[tactic(auto, using(crate::proofs::Runs::runs_then))]
 fn settle<Y: Ifaces>(
     alloc: Global,
     files: &mut Y,
@@ -186,7 +184,6 @@ fn settle<Y: Ifaces>(
 }
 
 /// Settles each interface in order, as long as the device is there.
-#[tactic(auto, using(crate::proofs::Runs::runs_then))]
 fn walk<Y: Ifaces>(
     alloc: Global,
     files: &mut Y,

@@ -25,18 +25,6 @@ pub struct MemLink {
     faults: u64,
 }
 
-/// What a receive gave, with a copy of its bytes.
-fn receipt(alloc: Global, taken: Taken, buffer: &[u8]) -> Result<Receipt, NoMemory>
-    requires { Fits (length buffer.now) taken }
-    ensures { IfOk result (λ receipt. receipt ≡ receipt_of taken buffer.now) }
-{
-    match taken {
-        Taken::Bytes(n) => Ok(Receipt::Bytes(Text::of(alloc, &buffer[..n])?)),
-        Taken::End => Ok(Receipt::End),
-        Taken::Failed => Ok(Receipt::Failed),
-    }
-}
-
 fn dial_call(alloc: Global, path: &[u8], dialled: Dialled) -> Result<LinkCall, NoMemory>
     ensures { IfOk result (λ made. made ≡ call.Dial path.now dialled) }
 {
@@ -49,11 +37,17 @@ fn send_call(alloc: Global, bytes: &[u8], put: Put) -> Result<LinkCall, NoMemory
     Ok(LinkCall::Send(Text::of(alloc, bytes)?, put))
 }
 
+/// A receive, with a copy of the bytes that it gave.
 fn receive_call(alloc: Global, taken: Taken, buffer: &[u8]) -> Result<LinkCall, NoMemory>
     requires { Fits (length buffer.now) taken }
     ensures { IfOk result (λ made. made ≡ call.Receive (receipt_of taken buffer.now)) }
 {
-    Ok(LinkCall::Receive(receipt(alloc, taken, buffer)?))
+    let receipt = match taken {
+        Taken::Bytes(n) => Receipt::Bytes(Text::of(alloc, &buffer[..n])?),
+        Taken::End => Receipt::End,
+        Taken::Failed => Receipt::Failed,
+    };
+    Ok(LinkCall::Receive(receipt))
 }
 
 /// Keeps a call behind those so far, while calls are told. Where memory is short for it they are told no longer.

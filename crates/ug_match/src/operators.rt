@@ -10,41 +10,70 @@ use ug_types::{Op, Values};
 fn covers_some<T: Covers<D>, D>(rule: &T, device: &[D]) -> bool
     ensures { result ≡ matches_some T.covers device.now rule.now }
 {
-    device.iter().any(|value| rule.covers(value))
+    for value in device {
+        if rule.covers(value) {
+            return true;
+        }
+    }
+    false
 }
 
 fn is_covered<T: Covers<D>, D>(rules: &[T], value: &D) -> bool
     ensures { result ≡ is_matched T.covers rules.now value.now }
 {
-    rules.iter().any(|rule| rule.covers(value))
+    for rule in rules {
+        if rule.covers(value) {
+            return true;
+        }
+    }
+    false
 }
 
 fn each_covers<T: Covers<D>, D>(rules: &[T], device: &[D]) -> bool
     ensures { result ≡ list_all (matches_some T.covers device.now) rules.now }
 {
-    rules.iter().all(|rule| covers_some(rule, device))
+    for rule in rules {
+        if !covers_some(rule, device) {
+            return false;
+        }
+    }
+    true
 }
 
 fn one_covers<T: Covers<D>, D>(rules: &[T], device: &[D]) -> bool
     ensures { result ≡ list_any (matches_some T.covers device.now) rules.now }
 {
-    rules.iter().any(|rule| covers_some(rule, device))
+    for rule in rules {
+        if covers_some(rule, device) {
+            return true;
+        }
+    }
+    false
 }
 
 fn each_is_covered<T: Covers<D>, D>(rules: &[T], device: &[D]) -> bool
     ensures { result ≡ list_all (is_matched T.covers rules.now) device.now }
 {
-    device.iter().all(|value| is_covered(rules, value))
+    for value in device {
+        if !is_covered(rules, value) {
+            return false;
+        }
+    }
+    true
 }
 
 fn covers_in_order<T: Covers<D>, D>(rules: &[T], device: &[D]) -> bool
     ensures { result ≡ in_order T.covers rules.now device.now }
 {
-    rules.len() == device.len()
-        && rules
-            .iter()
-            .zip(device)
-            .all(|(rule, value)| rule.covers(value))
+    if rules.len() != device.len() {
+        return false;
+    }
+    for i in 0..rules.len() {
+        if !rules[i].covers(&device[i]) {
+            return false;
+        }
+    }
+    true
 }
 
 /// Whether a set of values and its operator hold of a device's values.

@@ -62,6 +62,9 @@ impl RuleList {
         }
     }
 
+    /// Drops it. A crate that calls this need not prove how its parts are dropped.
+    pub fn discard(self) {}
+
     /// The number of rules.
     pub fn len(&self) -> usize
         ensures value { result ≡ length self.now.entries }

@@ -18,5 +18,6 @@ pub mod Readings
 pub mod RuleAgain
 pub mod RuleTexts
 pub mod Strings
+pub mod TextBytes
 pub mod Times
 pub mod ValuesAgain

@@ -47,16 +47,15 @@ malformed_on_line verdict kind place name k p b =
     cut_line (joined ws) all.pieces (joined_cut ws all.pieces all.cut)
 
 -- the words, as they are put one behind another
-pub words_put : (verdict : Target) (kind place : ℕ) (name : List ℕ) (w0 w1 w2 w3 w4 w5 w6 : List (List ℕ)) (k p s : List ℕ)
-    → w0 ≡ [] → w1 ≡ w0 ++ target_word verdict ∷ [] → w2 ≡ w1 ++ codes "malformed" ∷ [] → k ≡ decimal kind → w3 ≡ w2 ++ k ∷ [] → p ≡ decimal place → w4 ≡ w3 ++ p ∷ []
+pub words_put : (verdict : Target) (kind place : ℕ) (name : List ℕ) (w0 w1 w2 w3 w4 w5 w6 : List (List ℕ)) (s : List ℕ)
+    → w0 ≡ [] → w1 ≡ w0 ++ target_word verdict ∷ [] → w2 ≡ w1 ++ codes "malformed" ∷ [] → w3 ≡ w2 ++ decimal kind ∷ [] → w4 ≡ w3 ++ decimal place ∷ []
     → w5 ≡ w4 ++ codes "via-port" ∷ [] → s ≡ string_text name → w6 ≡ w5 ++ s ∷ [] → joined w6 ≡ malformed_text verdict kind place name
 unfolding malformed_text
-words_put verdict kind place name w0 w1 w2 w3 w4 w5 w6 k p s e0 e1 e2 ek e3 ep e4 e5 es e6 =
-    let put : List (List ℕ) → List ℕ → List (List ℕ) = λ words word. words ++ word ∷ [] in
-    let after : (a b : List (List ℕ)) (x y : List ℕ) → a ≡ b → x ≡ y → put a x ≡ put b y = λ a b x y e f. ap (λ (w : List (List ℕ)). put w x) e ∙ ap (put b) f in
-    let f1 : w1 ≡ target_word verdict ∷ [] = e1 ∙ after w0 [] (target_word verdict) (target_word verdict) e0 refl in
-    let f2 : w2 ≡ target_word verdict ∷ codes "malformed" ∷ [] = e2 ∙ ap (λ (w : List (List ℕ)). put w (codes "malformed")) f1 in
-    let f3 : w3 ≡ target_word verdict ∷ codes "malformed" ∷ decimal kind ∷ [] = e3 ∙ after w2 (target_word verdict ∷ codes "malformed" ∷ []) k (decimal kind) f2 ek in
-    let f4 : w4 ≡ target_word verdict ∷ codes "malformed" ∷ decimal kind ∷ decimal place ∷ [] = e4 ∙ after w3 (target_word verdict ∷ codes "malformed" ∷ decimal kind ∷ []) p (decimal place) f3 ep in
-    let f5 : w5 ≡ target_word verdict ∷ codes "malformed" ∷ decimal kind ∷ decimal place ∷ codes "via-port" ∷ [] = e5 ∙ ap (λ (w : List (List ℕ)). put w (codes "via-port")) f4 in
-    ap joined (e6 ∙ after w5 (target_word verdict ∷ codes "malformed" ∷ decimal kind ∷ decimal place ∷ codes "via-port" ∷ []) s (string_text name) f5 es)
+words_put verdict kind place name w0 w1 w2 w3 w4 w5 w6 s e0 e1 e2 e3 e4 e5 es e6 =
+    let put : List ℕ → List (List ℕ) → List (List ℕ) = λ word words. words ++ word ∷ [] in
+    let f1 : w1 ≡ target_word verdict ∷ [] = e1 ∙ ap (put (target_word verdict)) e0 in
+    let f2 : w2 ≡ target_word verdict ∷ codes "malformed" ∷ [] = e2 ∙ ap (put (codes "malformed")) f1 in
+    let f3 : w3 ≡ target_word verdict ∷ codes "malformed" ∷ decimal kind ∷ [] = e3 ∙ ap (put (decimal kind)) f2 in
+    let f4 : w4 ≡ target_word verdict ∷ codes "malformed" ∷ decimal kind ∷ decimal place ∷ [] = e4 ∙ ap (put (decimal place)) f3 in
+    let f5 : w5 ≡ target_word verdict ∷ codes "malformed" ∷ decimal kind ∷ decimal place ∷ codes "via-port" ∷ [] = e5 ∙ ap (put (codes "via-port")) f4 in
+    ap joined (e6 ∙ ap (put s) f5 ∙ ap (λ (word : List ℕ). target_word verdict ∷ codes "malformed" ∷ decimal kind ∷ decimal place ∷ codes "via-port" ∷ word ∷ []) es)

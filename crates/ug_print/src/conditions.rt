@@ -102,7 +102,6 @@ fn put_past(out: &mut Vec<u8>, word: &[u8], past: Option<u32>) -> Result<(), NoM
     }
 }
 
-#[tactic(auto, using(crate::proofs::Fractions::one_more, crate::proofs::Fractions::nothing_left, crate::proofs::Fractions::all_written))]
 fn put_billionths(out: &mut Vec<u8>, n: u64) -> Result<(), NoMemory>
     requires { n < 1000000000 }
     ensures { OnOk result (out.new.items ≡ out.old.items ++ billionths 9 n) }

@@ -1,5 +1,5 @@
 // Lines of a list of devices.
-ghost use Rattle.std.specs.Prelude.{◌≡◌, [], IfOk, Ok, OnOk, decimal, true};
+ghost use Rattle.std.specs.Prelude.{◌≡◌, ◌++◌, ◌∷◌, [], IfOk, Ok, OnOk, decimal, true};
 ghost use Rattle.ug_rule.specs.Rules.{rule_read};
 ghost use Rattle.ug_lines.specs.Splitting.{IsLine};
 ghost use Rattle.ug_print.specs.DeviceLines.{malformed_text};
@@ -23,14 +23,16 @@ pub fn device_line(alloc: Global, device: &DeviceRecord, verdict: Target) -> Res
     ensures one_line { IfOk result (λ text. IsLine text) }
 {
     let rule = generated_rule(alloc, device, verdict, true)?;
-    print_rule(alloc, &rule)
+    let line = print_rule(alloc, &rule);
+    rule.discard();
+    line
 }
 
-fn print_decimal(alloc: Global, n: u64) -> Result<Text, NoMemory>
-    ensures { IfOk result (λ text. text ≡ decimal n) }
+fn put_decimal(alloc: Global, words: &mut List<Text>, n: u64) -> Result<(), NoMemory>
+    ensures { OnOk result (words.new ≡ words.old ++ decimal n ∷ []) }
 {
     let mut buffer = Buffer::new();
-    Text::of(alloc, buffer.format(n).as_bytes())
+    put_word(alloc, words, buffer.format(n).as_bytes())
 }
 
 // Puts the words of the line of a device whose descriptors are malformed.
@@ -48,11 +50,10 @@ fn put_malformed(
 {
     put_target(alloc, words, verdict)?;
     put_word(alloc, words, b"malformed")?;
-    words.push(print_decimal(alloc, kind as u64)?)?;
-    words.push(print_decimal(alloc, place)?)?;
+    put_decimal(alloc, words, kind as u64)?;
+    put_decimal(alloc, words, place)?;
     put_word(alloc, words, b"via-port")?;
-    words.push(print_string(alloc, name.bytes())?)?;
-    Ok(())
+    words.push(print_string(alloc, name.bytes())?)
 }
 
 /// The line of a device whose descriptors are malformed, with the verdict on it: the kind and the place of the first

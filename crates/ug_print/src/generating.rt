@@ -166,7 +166,7 @@ pub fn generated_rule(
     match set_attributes(alloc, device, with_port, &mut rule.query) {
         Ok(()) => Ok(rule),
         Err(_) => {
-            drop(rule);
+            rule.discard();
             Err(NoMemory)
         }
     }

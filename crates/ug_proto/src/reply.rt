@@ -10,6 +10,11 @@ pub enum Reply {
     Refused(Refusal),
 }
 
+impl Reply {
+    /// Drops it. A crate that calls this need not prove how its parts are dropped.
+    pub fn discard(self) {}
+}
+
 /// Why a text was not read.
 #[derive(Clone, Copy)]
 pub enum ReplyFault {

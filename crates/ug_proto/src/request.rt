@@ -39,6 +39,11 @@ pub enum Request {
     Watch,
 }
 
+impl Request {
+    /// Drops it. A crate that calls this need not prove how its parts are dropped.
+    pub fn discard(self) {}
+}
+
 /// Why a line wasn't read.
 #[derive(Clone, Copy)]
 pub enum RequestFault {

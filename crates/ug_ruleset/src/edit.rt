@@ -21,3 +21,18 @@ pub enum Edit {
         rule: Rule,
     },
 }
+
+impl Edit {
+    /// Drops it. A crate that calls this need not prove how its parts are dropped.
+    pub fn discard(self) {
+        match self {
+            Edit::Insert {
+                after: _,
+                rule,
+                mark: _,
+            } => rule.discard(),
+            Edit::Remove { id: _ } => {}
+            Edit::Retarget { id: _, rule } => rule.discard(),
+        }
+    }
+}

@@ -55,6 +55,11 @@ fn find_made(rules: &[RuleEntry], device: &DeviceRecord, with_port: bool) -> Opt
 }
 
 impl KeptRules {
+    /// Drops them, as `RuleList::discard`.
+    pub fn discard(self) {
+        self.list.discard();
+    }
+
     pub fn new(list: RuleList) -> KeptRules
         requires readable { All ReadsBack (rules_in list.entries) }
         requires saves { IsSaveable list.entries }
@@ -256,7 +261,7 @@ impl KeptRules {
             Edit::Remove { id } => self.remove(id),
             Edit::Retarget { id, rule } => {
                 self.retarget(id, &rule);
-                drop(rule);
+                rule.discard();
             }
         }
     }

@@ -84,6 +84,6 @@ pub fn generate_policy<S: Source, K: Sink>(
 {
     let mut generator = Generator::new();
     let status = run(alloc, input, out, &mut generator, kernel);
-    drop(generator);
+    generator.script.discard();
     status
 }

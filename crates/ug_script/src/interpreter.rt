@@ -41,6 +41,13 @@ impl Interpreter {
         Interpreter { running: None }
     }
 
+    /// Drops it. A crate that calls this need not prove how its parts are dropped.
+    pub fn discard(self) {
+        if let Some(running) = self.running {
+            running.discard();
+        }
+    }
+
     /// Whether the first line was taken.
     pub fn has_begun(&self) -> bool
         ensures { result ≡ has_begun (interpreter_state self.now) }
@@ -57,7 +64,9 @@ impl Interpreter {
     {
         match begin(alloc, line) {
             Ok(running) => {
-                drop(replace(&mut self.running, Some(running)));
+                if let Some(earlier) = replace(&mut self.running, Some(running)) {
+                    earlier.discard();
+                }
                 Ran::Done
             }
             Err(StepFault::Bad) => Ran::Bad,

@@ -16,6 +16,16 @@ pub enum Phase {
     Started(Session),
 }
 
+impl Phase {
+    /// Drops it, as `Session::discard`.
+    pub fn discard(self) {
+        match self {
+            Phase::Started(session) => session.discard(),
+            Phase::SettingUp | Phase::Unstarted => {}
+        }
+    }
+}
+
 /// What the setup lines gave, how far the script has come, and what is planned for calls of the disk in the next event.
 #[derive(Drop)]
 pub struct Running {
@@ -23,4 +33,12 @@ pub struct Running {
     pub phase: Phase,
     pub plan: Vec<Planned>,
     ghost session: { IsPhaseOf setup phase },
+}
+
+impl Running {
+    /// Drops it, as `Session::discard`.
+    pub fn discard(self) {
+        self.setup.discard();
+        self.phase.discard();
+    }
 }

@@ -163,7 +163,7 @@ impl Running {
         ensures { script_of self.new ≡ with_setup_closed (script_of self.old) }
     {
         if takes_setup(&self.phase) {
-            drop(replace(&mut self.phase, Phase::Unstarted));
+            replace(&mut self.phase, Phase::Unstarted).discard();
         }
     }
 
@@ -176,7 +176,7 @@ impl Running {
             (Some (script_of self.new), w) held held result }
     {
         if !takes_setup(&self.phase) {
-            drop(line);
+            line.discard();
             return Ran::Bad;
         }
         match self.setup.add(line) {
@@ -213,7 +213,7 @@ impl Running {
             Move::Plug(device) => self.carry_out(Move::Plug(device), kernel),
             Move::Unplug(name) => self.carry_out(Move::Unplug(name), kernel),
             Move::Iface(_) => {
-                drop(action);
+                action.discard();
                 self.close();
                 Ran::Done
             }
@@ -240,7 +240,7 @@ impl Running {
                 let setup = &self.setup;
                 let plan = &mut self.plan;
                 let ran = planned_event(alloc, setup, &mut session, plan, event, kernel);
-                drop(replace(&mut self.phase, Phase::Started(session)));
+                replace(&mut self.phase, Phase::Started(session)).discard();
                 ran
             }
             Err(RulesTextFault::TooLong) => Taken::TooLong,
@@ -264,7 +264,7 @@ impl Running {
             Ok(session) => {
                 let mut session = session;
                 let ran = restart_session(alloc, &self.setup, &mut session);
-                drop(replace(&mut self.phase, Phase::Started(session)));
+                replace(&mut self.phase, Phase::Started(session)).discard();
                 ran
             }
             Err(RulesTextFault::TooLong) => Ran::TooLong,
@@ -356,7 +356,7 @@ impl Running {
     {
         match step {
             Step::Skip => {
-                drop(step);
+                step.discard();
                 Taken::Silent
             }
             Step::Setup(line) => silently(self.set_up(line)),
@@ -364,11 +364,11 @@ impl Running {
             Step::Schedule(plan) => silently(self.schedule(plan, kernel)),
             Step::Event(event) => {
                 let taken = self.event(alloc, &event, kernel);
-                drop(event);
+                event.discard();
                 taken
             }
             Step::Restart => {
-                drop(step);
+                step.discard();
                 silently(self.restart(alloc))
             }
         }
@@ -397,13 +397,13 @@ impl Running {
     {
         match step {
             Step::Skip => {
-                drop(step);
+                step.discard();
                 Ran::Done
             }
             Step::Setup(line) => self.set_up(line),
             Step::Move(action) => self.move_devices(action, kernel),
             Step::Schedule(_) | Step::Event(_) | Step::Restart => {
-                drop(step);
+                step.discard();
                 self.close();
                 Ran::Done
             }

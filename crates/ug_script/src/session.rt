@@ -16,3 +16,11 @@ pub struct Session {
     ghost file: { StaysReadable before disk },
     ghost folder: { HasFolder before (daemon_of daemon) },
 }
+
+impl Session {
+    /// Drops it, as `Daemon::discard`.
+    pub fn discard(self) {
+        self.daemon.discard();
+        self.disk.discard();
+    }
+}

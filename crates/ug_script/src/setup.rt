@@ -11,7 +11,7 @@ use crate::rule_lines::RuleLines;
 use std::alloc::Global;
 use std::marker::Model;
 use ug_conf::{LineFault, SettingsReader};
-use ug_iface::IfaceRule;
+use ug_iface::{IfaceRule, discard_iface_rules, push_iface_rule};
 use ug_policy::MAX_RULES;
 use ug_steps::{AccessLine, FolderLine, SetupLine, StepFault, is_entry};
 use ug_types::{NoMemory, Rule};
@@ -27,6 +27,14 @@ pub struct Setup {
     pub seed: Option<[u8; 32]>,
     pub zone: Option<i32>,
     pub ifaces: Vec<IfaceRule>,
+}
+
+impl Setup {
+    /// Drops it. A crate that calls this need not prove how its parts are dropped.
+    pub fn discard(self) {
+        self.settings.discard();
+        discard_iface_rules(self.ifaces);
+    }
 }
 
 impl Model for Setup {
@@ -57,11 +65,21 @@ fn is_offset(seconds: i32) -> bool
     -86399 <= seconds && seconds <= 86399
 }
 
-fn add_item<T: Drop>(item: T, items: &mut Vec<T>) -> Result<(), StepFault>
+fn add_access_line(line: AccessLine, lines: &mut Vec<AccessLine>) -> Result<(), StepFault>
     ensures memory { IfErr result (λ fault. fault ≡ StepFault.Memory) }
-    ensures added { OnOk result (items.new.items ≡ items.old.items ++ item ∷ []) }
+    ensures added { OnOk result (lines.new.items ≡ lines.old.items ++ line ∷ []) }
 {
-    match items.push(item) {
+    match lines.push(line) {
+        Ok(()) => Ok(()),
+        Err(_) => Err(StepFault::Memory),
+    }
+}
+
+fn add_iface_rule(rule: IfaceRule, rules: &mut Vec<IfaceRule>) -> Result<(), StepFault>
+    ensures memory { IfErr result (λ fault. fault ≡ StepFault.Memory) }
+    ensures added { OnOk result (rules.new.items ≡ rules.old.items ++ rule ∷ []) }
+{
+    match push_iface_rule(rules, rule) {
         Ok(()) => Ok(()),
         Err(_) => Err(StepFault::Memory),
     }
@@ -92,15 +110,15 @@ impl Setup {
         match line {
             SetupLine::Rule(rule) => {
                 let added = self.add_rule(&rule);
-                drop(rule);
+                rule.discard();
                 added
             }
             SetupLine::Folder(line) => self.add_folder_line(&line),
             SetupLine::Conf(text) => self.add_setting(text.bytes()),
-            SetupLine::Access(line) => add_item(line, &mut self.access),
+            SetupLine::Access(line) => add_access_line(line, &mut self.access),
             SetupLine::Seed(seed) => self.add_seed(seed),
             SetupLine::Zone(offset) => self.add_zone(offset),
-            SetupLine::IfaceRule(rule) => add_item(rule, &mut self.ifaces),
+            SetupLine::IfaceRule(rule) => add_iface_rule(rule, &mut self.ifaces),
         }
     }
 

@@ -192,11 +192,11 @@ pub fn start_daemon(alloc: Global, setup: &Setup) -> Result<Session, RulesTextFa
             disk,
         }),
         Err(NoStart::TooLong) => {
-            drop(disk);
+            disk.discard();
             Err(RulesTextFault::TooLong)
         }
         Err(NoStart::Memory) => {
-            drop(disk);
+            disk.discard();
             Err(RulesTextFault::Memory)
         }
         Err(NoStart::BadRules) => unreachable!(),
@@ -219,7 +219,7 @@ pub fn restart_daemon(alloc: Global, setup: &Setup, session: &mut Session) -> Re
     let first = session.daemon.next_event();
     match start_on(alloc, setup, first, &mut session.disk) {
         Ok(daemon) => {
-            drop(replace(&mut session.daemon, daemon));
+            replace(&mut session.daemon, daemon).discard();
             Ok(())
         }
         Err(NoStart::Memory) => Err(NoMemory),

@@ -135,6 +135,6 @@ pub fn summarize<S: Source, K: Sink>(
 {
     let mut summarizer = Summarizer::new();
     let status = run(alloc, input, out, &mut summarizer, kernel);
-    drop(summarizer);
+    summarizer.script.discard();
     status
 }

@@ -61,11 +61,12 @@ fn serve_started<Y: Sysfs, D: RuleDisk, N: Links, W: Waiter, C: Clock>(
     ensures wait_failed { result ≡ 11 → Rose (N.faults links.old) (N.faults links.new)
         ⊎ Rose (W.faults waiter.old) (W.faults waiter.new) }
 {
-    match listen_for_all(alloc, first.principals.as_slice(), links) {
+    let Started { daemon, principals } = first;
+    match listen_for_all(alloc, principals.as_slice(), links) {
         Ok(()) => {
-            let mut daemon = first.daemon;
-            let mut server = Server::new(alloc, first.principals);
-            status_of(serve_turns(
+            let mut daemon = daemon;
+            let mut server = Server::new(alloc, principals);
+            let end = serve_turns(
                 alloc,
                 turns,
                 &mut daemon,
@@ -76,9 +77,16 @@ fn serve_started<Y: Sysfs, D: RuleDisk, N: Links, W: Waiter, C: Clock>(
                 waiter,
                 clock,
                 panel,
-            ))
+            );
+            daemon.discard();
+            drop(server);
+            status_of(end)
         }
-        Err(why) => why.status(),
+        Err(why) => {
+            daemon.discard();
+            drop(principals);
+            why.status()
+        }
     }
 }
 

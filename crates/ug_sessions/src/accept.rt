@@ -37,7 +37,13 @@ pub fn list_listeners(alloc: Global, principals: &[Principal]) -> Result<Vec<Lis
 pub fn count_open(sessions: &[Session]) -> usize
     ensures { result ≡ count_by is_open_session sessions.now }
 {
-    sessions.iter().filter(|session| session.is_open()).count()
+    let mut count = 0;
+    for session in sessions {
+        if session.is_open() {
+            count += 1;
+        }
+    }
+    count
 }
 
 /// Whether a wait named the listener.
@@ -145,9 +151,7 @@ pub fn accept_one<N: Links>(
         (accepting_one ready.now listener.old (sessions.old.items, turn.old))
         (listener.new, (sessions.new.items, turn.new)) links.new }
 {
-    if listener.owed {
-        accept_some(alloc, MAX_ACCEPTS, listener, sessions, links, turn);
-    } else if is_named_listener(ready, listener.number) {
+    if listener.owed || is_named_listener(ready, listener.number) {
         accept_some(alloc, MAX_ACCEPTS, listener, sessions, links, turn);
     }
 }

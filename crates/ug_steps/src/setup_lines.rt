@@ -49,7 +49,7 @@ fn check_rule(alloc: Global, line: &[u8]) -> Result<(), StepFault>
 {
     match parse_rule(alloc, line) {
         Ok(rule) => {
-            drop(rule);
+            rule.discard();
             Ok(())
         }
         Err(RuleFault::Bad { .. }) => Err(StepFault::Bad),

@@ -38,6 +38,20 @@ pub enum SetupLine {
     IfaceRule(IfaceRule),
 }
 
+impl SetupLine {
+    /// Drops it. A crate that calls this need not prove how its parts are dropped.
+    pub fn discard(self) {
+        match self {
+            SetupLine::Rule(rule) => rule.discard(),
+            SetupLine::Folder(line) => drop(line),
+            SetupLine::Conf(text) => drop(text),
+            SetupLine::Access(line) => drop(line),
+            SetupLine::Seed(_) | SetupLine::Zone(_) => {}
+            SetupLine::IfaceRule(rule) => rule.discard(),
+        }
+    }
+}
+
 /// What is to come at a call of the next event.
 #[derive(Drop)]
 pub enum Plan {
@@ -61,6 +75,19 @@ pub enum Step {
     Event(Event),
     /// A new daemon over the same disk and kernel.
     Restart,
+}
+
+impl Step {
+    /// Drops it, as `SetupLine::discard`.
+    pub fn discard(self) {
+        match self {
+            Step::Setup(line) => line.discard(),
+            Step::Move(action) => action.discard(),
+            Step::Schedule(Plan::Move(next)) => next.action.discard(),
+            Step::Event(event) => event.discard(),
+            Step::Schedule(Plan::Fail(_) | Plan::OnDisk(_)) | Step::Skip | Step::Restart => {}
+        }
+    }
 }
 
 /// Why a line gives no step, or may not stand there.

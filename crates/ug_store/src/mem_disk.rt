@@ -68,6 +68,9 @@ impl Model for MemDisk {
 }
 
 impl MemDisk {
+    /// Drops it. A crate that calls this need not prove how its parts are dropped.
+    pub fn discard(self) {}
+
     /// An empty rule file. It takes no memory.
     pub fn new(alloc: Global) -> MemDisk
         ensures { result ≡ world_at_first [] }

@@ -9,3 +9,4 @@ pub mod Kept
 pub mod Links
 pub mod Lives
 pub mod Lists
+pub mod Gets

@@ -44,6 +44,11 @@ pub enum Move {
     Iface(IfaceMove),
 }
 
+impl Move {
+    /// Drops it. A crate that calls this need not prove how its parts are dropped.
+    pub fn discard(self) {}
+}
+
 /// A move that is still to come.
 #[derive(Drop)]
 pub struct Scheduled {

@@ -111,6 +111,9 @@ impl SimKernel {
         }
     }
 
+    /// Drops it. A crate that calls this need not prove how its parts are dropped.
+    pub fn discard(self) {}
+
     /// A device is born. Nothing happens if its name is live, if its parent isn't, or if 65,536 devices are.
     #[tactic(auto, using(crate::proofs::Plugs::plugs_le))]
     pub fn plug(&mut self, device: NewDevice) -> Result<(), NoMemory>

@@ -32,3 +32,4 @@ pub mod Above
 pub mod Asked
 pub mod Brought
 pub mod Watched
+pub mod Admitted

@@ -1,14 +1,16 @@
 // Brings a device to its verdict.
-ghost use Rattle.std.specs.Prelude.{◌≡◌, ◌≤◌, ◌+◌, Some, None};
+ghost use Rattle.std.specs.Prelude.{◌≡◌, ◌≤◌, ◌+◌, ◌&&◌, List, Some, None};
 ghost use Rattle.ug_types.specs.Names.{parent_of};
 ghost use Rattle.ug_kernel.specs.declared.control.Write.{Write};
 ghost use Rattle.ug_kernel.specs.declared.control.Control.TheVariants.{Default};
 ghost use Rattle.ug_kernel.specs.declared.control.Write.TheVariants.{Remove};
 ghost use Rattle.ug_kernel.specs.Tree.{Return, Runs};
 ghost use Rattle.ug_audit.specs.Journal.{Notes, noted_in};
+ghost use Rattle.ug_audit.specs.declared.entry.Entry.{Entry};
 ghost use Rattle.ug_table.specs.declared.standing.Settled.TheVariants.{Stands};
 ghost use Rattle.ug_table.specs.Done.{control_of};
-ghost use Rattle.ug_table.specs.Bring.{wants, write_of, is_reject, is_to_go, valuing, to_once, after_hold, after_write, once, writing, bringing, default_write, default_due, defaulted_known, treating};
+ghost use Rattle.ug_table.specs.Bring.{wants, write_of, is_reject, is_to_go, valuing, to_once, after_hold, after_write, close_gone, once, writing, bringing, default_write, default_due, treating};
+ghost use Rattle.ug_table.specs.Settle.{stands};
 
 use crate::standing::{Known, Settled};
 use std::alloc::Global;
@@ -48,11 +50,32 @@ pub fn is_reject(verdict: Target) -> bool
     }
 }
 
-// Whether a device is still to be removed.
-fn is_to_go(known: Known) -> bool
-    ensures { result ≡ is_to_go known }
+/// Whether the settling of a name ended so that its device has what its verdict wants.
+pub fn is_stands(settled: Settled) -> bool
+    ensures { result ≡ stands settled }
 {
-    is_reject(known.verdict) && !known.removed
+    match settled {
+        Settled::Stands => true,
+        _ => false,
+    }
+}
+
+// Whether a device is still to be removed, now that its value was written.
+fn is_to_go(known: Known, settled: Settled) -> bool
+    ensures { result ≡ (stands settled && is_to_go known) }
+{
+    is_stands(settled) && is_reject(known.verdict) && !known.removed
+}
+
+// Closes the held file of a device that was found gone.
+fn close_gone<Y: Sysfs>(sysfs: &mut Y, known: Known, settled: Settled)
+    ensures { (entries : List Entry) → Runs Y.gives sysfs.old
+        (close_gone known.held.0 entries settled) (settled, entries) sysfs.new }
+{
+    match settled {
+        Settled::Nobody => sysfs.close(known.held),
+        _ => {}
+    }
 }
 
 // Notes what became of a write, and how the settling goes on behind it.
@@ -242,31 +265,8 @@ fn default_due(hub_default: Option<Write>, name: &NodeName, known: Known) -> Opt
     }
 }
 
-// Brings a device whose default was just written to its verdict.
-fn bring_defaulted<Y: Sysfs>(
-    alloc: Global,
-    sysfs: &mut Y,
-    name: &NodeName,
-    known: Known,
-    on: bool,
-    out: &mut Journal,
-) -> Settled
-    requires { 5 ≤ (noted_in out.old).spare }
-    ensures runs { Runs Y.gives sysfs.old
-        (bringing name.now (defaulted_known known) on (noted_in out.old).entries)
-        (result, (noted_in out.new).entries) sysfs.new }
-    ensures journal { Notes (λ b. ⟦<dyn Auditor as Auditor>⟧ b.vtable) 5 out.old out.new }
-{
-    let known = Known {
-        defaulted: true,
-        ..known
-    };
-    bring(alloc, sysfs, name, known, on, out)
-}
-
 /// Makes all writes of a sweep for a device: first that to the default of a root hub, where it is still to be made, and then those of
 /// its verdict. It tells whether the default was written.
-#[tactic(auto, unfolding(crate::specs::Bring::treating), using(ug_kernel::proofs::Runs::runs_then))]
 pub fn treat<Y: Sysfs>(
     alloc: Global,
     sysfs: &mut Y,
@@ -286,20 +286,20 @@ pub fn treat<Y: Sysfs>(
         Some(write) => write,
         None => return (bring(alloc, sysfs, name, known, on, out), false),
     };
-    match write_default(alloc, sysfs, name, known, write, out) {
-        Settled::Stands => (bring_defaulted(alloc, sysfs, name, known, on, out), true),
-        Settled::Nobody => {
-            sysfs.close(known.held);
-            (Settled::Nobody, false)
-        }
-        Settled::Fault(failed) => (Settled::Fault(failed), false),
-        Settled::Memory => (Settled::Memory, false),
+    let settled = write_default(alloc, sysfs, name, known, write, out);
+    if is_stands(settled) {
+        let known = Known {
+            defaulted: true,
+            ..known
+        };
+        return (bring(alloc, sysfs, name, known, on, out), true);
     }
+    close_gone(sysfs, known, settled);
+    (settled, false)
 }
 
 /// Writes where the value differs from the one that the verdict wants, and then removes a device that is rejected and
 /// wasn't removed yet. The held file of a device that is found gone is closed.
-#[tactic(auto, unfolding(crate::specs::Bring::bringing), using(ug_kernel::proofs::Runs::runs_then))]
 pub fn bring<Y: Sysfs>(
     alloc: Global,
     sysfs: &mut Y,
@@ -314,18 +314,10 @@ pub fn bring<Y: Sysfs>(
     ensures journal { Notes (λ b. ⟦<dyn Auditor as Auditor>⟧ b.vtable) 5 out.old out.new }
 {
     let settled = make_writes(alloc, sysfs, name, known, on, out);
-    match settled {
-        Settled::Nobody => {
-            sysfs.close(known.held);
-            Settled::Nobody
-        }
-        Settled::Stands => Settled::Stands,
-        Settled::Fault(failed) => Settled::Fault(failed),
-        Settled::Memory => Settled::Memory,
-    }
+    close_gone(sysfs, known, settled);
+    settled
 }
 
-#[tactic(auto, unfolding(crate::specs::Bring::writing), using(ug_kernel::proofs::Runs::runs_then))]
 fn make_writes<Y: Sysfs>(
     alloc: Global,
     sysfs: &mut Y,
@@ -339,15 +331,9 @@ fn make_writes<Y: Sysfs>(
         (result, (noted_in out.new).entries) sysfs.new }
     ensures journal { Notes (λ b. ⟦<dyn Auditor as Auditor>⟧ b.vtable) 5 out.old out.new }
 {
-    match set_value(sysfs, name, known, on, out) {
-        Settled::Stands => {
-            if is_to_go(known) {
-                return remove(alloc, sysfs, name, known, out);
-            }
-            Settled::Stands
-        }
-        Settled::Nobody => Settled::Nobody,
-        Settled::Fault(failed) => Settled::Fault(failed),
-        Settled::Memory => Settled::Memory,
+    let settled = set_value(sysfs, name, known, on, out);
+    if is_to_go(known, settled) {
+        return remove(alloc, sysfs, name, known, out);
     }
+    settled
 }

@@ -13,9 +13,9 @@ ghost use Rattle.ug_table.specs.One.{resettling_numbered, GoesAsPart, SettlesOne
 ghost use Rattle.ug_table.specs.Marks.{LeavesMarks, has_name, has_number};
 ghost use Rattle.ug_table.specs.declared.standing.Standing.{Standing};
 ghost use Rattle.ug_table.specs.declared.standing.Settled.TheVariants.{Memory};
-ghost use Rattle.ug_table.specs.Settle.{stopped_by, unsettled_by, stands, kept_standings, tried_standings, no_room, if_place, admitting, entering, settling, resettling};
+ghost use Rattle.ug_table.specs.Settle.{stopped_by, unsettled_by, kept_standings, tried_standings, no_room, if_place, admitting, entering, settling, resettling};
 
-use crate::bring::{is_reject, treat};
+use crate::bring::{is_reject, is_stands, treat};
 use crate::judge::Judge;
 use crate::kept::Standings;
 use crate::parent::{bind_name, facts_of, parent_standing};
@@ -32,15 +32,6 @@ fn is_controller(name: &NodeName) -> bool
     ensures { result ≡ is_none (parent_of name.now) }
 {
     name.parent().is_none()
-}
-
-fn is_stands(settled: Settled) -> bool
-    ensures { result ≡ stands settled }
-{
-    match settled {
-        Settled::Stands => true,
-        _ => false,
-    }
 }
 
 // Holds a place for a standing of that name and number, and room for one name more.

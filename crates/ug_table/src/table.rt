@@ -44,6 +44,9 @@ impl Model for Table {
 }
 
 impl Table {
+    /// Drops it. A crate that calls this need not prove how its parts are dropped.
+    pub fn discard(self) {}
+
     /// No standing. It takes no memory.
     pub fn new(alloc: Global) -> Table
         ensures standings { result.standings ≡ [] }

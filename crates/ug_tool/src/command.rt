@@ -66,13 +66,13 @@ pub fn carry_out<S: Source, K: Sink, L: Link>(
         Command::Replay => {
             let mut kernel = SimKernel::new(alloc);
             let status = replay_over(alloc, input, out, &mut kernel);
-            drop(kernel);
+            kernel.discard();
             status
         }
         Command::Summarize => {
             let mut kernel = SimKernel::new(alloc);
             let status = summarize(alloc, input, out, &mut kernel);
-            drop(kernel);
+            kernel.discard();
             status
         }
         Command::MakeScript { events, start } => write_script(*events, *start, out),
@@ -82,7 +82,7 @@ pub fn carry_out<S: Source, K: Sink, L: Link>(
         Command::GeneratePolicy => {
             let mut kernel = SimKernel::new(alloc);
             let status = generate_policy(alloc, input, out, &mut kernel);
-            drop(kernel);
+            kernel.discard();
             status
         }
         Command::AddUser { name: _, asked } => add_user(alloc, asked, input, out),

@@ -55,7 +55,7 @@ pub fn replay_over<S: Source, K: Sink>(
 {
     let mut interpreter = Interpreter::new();
     let status = run(alloc, input, out, &mut interpreter, kernel);
-    drop(interpreter);
+    interpreter.discard();
     status
 }
 

@@ -66,7 +66,11 @@ pub fn run_tool<S: Source, K: Sink, L: Link>(
         → asks_daemon c ≡ false → link.new ≡ link.old }
 {
     match read_command(alloc, words) {
-        Ok(command) => carry_out(alloc, &command, input, out, link),
+        Ok(command) => {
+            let status = carry_out(alloc, &command, input, out, link);
+            command.discard();
+            status
+        }
         Err(fault) => refuse(out, fault),
     }
 }

@@ -13,3 +13,8 @@ pub enum Event {
     /// A piece of recorded uevents, of at most 1,048,576 bytes, is read. Then the devices are settled that its messages name.
     Hint(Moment, Text),
 }
+
+impl Event {
+    /// Drops it, as `Attrs::discard`.
+    pub fn discard(self) {}
+}

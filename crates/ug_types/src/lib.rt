@@ -37,7 +37,7 @@ pub use name::{NameFault, NodeName, sort_names, sweep_order};
 pub use no_memory::NoMemory;
 pub use principal::Principal;
 pub use record::{Attrs, DeviceRecord, Judged, Triple};
-pub use rule::{After, Cond, CondKind, Conds, Id, Iface, Op, Query, Rule, Values};
+pub use rule::{After, Cond, CondKind, Conds, Id, Iface, Op, Query, Rule, Values, discard_rules};
 pub use saved::Saved;
 pub use sink::{Put, Sink};
 pub use source::{Source, Taken};

@@ -83,6 +83,21 @@ pub struct Rule {
     pub conds: Option<Conds>,
 }
 
+impl Query {
+    /// Drops it. A crate that calls this need not prove how its parts are dropped.
+    pub fn discard(self) {}
+}
+
+impl Rule {
+    /// The same of a rule.
+    pub fn discard(self) {}
+}
+
+/// The same of a list of rules.
+pub fn discard_rules(rules: Vec<Rule>) {
+    drop(rules);
+}
+
 /// Where a rule is put among others: usbguard(1), append-rule.
 #[derive(Clone, Copy)]
 pub enum After {

@@ -44,7 +44,7 @@ fn run<K: Sink>(rt: HostRuntime, words: &[&str], out: &mut K) -> u8 {
             let mut input = ReaderSource::new(rt.reader());
             let mut kernel = SimKernel::new(rt.alloc());
             let status = run_replay(rt.alloc(), words, &mut input, out, &mut kernel);
-            drop(kernel);
+            kernel.discard();
             drop(input);
             status
         }

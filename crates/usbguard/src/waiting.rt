@@ -32,7 +32,7 @@ fn input_for(rt: &HostRuntime, words: &[&str]) -> Option<(&'static str, &'static
     match read_command(rt.alloc(), words) {
         Ok(command) => {
             let input = input_of(&command);
-            drop(command);
+            command.discard();
             input
         }
         Err(_) => None,

@@ -1,4 +1,4 @@
-use Rattle.std.proofs.Common.{◌≡◌, ℕ, List, drop, subst}
+use Rattle.std.proofs.Common.{◌≡◌, ℕ, ◌≤◌, List, arith, drop, refl, subst}
 use Rattle.std.proofs.KnownBytes.{Keeps-refl}
 use Rattle.ug_types.proofs.Known.{to_end}
 use Rattle.ug_proto.specs.declared.request.Request.TheVariants as request
@@ -18,6 +18,9 @@ none_undone e = cc
 
 memory_undone : ¬ (asked.Memory ≡ asked.Done)
 memory_undone e = cc
+
+not_above : (a b c : ℕ) → a ≤ b → b ≤ c → a ≤ c
+not_above a b c h k = omega arith
 
 pub returns-in-Done-write_answer-clause-watches : goal.returns-in-Done-write_answer-clause-watches
 returns-in-Done-write_answer-clause-watches g c =
@@ -135,3 +138,14 @@ returns-in-Memory-clause-watches g c =
     let left = g.L.Link.left c.send_request.new.link in
     let held = g.K.Sink.held c.args.out.now in
     ends_before path line c.args.most calls0 calls1 sent0 sent left0 left held held asked.Memory memory_undone (unsent_memory path line calls0 calls1 sent0 sent left0 left held c.in-Memory.ensures.made c.in-Memory.ensures.sent c.send_request.ensures.left)
+
+pub returns-in-Done-write_answer-clause-link : goal.returns-in-Done-write_answer-clause-link
+returns-in-Done-write_answer-clause-link g c = λ e. rose_after (g.L.Link.faults c.args.link.now) (g.L.Link.faults c.await_reply.new.link) (g.L.Link.faults c.watch_behind.new.link)
+    (not_above (g.L.Link.faults c.args.link.now) (g.L.Link.faults c.send_request.new.link) (g.L.Link.faults c.await_reply.new.link) c.send_request.ensures.counted c.await_reply.ensures.counted)
+    c.watch_behind.ensures.links (c.watch_behind.ensures.link e)
+
+pub returns-in-Done-write_answer-clause-counted : goal.returns-in-Done-write_answer-clause-counted
+returns-in-Done-write_answer-clause-counted g c = not_above (g.K.Sink.faults c.args.out.now) (g.K.Sink.faults c.write_answer.new.out) (g.K.Sink.faults c.watch_behind.new.out) c.write_answer.ensures.counted c.watch_behind.ensures.sinks
+
+pub returns-in-LinkFailed-clause-link : goal.returns-in-LinkFailed-clause-link
+returns-in-LinkFailed-clause-link g c = λ e. rose_after (g.L.Link.faults c.args.link.now) (g.L.Link.faults c.send_request.new.link) (g.L.Link.faults c.await_reply.new.link) c.send_request.ensures.counted c.await_reply.ensures.counted (c.in-LinkFailed.ensures.cause refl)

@@ -1,9 +1,11 @@
-use Rattle.std.proofs.Common.{◌≡◌, ℕ, ◌≤◌, ◌+◌, ◌-◌, List, length, take, drop, subst, arith, length-drop}
+use Rattle.std.proofs.Common.{◌≡◌, ℕ, ◌≤◌, ◌+◌, ◌-◌, List, length, take, drop, refl, subst, arith, length-drop}
 use Rattle.ug_types.proofs.Known.{to_end}
 use Rattle.ug_types.specs.Ends.{Puts}
 use Rattle.ug_types.specs.declared.sink.Put.TheVariants as put
+use Rattle.ug_proto.specs.Lines.{IsBeginning}
 use Rattle.ug_client.specs.Watching.{IsShortThen, IsNoNotice}
 use Rattle.ug_client.proofs.Shown.{shows_none, shows_one, shows_part}
+use Rattle.ug_client.proofs.WatchCalls.{rose_after}
 use Rattle.ug_client.proofs.lines.show_notices.Goals as goal
 
 same_size : (at n : ℕ) → at + n - at ≡ n
@@ -32,3 +34,9 @@ returns-in-Failed-clause-shows g c =
 
 pub returns-in-Other-clause-shows : goal.returns-in-Other-clause-shows
 returns-in-Other-clause-shows g c = (c.notices.invariant.shows, subst IsNoNotice (to_end c.notices.at c.args.text.now) c.in-Other.ensures, omega arith)
+
+pub returns-in-Begun-clause-shows : goal.returns-in-Begun-clause-shows
+returns-in-Begun-clause-shows g c = (c.notices.invariant.shows, subst IsBeginning (to_end c.notices.at c.args.text.now) c.in-Begun.ensures, omega arith)
+
+pub returns-in-Failed-clause-cause : goal.returns-in-Failed-clause-cause
+returns-in-Failed-clause-cause g c = λ e. rose_after (g.K.Sink.faults c.args.out.now) (g.K.Sink.faults c.notices.out) (g.K.Sink.faults c.put.new.self) c.notices.invariant.counted c.put.ensures.counted.0 (c.in-Failed.ensures.cause refl)

@@ -7,7 +7,7 @@ use Rattle.ug_types.specs.Limits.{text_limit}
 use Rattle.ug_proto.specs.declared.reply.Reply.{Reply}
 use Rattle.ug_client.specs.Answers.{AnswersReply, IsAwaiting}
 use Rattle.ug_links.specs.declared.link_call.Receipt.TheVariants as receipt
-use Rattle.ug_client.specs.Awaiting.{Ended}
+use Rattle.ug_client.specs.Awaiting.{Ended, Full}
 use Rattle.ug_client.specs.Calls.{GoesOnReceiving}
 use Rattle.ug_client.specs.ReadSoFar.{IsReadSoFar}
 use Rattle.ug_client.proofs.Calls.{no_piece, none_yet, one_piece}
@@ -15,6 +15,7 @@ use Rattle.ug_client.proofs.Ending.{empty_awaits}
 use Rattle.ug_client.proofs.Missing.{nothing_read}
 use Rattle.ug_client.proofs.Received.{came_never, came_replied, ends_awaiting, received_on, taken_on}
 use Rattle.ug_client.proofs.Watched.{grown}
+use Rattle.ug_client.proofs.WatchCalls.{rose_after}
 use Rattle.ug_client.specs.declared.receive.Awaited.TheVariants as awaited
 use Rattle.ug_client.proofs.receive.await_reply.Goals as goal
 
@@ -159,3 +160,17 @@ returns-in-Err-Memory-clause-awaits g c =
     ends_awaiting (g.L.Link.told c.args.link.now) (g.L.Link.told c.pieces.link) (g.L.Link.told c.receive.new.self) (g.L.Link.left c.args.link.now) (g.L.Link.left c.pieces.link) (g.L.Link.left c.receive.new.self)
     c.pieces.kept.items i.receiving i.source i.awaiting piece short within c.in-Bytes.ensures.told c.in-Bytes.ensures.bytes
     c.extend_from_slice.new.self.items awaited.Memory tt
+
+pub returns-then-room-eq0-clause-awaits : goal.returns-then-room-eq0-clause-awaits
+returns-then-room-eq0-clause-awaits g c =
+    let i = c.pieces.invariant in
+    record {
+      taken = c.pieces.kept.items;
+      receives = i.receiving.receives;
+      source = i.source;
+      enough = record { short = omega (arith, i.short); earlier = c.pieces.kept.items; last = []; whole = sym (append-nil c.pieces.kept.items); piece = omega arith; awaiting = i.awaiting };
+      told = Full (omega (arith, i.short, c.min-room.ensures, c.len-from.ensures)) i.awaiting.none;
+    }
+
+pub returns-in-Failed-clause-cause : goal.returns-in-Failed-clause-cause
+returns-in-Failed-clause-cause g c = λ e. rose_after (g.L.Link.faults c.args.link.now) (g.L.Link.faults c.pieces.link) (g.L.Link.faults c.receive.new.self) c.pieces.invariant.counted c.receive.ensures.counted.0 (c.in-Failed.ensures.cause refl)

@@ -1,4 +1,4 @@
-use Rattle.std.proofs.Common.{ℕ, List, Option, Some, subst, drop}
+use Rattle.std.proofs.Common.{ℕ, List, Option, Some, subst, drop, ◌∙◌}
 use Rattle.ug_client.specs.Watching.{ShowsBy}
 use Rattle.ug_client.specs.declared.asked.Asked.{Asked}
 use Rattle.ug_client.proofs.stream.show_kept.Goals as goal
@@ -14,3 +14,9 @@ returns-in-Some-clause-shows g c =
       told = subst (λ (b : List ℕ). ShowsBy b c.args.room.now held0 (drop s.result.at b) s.result.room held (Some c.in-Some.ended)) c.deref.ensures.value
           (subst (λ (e : Option Asked). ShowsBy c.deref.result.now c.args.room.now held0 (drop s.result.at c.deref.result.now) s.result.room held e) c.in-Some.is s.ensures.shows);
     }
+
+pub returns-in-Some-clause-no_link : goal.returns-in-Some-clause-no_link
+returns-in-Some-clause-no_link g c = λ e. c.show_notices-shown.ensures.no_link (c.in-Some.is ∙ e)
+
+pub returns-in-Some-clause-cause : goal.returns-in-Some-clause-cause
+returns-in-Some-clause-cause g c = λ e. c.show_notices-shown.ensures.cause (c.in-Some.is ∙ e)

@@ -1,7 +1,9 @@
-use Rattle.std.proofs.Common.{ℕ, List, take, arith, subst, length-take}
+use Rattle.std.proofs.Common.{ℕ, List, Some, take, ap, arith, refl, subst, length-take}
 use Rattle.std.proofs.KnownBytes.{Keeps-refl, Keeps-trans}
 use Rattle.ug_client.specs.Watching.{EndsShowing, ShowsNotices}
 use Rattle.ug_client.proofs.Watched.{first_ends, first_watching, piece_ends, piece_watching, piece_lost, smaller, grown, watched_to_end, watched_to_failure}
+use Rattle.ug_client.specs.declared.asked.Asked.{Asked}
+use Rattle.ug_client.proofs.WatchCalls.{rose_after}
 use Rattle.ug_client.proofs.stream.watch_notices.Goals as goal
 
 pub returns-in-Some-clause-watches : goal.returns-in-Some-clause-watches
@@ -64,3 +66,18 @@ pieces-smaller g c =
     (subst (λ (b : List ℕ). ShowsNotices b c.pieces.room (g.K.Sink.held c.pieces.out) k.kept.items k.room (g.K.Sink.held k.out)) e s.shows.0)
     (omega (arith, length-take c.in-Bytes.n c.receive.new.into, c.in-Bytes.ensures.size)) s.shows.2 s.shows.1.short c.pieces.invariant.begun.short in
     omega (arith, d)
+
+pub returns-in-Some-clause-link : goal.returns-in-Some-clause-link
+returns-in-Some-clause-link g c = λ e. absurd (c.in-Some.ensures.no_link (ap (λ (a : Asked). Some a) e))
+
+pub returns-in-Some-clause-sink : goal.returns-in-Some-clause-sink
+returns-in-Some-clause-sink g c = λ e. c.in-Some.ensures.cause (ap (λ (a : Asked). Some a) e)
+
+pub returns-in-Some-show_kept-clause-link : goal.returns-in-Some-show_kept-clause-link
+returns-in-Some-show_kept-clause-link g c = λ e. absurd (c.in-Some-show_kept.ensures.no_link (ap (λ (a : Asked). Some a) e))
+
+pub returns-in-Some-show_kept-clause-sink : goal.returns-in-Some-show_kept-clause-sink
+returns-in-Some-show_kept-clause-sink g c = λ e. rose_after (g.K.Sink.faults c.args.out.now) (g.K.Sink.faults c.pieces.out) (g.K.Sink.faults c.show_kept-in-Bytes.new.out) c.pieces.invariant.sink c.in-Some-show_kept.ensures.counted (c.in-Some-show_kept.ensures.cause (ap (λ (a : Asked). Some a) e))
+
+pub returns-in-Failed-clause-link : goal.returns-in-Failed-clause-link
+returns-in-Failed-clause-link g c = λ e. rose_after (g.L.Link.faults c.args.link.now) (g.L.Link.faults c.pieces.link) (g.L.Link.faults c.receive.new.self) c.pieces.invariant.link c.receive.ensures.counted.0 (c.in-Failed.ensures.cause refl)

@@ -12,9 +12,9 @@ pub returns-clause-pruned : goal.returns-clause-pruned
 returns-clause-pruned c =
     let rules = c.in_ok-rules.rules.items in
     let left : c.as_slice.result.now ≡ remaining rules = c.as_slice.ensures.value ∙ c.in_ok-left.ensures.remaining in
-    let text : c.in_ok-text_of_rules.field-0 ≡ rules_text_of (remaining rules) =
-    c.in_ok-text_of_rules.ensures.text ∙ ap (λ (rs : List Rule). rules_text_of rs) left in
-    let bytes : All RuleOfBytes (remaining rules) = subst (λ (rs : List Rule). All RuleOfBytes rs) left c.in_ok-text_of_rules.ensures.bytes in
+    let text : c.in_ok-text.field-0 ≡ rules_text_of (remaining rules) =
+    c.in_ok-text.ensures.text ∙ ap (λ (rs : List Rule). rules_text_of rs) left in
+    let bytes : All RuleOfBytes (remaining rules) = subst (λ (rs : List Rule). All RuleOfBytes rs) left c.in_ok-text.ensures.bytes in
     record {
       rules = rules;
       few = c.in_ok-rules.ensures.few;

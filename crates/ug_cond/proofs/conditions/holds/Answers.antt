@@ -1,12 +1,11 @@
-use Rattle.std.proofs.Common.{◌≡◌, List, ◌∷◌, ap, ◌∙◌, sym, ◌&&◌, ◌||◌, drop, ◌+◌, ◌≤◌, length, arith}
+use Rattle.std.proofs.Common.{◌≡◌, List, ◌∷◌, ap, ◌∙◌, sym, ◌&&◌, ◌||◌, drop, ◌+◌, arith}
 use Rattle.std.specs.List.{list_all, list_any}
-use Rattle.std.proofs.Math.Bool.{and-true, or-false}
 use Rattle.std.proofs.lemmas.List.{at_drop_more, at_drop_all}
 use Rattle.ug_types.specs.declared.rule.Cond.{Cond}
-use Rattle.ug_cond.specs.Conditions.{by_operator, condition_holds, conditions_hold}
+use Rattle.ug_cond.specs.Conditions.{condition_holds, conditions_hold}
 use Rattle.ug_cond.specs.Words.{behind, random_count, words_of}
 use Rattle.ug_cond.proofs.Truths.{conditions_decide}
-use Rattle.ug_cond.proofs.Walks.{drawn, after_one, all_more, some_more, behind_more}
+use Rattle.ug_cond.proofs.Walks.{drawn, after_one, all_more, some_more, behind_more, walked_value}
 use Rattle.ug_cond.proofs.conditions.holds.Goals as goal
 
 pub loop-cond-init : goal.loop-cond-init
@@ -49,25 +48,23 @@ loop-cond-preserved g c =
           ∙ c.loop-cond.invariant.words;
     }
 
+pub returns-clause-value : goal.returns-clause-value
+returns-clause-value g c = walked_value c.args.history.now c.args.ctx.now (g.A.Allowed.records c.args.allowed.now) c.args.conds.now c.as_slice-cond-items.result.now c.loop-cond.cond-index (g.R.Rng.stream c.loop-cond.rng) (g.R.Rng.stream c.args.rng.now) c.loop-cond.all c.loop-cond.some c.by_operator.result (omega arith) c.loop-cond.invariant.all c.loop-cond.invariant.some c.by_operator.ensures
+
 pub returns-clause-judgements : goal.returns-clause-judgements
 returns-clause-judgements g c = λ judgements id h.
     let history = c.args.history.now in
     let ctx = c.args.ctx.now in
     let records = g.A.Allowed.records c.args.allowed.now in
-    let one = condition_holds history ctx records in
-    let conds = c.as_slice-cond-items.result.now in
-    let i = c.loop-cond.cond-index in
-    let stream = g.R.Rng.stream c.loop-cond.rng in
+    let conds = c.args.conds.now in
     let start = g.R.Rng.stream c.args.rng.now in
-    let words = words_of (random_count c.args.conds.now.items) start in
-    let past : length conds ≤ i = omega arith in
-    let all : c.loop-cond.all ≡ list_all one (drawn c.args.conds.now.items start) =
-    sym (and-true c.loop-cond.all) ∙ ap (λ b. c.loop-cond.all && b) (sym (at_drop_all (λ (cs : List Cond). list_all one (drawn cs stream)) conds i past)) ∙ c.loop-cond.invariant.all in
-    let some : c.loop-cond.some ≡ list_any one (drawn c.args.conds.now.items start) =
-    sym (or-false c.loop-cond.some) ∙ ap (λ b. c.loop-cond.some || b) (sym (at_drop_all (λ (cs : List Cond). list_any one (drawn cs stream)) conds i past)) ∙ c.loop-cond.invariant.some in
-    let value : c.by_operator.result ≡ conditions_hold history ctx records c.args.conds.now words =
-    c.by_operator.ensures
-    ∙ ap (λ b. by_operator c.args.conds.now.op b c.loop-cond.some) all
-    ∙ ap (λ b. by_operator c.args.conds.now.op (list_all one (drawn c.args.conds.now.items start)) b) some in
-    let decided = conditions_decide judgements id history ctx records c.args.conds.now words h in
+    let words = words_of (random_count conds.items) start in
+    let value : c.by_operator.result ≡ conditions_hold history ctx records conds words =
+    walked_value history ctx records conds c.as_slice-cond-items.result.now c.loop-cond.cond-index (g.R.Rng.stream c.loop-cond.rng) start c.loop-cond.all c.loop-cond.some c.by_operator.result (omega arith) c.loop-cond.invariant.all c.loop-cond.invariant.some c.by_operator.ensures in
+    let decided = conditions_decide judgements id history ctx records conds words h in
     (λ t. decided.0 (sym value ∙ t), λ p. value ∙ decided.1 p)
+
+pub returns-clause-words : goal.returns-clause-words
+returns-clause-words g c =
+    sym (at_drop_all (λ (cs : List Cond). behind (random_count cs) (g.R.Rng.stream c.loop-cond.rng)) c.as_slice-cond-items.result.now c.loop-cond.cond-index (omega arith))
+    ∙ c.loop-cond.invariant.words

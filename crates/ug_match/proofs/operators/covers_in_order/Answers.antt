@@ -1,14 +1,15 @@
-use Rattle.std.proofs.Common.{rules, ◌≡◌, length, nat_eq, true, tests}
-use Rattle.std.specs.List.{list_all, zip}
-use Rattle.std.proofs.lemmas.Bool.Decides.{Decides-eqb}
-use Rattle.std.proofs.lemmas.Iterator.{YieldsList-from_slice, YieldsList-from_zip}
-use Rattle.std.proofs.lemmas.Iterator.Search.{all_from_yields_List}
+use Rattle.std.proofs.Common.{refl, arith}
+use Rattle.ug_match.proofs.Passing.{pair_passes, pair_fails, pairs_end}
 use Rattle.ug_match.proofs.operators.covers_in_order.Goals as goal
 
-pub returns-then-rules-device : goal.returns-then-rules-device
-returns-then-rules-device g c =
-    let whole : c.all.result ≡ list_all (λ pair. g.T.Covers.covers pair.0 pair.1) (zip c.args.rules.now c.args.device.now) =
-    all_from_yields_List (λ pair. g.T.Covers.covers pair.0 pair.1) c.all.new.self _ c.all.result c.all.ensures.ran
-    (YieldsList-from_zip (YieldsList-from_slice c.args.rules.now cc) (YieldsList-from_slice c.args.device.now cc)) (λ x b q k. search (rules, tests)) in
-    let same : nat_eq (length c.args.rules.now) (length c.args.device.now) ≡ true = (Decides-eqb (length c.args.rules.now) (length c.args.device.now)).1 c.if-rules-device.true in
-    rw same whole
+pub loop-i-init : goal.loop-i-init
+loop-i-init g c = refl
+
+pub loop-i-preserved : goal.loop-i-preserved
+loop-i-preserved g c = pair_passes g.T.Covers.covers c.args.rules.now c.args.device.now c.loop-i.i c.index-rules-i.result c.index-device-i.result c.covers.result (omega arith) (omega arith) c.index-rules-i.is c.index-device-i.is c.covers.ensures c.if-not-covers.false c.loop-i.invariant
+
+pub returns-then-not-covers : goal.returns-then-not-covers
+returns-then-not-covers g c = pair_fails g.T.Covers.covers c.args.rules.now c.args.device.now c.loop-i.i c.index-rules-i.result c.index-device-i.result c.covers.result (omega arith) (omega arith) c.index-rules-i.is c.index-device-i.is c.covers.ensures c.if-not-covers.true c.loop-i.invariant
+
+pub returns : goal.returns
+returns g c = pairs_end g.T.Covers.covers c.args.rules.now c.args.device.now c.loop-i.i (omega arith) (omega arith) c.loop-i.invariant

@@ -26,3 +26,15 @@ returns-clause-words c =
     let e6 : c.put_interfaces.new.words ≡ start ++ (w0 ++ w1 ++ w2 ++ w3 ++ w4 ++ w5 ++ w6) = then start (w0 ++ w1 ++ w2 ++ w3 ++ w4 ++ w5) w6 c.put_texts-5.new.words c.put_interfaces.new.words e5 c.in_ok-put_interfaces.ensures in
     let e7 : c.put_texts-6.new.words ≡ start ++ (w0 ++ w1 ++ w2 ++ w3 ++ w4 ++ w5 ++ w6 ++ w7) = then start (w0 ++ w1 ++ w2 ++ w3 ++ w4 ++ w5 ++ w6) w7 c.put_interfaces.new.words c.put_texts-6.new.words e6 c.in_ok-put_texts-6.ensures.words in
     on_ok_weaker c.put_label.result (λ e. then start (w0 ++ w1 ++ w2 ++ w3 ++ w4 ++ w5 ++ w6 ++ w7) w8 c.put_texts-6.new.words c.put_label.new.words e7 e) c.put_label.ensures.words
+
+pub returns-clause-bytes : goal.returns-clause-bytes
+returns-clause-bytes c =
+    on_ok_weaker c.put_label.result (λ label. record {
+      serial = c.in_ok-put_texts.ensures.bytes;
+      name = c.in_ok-put_texts-2.ensures.bytes;
+      hash = c.in_ok-put_texts-3.ensures.bytes;
+      parent_hash = c.in_ok-put_texts-4.ensures.bytes;
+      via_port = c.in_ok-put_texts-5.ensures.bytes;
+      connect = c.in_ok-put_texts-6.ensures.bytes;
+      label = label;
+    }) c.put_label.ensures.bytes

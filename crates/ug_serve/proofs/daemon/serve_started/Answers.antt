@@ -18,8 +18,8 @@ returns-in-Err-clause-serves g c =
 
 pub returns-in-Ok-clause-serves : goal.returns-in-Ok-clause-serves
 returns-in-Ok-clause-serves g c =
-    let turns = c.serve_turns.ensures.turns in
+    let turns = c.serve_turns-end.ensures.turns in
     serves_so g.Y.Sysfs g.D.RuleDisk g.N.Links g.W.Waiter g.C.Clock
     c.args.turns (started c.args.first.principals (daemon_of c.args.first.daemon)) (objects c.args.sysfs.now c.args.disk.now c.args.links.now c.args.waiter.now c.args.clock.now (members (λ b. goal.Auditor-dyn g (b.vtable, b.value)) c.args.panel.now))
-    (Ok tt) c.listen_for_all.new.links c.new-server.result turns.0 c.serve_turns.result (turn_world (core_of (daemon_of c.serve_turns.new.daemon) c.serve_turns.new.sysfs c.serve_turns.new.disk (members (λ b. goal.Auditor-dyn g (b.vtable, b.value)) c.serve_turns.new.panel)) c.serve_turns.new.server c.serve_turns.new.links c.serve_turns.new.waiter c.serve_turns.new.clock) c.status_of.result
+    (Ok tt) c.listen_for_all.new.links c.new-server.result turns.0 c.serve_turns-end.result (turn_world (core_of (daemon_of c.serve_turns-end.new.daemon) c.serve_turns-end.new.sysfs c.serve_turns-end.new.disk (members (λ b. goal.Auditor-dyn g (b.vtable, b.value)) c.serve_turns-end.new.panel)) c.serve_turns-end.new.server c.serve_turns-end.new.links c.serve_turns-end.new.waiter c.serve_turns-end.new.clock) c.status_of.result
     refl (subst (λ (l : List Named). Talks g.N.Links.gives c.args.links.now (listening l) (Ok tt) c.listen_for_all.new.links) c.as_slice.ensures c.in-Ok.ensures.listens) c.new-server.ensures.principals c.new-server.ensures.listeners c.new-server.ensures.sessions turns.1 c.status_of.ensures

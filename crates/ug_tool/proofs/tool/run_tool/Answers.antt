@@ -19,7 +19,7 @@ returns-in-Ok-clause-births g c = stays_born new_world refl new_sound.devices
 
 pub returns-in-Ok-clause-carried : goal.returns-in-Ok-clause-carried
 returns-in-Ok-clause-carried g c = λ command e.
-    same_carried (command_in (map (λ (w : Bor (List ℕ)). w.now) c.args.words.now)) c.in-Ok.command command _ _ c.carry_out.result c.in-Ok.ensures.ok e c.carry_out.ensures.carried
+    same_carried (command_in (map (λ (w : Bor (List ℕ)). w.now) c.args.words.now)) c.in-Ok.command command _ _ c.carry_out-status.result c.in-Ok.ensures.ok e c.carry_out-status.ensures.carried
 
 pub returns-in-Err-clause-laws : goal.returns-in-Err-clause-laws
 returns-in-Err-clause-laws g c = stays_lawful new_world refl new_sound

@@ -1,4 +1,0 @@
-use Rattle.ug_arguments.proofs.simple.lint_rules.Goals as goal
-
-pub returns : goal.returns
-returns c = c.with.ensures _ _ c.bare.ensures c.long_flag.ensures.rule
