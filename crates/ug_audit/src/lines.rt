@@ -10,7 +10,7 @@ ghost use Rattle.ug_types.specs.Targets.{target_word};
 use crate::entry::{Entry, Fault, RuleChange};
 use ug_kernel::{Write, Wrote};
 use ug_parameter::Parameter;
-use ug_refusal::Refusal;
+use ug_refusal::{Refusal, words_of};
 use ug_types::{Cause, Line, Moment, NodeName, Principal, Saved, Target};
 
 /// Appends a space and a name.
@@ -28,7 +28,7 @@ fn push_principal(line: &mut Line, who: &Principal)
     requires { length line.old + 40 < 512 }
     ensures { line.new ≡ line.old ++ 32 ∷ principal_text who.now }
 {
-    let text = who.text();
+    let text = Line::naming(who);
     line.push_word(text.bytes());
 }
 
@@ -252,7 +252,7 @@ fn line_of_change(change: RuleChange, id: u64) -> Line
 fn line_of_refusal(refusal: &Refusal) -> Line
     ensures { result ≡ and_words (codes "reply") (refusal_words refusal.now ∷ []) }
 {
-    let words = refusal.words();
+    let words = words_of(refusal);
     let mut line = Line::of(b"reply");
     line.push_word(words.bytes());
     line

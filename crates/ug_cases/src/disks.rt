@@ -1,11 +1,11 @@
 // Rule files: what a start makes of a text, and what saves leave.
 use crate::rules::add_file_fault;
-use jiff::tz::TimeZone;
 use rand_chacha::ChaCha20Rng;
 use rand_core::SeedableRng;
 use std::alloc::Global;
 use ug_acl::Acl;
 use ug_casefile::{Answer, number_of, split_word};
+use ug_cond::FixedZone;
 use ug_conf::default_settings;
 use ug_core::{Daemon, StartFault};
 use ug_print::{RulesTextFault, rules_text};
@@ -20,7 +20,7 @@ fn start(alloc: Global, disk: &mut MemDisk) -> Result<(), StartFault> {
     let rng = ChaCha20Rng::from_seed([0; 32]);
     let acl = Acl::new(alloc);
     let folder = List::new(alloc);
-    match Daemon::start(alloc, settings, acl, rng, TimeZone::UTC, 1, folder, disk) {
+    match Daemon::start(alloc, settings, acl, rng, FixedZone::UTC, 1, folder, disk) {
         Ok(_daemon) => Ok(()),
         Err(fault) => Err(fault),
     }

@@ -4,12 +4,11 @@ ghost use Rattle.ug_types.specs.Elements.{Has};
 ghost use Rattle.ug_policy.specs.Edits.{IsThere};
 ghost use Rattle.ug_policy.specs.Rules.{ids};
 
-use jiff::tz::TimeZone;
 use rand_chacha::ChaCha20Rng;
 use rand_core::{Rng, SeedableRng};
 use std::alloc::Global;
 use ug_casefile::{Answer, number_of, split_word};
-use ug_cond::{Allowed, Context, History, holds, local_second};
+use ug_cond::{Allowed, Context, FixedZone, History, Zone, holds};
 use ug_match::matches;
 use ug_policy::{MAX_RULES, Mark, RuleEntry, RuleList};
 use ug_rule::{parse_query, parse_rule};
@@ -43,7 +42,7 @@ pub struct Session {
 fn context(moment: u64) -> Context {
     Context {
         moment: Moment(moment),
-        second: local_second(&TimeZone::UTC, Moment(moment)),
+        second: FixedZone::UTC.local_second(Moment(moment)),
     }
 }
 

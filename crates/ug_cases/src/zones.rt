@@ -1,24 +1,26 @@
 // Seconds of local days.
-use jiff::tz::{Offset, TimeZone};
+use jiff::tz::TimeZone;
 use ug_casefile::{Answer, number_of, split_word};
-use ug_cond::local_second;
+use ug_cond::{FixedZone, Zone};
 use ug_types::Moment;
+use ug_zone::CivilZone;
 
 // So many seconds ahead of UTC.
-fn fixed(sign: i32, digits: &[u8]) -> Option<TimeZone<'static>> {
+fn fixed(sign: i32, digits: &[u8]) -> Option<FixedZone> {
     let seconds = i32::try_from(number_of(digits)?).ok()?;
-    let offset = Offset::from_seconds(sign.checked_mul(seconds)?).ok()?;
-    Some(TimeZone::fixed(offset))
+    let ahead = sign.checked_mul(seconds)?;
+    Some(FixedZone { ahead })
 }
 
 fn second(zone: &[u8], moment: &[u8]) -> Option<u32> {
     let moment = Moment(number_of(moment)?);
     match zone {
-        [b'+', digits @ ..] => Some(local_second(&fixed(1, digits)?, moment)),
-        [b'-', digits @ ..] => Some(local_second(&fixed(-1, digits)?, moment)),
+        [b'+', digits @ ..] => Some(fixed(1, digits)?.local_second(moment)),
+        [b'-', digits @ ..] => Some(fixed(-1, digits)?.local_second(moment)),
         _ => {
             let name = str::from_utf8(zone).ok()?;
-            Some(local_second(&TimeZone::posix(name).ok()?, moment))
+            let zone = TimeZone::posix(name).ok()?;
+            Some(CivilZone { zone }.local_second(moment))
         }
     }
 }

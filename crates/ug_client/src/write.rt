@@ -8,6 +8,7 @@ ghost use Rattle.ug_client.specs.Asking.{Writes, end_by_reply};
 use crate::asked::Asked;
 use std::alloc::Global;
 use ug_proto::Reply;
+use ug_refusal::words_of;
 use ug_types::{NoMemory, Put, Sink, Text};
 
 fn put_lines(out: &mut Vec<u8>, lines: &[Text]) -> Result<(), NoMemory>
@@ -28,7 +29,7 @@ fn print_answer(alloc: Global, reply: &Reply) -> Result<Vec<u8>, NoMemory>
     match reply {
         Reply::Lines(lines) => put_lines(&mut out, lines.as_slice())?,
         Reply::Refused(refusal) => {
-            let words = refusal.words();
+            let words = words_of(refusal);
             out.extend_from_slice(words.bytes())?;
             out.extend_from_slice(b"\n")?;
         }

@@ -1,3 +1,2 @@
 pub mod Truths
 pub mod Walks
-pub mod Clock

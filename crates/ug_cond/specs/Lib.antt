@@ -1,5 +1,5 @@
+pub mod Clocks
 pub mod Conditions
 pub mod Judgements
-pub mod Local
 pub mod Truth
 pub mod Words

@@ -6,11 +6,11 @@ mod conditions;
 mod context;
 mod history;
 mod laws;
-mod local;
+mod zone;
 
 pub use allowed::Allowed;
 pub use conditions::holds;
 pub use context::Context;
 pub use history::History;
-pub use laws::{conditions_law, zones_law};
-pub use local::local_second;
+pub use laws::conditions_law;
+pub use zone::{FixedZone, Zone};

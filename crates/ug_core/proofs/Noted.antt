@@ -1,6 +1,7 @@
 -- What the members noted over a part of an event.
 use Rattle.std.proofs.Common.{◌≡◌, ℕ, ◌+◌, Bool, List, [], ◌++◌, length, refl, sym, subst, ap, ◌∙◌, append_assoc, append-nil, arith}
-use Rattle.rand_core.specs.declared.Rng.{Ghosts}
+use Rattle.rand_core.specs.declared.Rng as Rng
+use Rattle.ug_cond.specs.declared.zone.Zone as Zone
 use Rattle.ug_audit.specs.declared.entry.Entry.{Entry}
 use Rattle.ug_audit.specs.declared.journal.Journal.{Journal}
 use Rattle.ug_audit.specs.declared.panel.Panel.{Panel}
@@ -34,8 +35,8 @@ more_noted es fs gs ms ns os h k = record {
 }
 
 -- a step that notes nothing: it changes at most whether a save is pending
-pub notes_none : {R : Type 0} {g : Ghosts R} {X : Type 0} {F : X → Type 0} {most : ℕ}
-    {told : AuditorTold X F} {d e : Daemon R g} {panel : Panel X F} {pending : Bool}
+pub notes_none : {Z R : Type 0} {z : Zone.Ghosts Z} {g : Rng.Ghosts R} {X : Type 0} {F : X → Type 0} {most : ℕ}
+    {told : AuditorTold X F} {d e : Daemon Z R z g} {panel : Panel X F} {pending : Bool}
     → e.report ≡ d.report → daemon_of e ≡ record (daemon_of d) { pending = pending }
     → NotesAtMost most told d panel e panel
 notes_none {d = d} report same =
@@ -56,8 +57,8 @@ notes_none {d = d} report same =
     }
 
 -- a step behind another
-pub notes_then : {R : Type 0} {g : Ghosts R} {X : Type 0} {F : X → Type 0} {m n : ℕ}
-    {told : AuditorTold X F} {d e f : Daemon R g} {panel amid last : Panel X F}
+pub notes_then : {Z R : Type 0} {z : Zone.Ghosts Z} {g : Rng.Ghosts R} {X : Type 0} {F : X → Type 0} {m n : ℕ}
+    {told : AuditorTold X F} {d e f : Daemon Z R z g} {panel amid last : Panel X F}
     → NotesAtMost m told d panel e amid → NotesAtMost n told e amid f last
     → NotesAtMost (m + n) told d panel f last
 notes_then h k = record {

@@ -1,7 +1,8 @@
 -- An event of the daemon, in stages, each of which is on one object: a pending save, an order or a
 -- piece of recorded uevents, and the settling of all devices or of those that the piece names.
 use Rattle.std.specs.Prelude.{◌≡◌, ◌≤◌, ℕ, ◌+◌, ◌-◌, ◌^◌, Bool, true, false, ◌&&◌, nat_le, nat_lt, List, [], ◌∷◌, ◌++◌, length, Option, Some, None}
-use Rattle.rand_core.specs.declared.Rng.{Ghosts}
+use Rattle.rand_core.specs.declared.Rng as Rng
+use Rattle.ug_cond.specs.declared.zone.Zone as Zone
 use Rattle.ug_kernel.specs.declared.control.Write.{Write}
 use Rattle.ug_types.specs.declared.saved.Saved.{Saved}
 use Rattle.ug_types.specs.declared.saved.Saved.TheVariants as saved
@@ -41,15 +42,16 @@ pub record DaemonState : Type 0 where
   pub reply : Option Reply
   pub watch : Bool
 
-abbrev pub daemon_of : {R : Type 0} {g : Ghosts R} → Daemon R g → DaemonState
-daemon_of {g = g} d = record {
+abbrev pub daemon_of : {Z R : Type 0} {z : Zone.Ghosts Z} {g : Rng.Ghosts R} → Daemon Z R z g
+    → DaemonState
+daemon_of {z = z} {g = g} d = record {
   sweep =
       record {
         standings = d.table.standings;
         next = d.table.next;
         listed = d.table.listed;
         judge =
-            judging_of g.stream d.policy;
+            judging_of z.clock g.stream d.policy;
         hub = d.hub_default;
         entries = without_drops
             d.report.entries.entries;
@@ -158,8 +160,9 @@ pub record NotesMore (before after : List Entry) (ms ns : List Member) : Type 0 
 -- left it used at most so many, beside one for each member that failed. The event keeps its number,
 -- and the next device and the next event theirs; the same names are due; and there are no more
 -- standings than before.
-pub record NotesAtMost {R : Type 0} {g : Ghosts R} {X : Type 0} {F : X → Type 0} (most : ℕ)
-    (told : AuditorTold X F) (d : Daemon R g) (panel : Panel X F) (e : Daemon R g)
+pub record NotesAtMost {Z R : Type 0} {z : Zone.Ghosts Z} {g : Rng.Ghosts R} {X : Type 0}
+    {F : X → Type 0} (most : ℕ)
+    (told : AuditorTold X F) (d : Daemon Z R z g) (panel : Panel X F) (e : Daemon Z R z g)
     (last : Panel X F)
     : Type 0 where
   pub spare : d.report.entries.spare + live_in last ≤ e.report.entries.spare + most + live_in panel

@@ -1,6 +1,5 @@
 -- The verdict on a device that has none yet.
 use Rattle.std.specs.Prelude.{ℕ, min, Bool, true, false, if◌then◌else◌, List, [], ◌∷◌}
-use Rattle.jiff.specs.declared.tz.timezone.TimeZone.{TimeZone}
 use Rattle.rand_core.specs.Stream.{Stream}
 use Rattle.ug_types.specs.declared.record.DeviceRecord.{DeviceRecord}
 use Rattle.ug_types.specs.declared.record.Judged.{Judged}
@@ -12,7 +11,6 @@ use Rattle.ug_types.specs.declared.verdict.Cause.{Cause}
 use Rattle.ug_types.specs.declared.verdict.Cause.TheVariants as cause
 use Rattle.ug_cond.specs.declared.context.Context.{Context}
 use Rattle.ug_cond.specs.Judgements.{Judgement}
-use Rattle.ug_cond.specs.Local.{local_second_at}
 use Rattle.ug_cond.specs.Words.{behind}
 use Rattle.ug_policy.specs.declared.entry.RuleEntry.{RuleEntry}
 use Rattle.ug_policy.specs.Deciding.{Found, find_decider, decider, reached, words_taken, rules_judged, judgement_found}
@@ -26,10 +24,6 @@ use Rattle.ug_conf.specs.declared.settings.Present.TheVariants as present
 use Rattle.ug_core.specs.declared.classes.Classes.{Classes}
 use Rattle.ug_core.specs.declared.policy.Policy.{Policy}
 
--- the second of the local day, at a second since 1970
-abbrev pub clock_of : TimeZone → ℕ → ℕ
-clock_of zone second = local_second_at zone second
-
 -- what judges: the settings for each class of devices, the rules in order, the id of the next one,
 -- the local clock, when a device is judged, and the words to come
 pub record Judging : Type 0 where
@@ -40,14 +34,14 @@ pub record Judging : Type 0 where
   pub ctx : Context
   pub stream : Stream
 
--- what a policy judges by, where its generator gives these words
-abbrev pub judging_of : {R : Type 0} → (R → Stream) → Policy R → Judging
-judging_of words p =
+-- what a policy judges by, where its zone has this clock and its generator gives these words
+abbrev pub judging_of : {Z R : Type 0} → (Z → ℕ → ℕ) → (R → Stream) → Policy Z R → Judging
+judging_of clock words p =
     record {
       classes = p.classes;
       rules = p.rules.entries;
       next = p.rules.next;
-      clock = clock_of p.zone;
+      clock = clock p.zone;
       ctx = p.ctx;
       stream = words p.rng;
     }

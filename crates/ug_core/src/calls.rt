@@ -18,6 +18,7 @@ use rand_core::Rng;
 use std::alloc::Global;
 use ug_acl::Acl;
 use ug_audit::{Auditor, Entry, Journal, Panel};
+use ug_cond::Zone;
 use ug_kernel::Sysfs;
 use ug_store::{RuleDisk, Saved};
 use ug_types::{Event, Moment};
@@ -32,7 +33,7 @@ fn low(n: u64) -> bool
     n <= LOW
 }
 
-impl<'z, R: Rng> Daemon<'z, R> {
+impl<Z: Zone, R: Rng> Daemon<Z, R> {
     /// Whether the next device number, the counts of faults, the event's number and the standings leave room for an event, and an id
     /// is left for one rule more.
     pub fn has_numbers(&self, sysfs_faults: u64, disk_faults: u64) -> bool

@@ -20,6 +20,7 @@ use crate::privileges::denied;
 use itoa::Buffer;
 use rand_core::Rng;
 use std::alloc::Global;
+use ug_cond::Zone;
 use ug_kernel::{Probe, Sysfs};
 use ug_parameter::{Parameter, ParameterName};
 use ug_policy::Mark;
@@ -147,7 +148,7 @@ fn edit_lines(alloc: Global, edit: &Edit, next: u64) -> Result<List<Text>, NoMem
     }
 }
 
-impl<'z, R: Rng> Daemon<'z, R> {
+impl<Z: Zone, R: Rng> Daemon<Z, R> {
     // What the order comes to. Its device, if it has one, is probed, and nothing is written or noted.
     #[tactic(auto, unfolding(crate::specs::Answering::asking))]
     pub(crate) fn choose<Y: Sysfs>(

@@ -5,6 +5,7 @@ use crate::policy::Policy;
 use crate::report::Report;
 use rand_core::Rng;
 use ug_acl::Acl;
+use ug_cond::Zone;
 use ug_kernel::Write;
 use ug_store::Store;
 use ug_table::Table;
@@ -14,8 +15,8 @@ use ug_uevent::Hints;
 /// The policy, the standings, what is written to the default of each root hub, the store of the rule file, who may do what, what is kept of
 /// the stream of uevents, and the report of the last event.
 #[derive(Drop)]
-pub struct Daemon<'z, R: Rng> {
-    pub(crate) policy: Policy<'z, R>,
+pub struct Daemon<Z: Zone, R: Rng> {
+    pub(crate) policy: Policy<Z, R>,
     pub(crate) table: Table,
     pub(crate) hub_default: Option<Write>,
     pub(crate) store: Store,
@@ -29,7 +30,7 @@ pub struct Daemon<'z, R: Rng> {
     ghost handed_out: { hints.messages ≡ [] },
 }
 
-impl<'z, R: Rng + Drop> Daemon<'z, R> {
+impl<Z: Zone + Drop, R: Rng + Drop> Daemon<Z, R> {
     /// Drops it. A crate that calls this need not prove how its parts are dropped.
     pub fn discard(self) {
         self.policy.discard();

@@ -11,6 +11,7 @@ use rand_core::Rng;
 use std::alloc::Global;
 use std::mem::replace;
 use ug_audit::{Auditor, Entry, Fault, Journal, Panel};
+use ug_cond::Zone;
 use ug_table::in_order;
 use ug_types::{List, NoMemory, NodeName, Numbered};
 use ug_uevent::{Hint, Hints, UeventFault};
@@ -66,7 +67,7 @@ fn names_due(listed: bool, mut names: Vec<NodeName>) -> List<NodeName>
     List::from_vec(names)
 }
 
-impl<'z, R: Rng> Daemon<'z, R> {
+impl<Z: Zone, R: Rng> Daemon<Z, R> {
     // Takes the piece. The room is made before: a refusal changes nothing.
     fn take_piece(&mut self, alloc: Global, piece: &[u8], panel: &mut Panel) -> Result<(), NoMemory>
         requires piece { length piece.now ≤ longest_piece }

@@ -33,4 +33,4 @@ pub use list_laws::devices_law;
 pub use privileges::denied;
 pub use report::Report;
 pub use start_fault::StartFault;
-pub use ug_audit::{Entries, Entry, Fault, line_of};
+pub use ug_audit::{Entries, Entry, Fault};

@@ -27,6 +27,7 @@ use rand_core::Rng;
 use std::alloc::Global;
 use std::mem::replace;
 use ug_audit::{Auditor, Entry, Journal, Panel};
+use ug_cond::Zone;
 use ug_kernel::Sysfs;
 use ug_print::RulesTextFault;
 use ug_proto::Reply;
@@ -72,7 +73,7 @@ fn answer_of(reply: &Reply) -> Result<(), Refusal>
     }
 }
 
-impl<'z, R: Rng> Daemon<'z, R> {
+impl<Z: Zone, R: Rng> Daemon<Z, R> {
     // The device of that number gets the verdict.
     fn set_verdict<Y: Sysfs>(
         &mut self,

@@ -3,7 +3,7 @@ ghost use Rattle.std.specs.Prelude.{◌≡◌, ◌<◌, ◌-◌, ◌^◌, true, 
 ghost use Rattle.ug_policy.specs.Deciding.{find_decider};
 ghost use Rattle.ug_rule.specs.Files.{file_read};
 ghost use Rattle.ug_table.specs.Allowed.{allowed_records};
-ghost use Rattle.ug_core.specs.Policy.{Judging, asks, by_class, clock_of, context_at, judging_of, policy_answer, policy_later, rules_if, stream_if};
+ghost use Rattle.ug_core.specs.Policy.{Judging, asks, by_class, context_at, judging_of, policy_answer, policy_later, rules_if, stream_if};
 ghost use Rattle.ug_core.specs.Changes.{CanChange, ChangeReads, ChangeSaves, HasRoom, changed_by, is_saved, parameter_at, text_to_save, verdict_edit};
 ghost use Rattle.ug_ruleset.specs.RuleEdits.{EditReads, if_room_for};
 ghost use Rattle.ug_ruleset.specs.RuleFile.{FitsFile, IsSaveable, ReadsBack, permanent_rules, permanent_text};
@@ -14,10 +14,9 @@ ghost use Rattle.ug_ruleset.specs.RuleRows.{rule_rows};
 
 use crate::changes::Change;
 use crate::classes::{Class, Classes, cause_for, keep};
-use jiff::tz::TimeZone;
 use rand_core::Rng;
 use std::alloc::Global;
-use ug_cond::{Allowed, Context, local_second};
+use ug_cond::{Allowed, Context, Zone};
 use ug_conf::Present;
 use ug_parameter::{Parameter, ParameterName};
 use ug_policy::{Mark, RuleList};
@@ -29,10 +28,10 @@ use ug_types::{After, Cause, DeviceRecord, Judged, List, Moment, NoMemory, Query
 
 /// The settings for classes of devices, the rules in order, the local time zone, when devices are judged, and the generator of random words.
 #[derive(Drop)]
-pub struct Policy<'z, R: Rng> {
+pub struct Policy<Z: Zone, R: Rng> {
     classes: Classes,
     rules: KeptRules,
-    zone: TimeZone<'z>,
+    zone: Z,
     ctx: Context,
     rng: R,
 }
@@ -86,25 +85,25 @@ fn judge<R: Rng>(
     }
 }
 
-impl<'z, R: Rng + Drop> Policy<'z, R> {
+impl<Z: Zone + Drop, R: Rng + Drop> Policy<Z, R> {
     /// Drops it, as `KeptRules::discard`.
     pub fn discard(self) {
         self.rules.discard();
     }
 }
 
-impl<'z, R: Rng> Policy<'z, R> {
+impl<Z: Zone, R: Rng> Policy<Z, R> {
     /// These settings and rules, with the clock of that zone and the words of that generator.
-    pub fn new(classes: Classes, list: RuleList, zone: TimeZone<'z>, rng: R) -> Policy<'z, R>
+    pub fn new(classes: Classes, list: RuleList, zone: Z, rng: R) -> Policy<Z, R>
         requires readable { All ReadsBack (rules_in list.entries) }
         requires saves { IsSaveable list.entries }
-        ensures { judging_of R.stream result
+        ensures { judging_of Z.clock R.stream result
             ≡ record {
               classes = classes;
               rules = list.entries;
               next = list.next;
-              clock = clock_of
-                  zone.entry;
+              clock = Z.clock
+                  zone;
               ctx = record { moment = record { 0 = 0 }; second = 0 };
               stream = R.stream
                   rng;
@@ -124,35 +123,35 @@ impl<'z, R: Rng> Policy<'z, R> {
 
     /// Whether an id is left for one rule more.
     pub fn has_id(&self) -> bool
-        ensures { result ≡ nat_lt (judging_of R.stream self.now).next (2 ^ 64 - 1) }
+        ensures { result ≡ nat_lt (judging_of Z.clock R.stream self.now).next (2 ^ 64 - 1) }
     {
         self.rules.next_id() < u64::MAX
     }
 
     /// The id that the next rule gets.
     pub fn next_id(&self) -> u64
-        ensures { result ≡ (judging_of R.stream self.now).next }
+        ensures { result ≡ (judging_of Z.clock R.stream self.now).next }
     {
         self.rules.next_id()
     }
 
     /// Why the rule of that id isn't removed.
     pub fn refuse_removal(&self, id: u64) -> Option<Refusal>
-        ensures { result ≡ if_removed id (judging_of R.stream self.now).rules }
+        ensures { result ≡ if_removed id (judging_of Z.clock R.stream self.now).rules }
     {
         self.rules.refuse_removal(id)
     }
 
     /// Why no rule is put behind that place.
     pub fn refuse_rule(&self, after: After) -> Option<Refusal>
-        ensures { result ≡ if_taken after (judging_of R.stream self.now).rules }
+        ensures { result ≡ if_taken after (judging_of Z.clock R.stream self.now).rules }
     {
         self.rules.refuse_rule(after)
     }
 
     /// Why there is no room for the edit.
     pub fn refuse_edit(&self, edit: &Edit) -> Option<Refusal>
-        ensures { result ≡ if_room_for edit.now (judging_of R.stream self.now).rules }
+        ensures { result ≡ if_room_for edit.now (judging_of Z.clock R.stream self.now).rules }
     {
         self.rules.refuse_edit(edit)
     }
@@ -166,8 +165,10 @@ impl<'z, R: Rng> Policy<'z, R> {
         verdict: Target,
     ) -> Result<Edit, NoMemory>
         ensures edit { IfOk result
-            (λ edit. edit ≡ verdict_edit device.now verdict (judging_of R.stream self.now)) }
-        ensures reads { IfOk result (λ edit. EditReads edit (judging_of R.stream self.now).rules) }
+            (λ edit. edit
+            ≡ verdict_edit device.now verdict (judging_of Z.clock R.stream self.now)) }
+        ensures reads { IfOk result
+            (λ edit. EditReads edit (judging_of Z.clock R.stream self.now).rules) }
     {
         let with_port = self.classes.with_port;
         let rule = generated_rule(alloc, device, verdict, with_port)?;
@@ -183,7 +184,7 @@ impl<'z, R: Rng> Policy<'z, R> {
 
     /// Makes room for the change. A refusal changes nothing.
     pub fn reserve_for(&mut self, change: &Change) -> Result<(), NoMemory>
-        ensures same { judging_of R.stream self.new ≡ judging_of R.stream self.old }
+        ensures same { judging_of Z.clock R.stream self.new ≡ judging_of Z.clock R.stream self.old }
         ensures ok { OnOk result (HasRoom change.now self.new.rules.spare) }
     {
         match change {
@@ -194,14 +195,15 @@ impl<'z, R: Rng> Policy<'z, R> {
 
     /// The text that is saved before the change is in force, if one is.
     pub fn text_after(&self, alloc: Global, change: &Change) -> Result<Option<Text>, RulesTextFault>
-        requires can { CanChange change.now (judging_of R.stream self.now).rules }
-        requires reads { ChangeReads change.now (judging_of R.stream self.now).rules }
+        requires can { CanChange change.now (judging_of Z.clock R.stream self.now).rules }
+        requires reads { ChangeReads change.now (judging_of Z.clock R.stream self.now).rules }
         ensures text { IfOk result
-            (λ text. text ≡ text_to_save change.now (judging_of R.stream self.now)) }
-        ensures saves { OnOk result (ChangeSaves change.now (judging_of R.stream self.now)) }
+            (λ text. text ≡ text_to_save change.now (judging_of Z.clock R.stream self.now)) }
+        ensures saves { OnOk result
+            (ChangeSaves change.now (judging_of Z.clock R.stream self.now)) }
         ensures too_long { result ≡ Err RulesTextFault.TooLong
-            → (is_saved change.now (judging_of R.stream self.now).rules ≡ true)
-            × (FitsFile (changed_by change.now (judging_of R.stream self.now)).rules → ⊥) }
+            → (is_saved change.now (judging_of Z.clock R.stream self.now).rules ≡ true)
+            × (FitsFile (changed_by change.now (judging_of Z.clock R.stream self.now)).rules → ⊥) }
     {
         match change {
             Change::Rules(edit) => self.rules.text_if_saved(alloc, edit),
@@ -211,12 +213,13 @@ impl<'z, R: Rng> Policy<'z, R> {
 
     /// Does the change, for which there is room.
     pub fn change(&mut self, change: Change)
-        requires can { CanChange change (judging_of R.stream self.old).rules }
-        requires reads { ChangeReads change (judging_of R.stream self.old).rules }
+        requires can { CanChange change (judging_of Z.clock R.stream self.old).rules }
+        requires reads { ChangeReads change (judging_of Z.clock R.stream self.old).rules }
         requires room { HasRoom change self.old.rules.spare }
-        requires saves { ChangeSaves change (judging_of R.stream self.old) }
-        requires id { (judging_of R.stream self.old).next < 2 ^ 64 - 1 }
-        ensures { judging_of R.stream self.new ≡ changed_by change (judging_of R.stream self.old) }
+        requires saves { ChangeSaves change (judging_of Z.clock R.stream self.old) }
+        requires id { (judging_of Z.clock R.stream self.old).next < 2 ^ 64 - 1 }
+        ensures { judging_of Z.clock R.stream self.new
+            ≡ changed_by change (judging_of Z.clock R.stream self.old) }
     {
         match change {
             Change::Rules(edit) => self.rules.edit(edit),
@@ -226,7 +229,7 @@ impl<'z, R: Rng> Policy<'z, R> {
 
     /// The setting of that name.
     pub fn parameter(&self, name: ParameterName) -> Parameter
-        ensures { result ≡ parameter_at name (judging_of R.stream self.now).classes }
+        ensures { result ≡ parameter_at name (judging_of Z.clock R.stream self.now).classes }
     {
         self.classes.parameter(name)
     }
@@ -234,9 +237,10 @@ impl<'z, R: Rng> Policy<'z, R> {
     /// The text of a rule file with the permanent rules, which reads as them again.
     pub fn rules_text(&self, alloc: Global) -> Result<Text, NoMemory>
         ensures text { IfOk result
-            (λ text. text ≡ permanent_text (judging_of R.stream self.now).rules) }
+            (λ text. text ≡ permanent_text (judging_of Z.clock R.stream self.now).rules) }
         ensures reads { IfOk result
-            (λ text. file_read text ≡ Ok (permanent_rules (judging_of R.stream self.now).rules)) }
+            (λ text. file_read text
+            ≡ Ok (permanent_rules (judging_of Z.clock R.stream self.now).rules)) }
     {
         self.rules.text(alloc)
     }
@@ -244,16 +248,17 @@ impl<'z, R: Rng> Policy<'z, R> {
     /// The permanent rules read again from the text that is saved of them, for which a rule file has room. The folder's stand before them, and no
     /// two rules have one id.
     pub fn stay_saveable(&self)
-        ensures saves { IsSaveable (judging_of R.stream self.now).rules }
-        ensures numbered { IsNumbered (judging_of R.stream self.now).rules
-            (judging_of R.stream self.now).next }
+        ensures saves { IsSaveable (judging_of Z.clock R.stream self.now).rules }
+        ensures numbered { IsNumbered (judging_of Z.clock R.stream self.now).rules
+            (judging_of Z.clock R.stream self.now).next }
     {
         self.rules.stay_saveable();
     }
 
     /// The rows of a list of the rules.
     pub fn rule_rows(&self, alloc: Global) -> Result<List<Text>, NoMemory>
-        ensures rows { IfOk result (λ rows. rows ≡ rule_rows (judging_of R.stream self.now).rules) }
+        ensures rows { IfOk result
+            (λ rows. rows ≡ rule_rows (judging_of Z.clock R.stream self.now).rules) }
         ensures one_line { IfOk result (λ rows. AreLines rows) }
     {
         self.rules.rows(alloc)
@@ -261,21 +266,21 @@ impl<'z, R: Rng> Policy<'z, R> {
 
     /// The next verdicts are given at that moment.
     pub fn set_moment(&mut self, moment: Moment)
-        ensures { judging_of R.stream self.new
-            ≡ record (judging_of R.stream self.old)
-            { ctx = context_at (judging_of R.stream self.old).clock moment } }
+        ensures { judging_of Z.clock R.stream self.new
+            ≡ record (judging_of Z.clock R.stream self.old)
+            { ctx = context_at (judging_of Z.clock R.stream self.old).clock moment } }
     {
         self.ctx = Context {
             moment,
-            second: local_second(&self.zone, moment),
+            second: self.zone.local_second(moment),
         };
     }
 }
 
-impl<'z, R: Rng> Judge for Policy<'z, R> {
+impl<Z: Zone, R: Rng> Judge for Policy<Z, R> {
     ghost Meaning = { Judging };
 
-    ghost meaning = { judging_of R.stream };
+    ghost meaning = { judging_of Z.clock R.stream };
 
     ghost answer = { policy_answer };
 

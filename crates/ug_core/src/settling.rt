@@ -14,15 +14,16 @@ use crate::policy::Policy;
 use rand_core::Rng;
 use std::alloc::Global;
 use ug_audit::{Auditor, Entry, Journal, Panel};
+use ug_cond::Zone;
 use ug_kernel::{Sysfs, Write};
 use ug_table::Table;
 use ug_types::{List, NodeName};
 
 // Settles all devices, or those of the names that are due.
-fn settle_due<'z, R: Rng, Y: Sysfs>(
+fn settle_due<Z: Zone, R: Rng, Y: Sysfs>(
     alloc: Global,
     table: &mut Table,
-    policy: &mut Policy<'z, R>,
+    policy: &mut Policy<Z, R>,
     due: Option<List<NodeName>>,
     sysfs: &mut Y,
     hub_default: Option<Write>,
@@ -34,24 +35,28 @@ fn settle_due<'z, R: Rng, Y: Sysfs>(
     requires next { table.old.next + 1048576 < 2 ^ 64 }
     ensures runs { Runs Y.gives sysfs.old
         (settling_due due
-        (state_of hub_default table.old (judging_of R.stream policy.old)
+        (state_of hub_default table.old (judging_of Z.clock R.stream policy.old)
         (noted_in out.old).entries))
-        (state_of hub_default table.new (judging_of R.stream policy.new) (noted_in out.new).entries)
+        (state_of hub_default table.new (judging_of Z.clock R.stream policy.new)
+        (noted_in out.new).entries)
         sysfs.new }
     ensures law { SettlesDueIn Y.told due sysfs.old
-        (state_of hub_default table.old (judging_of R.stream policy.old) (noted_in out.old).entries)
+        (state_of hub_default table.old (judging_of Z.clock R.stream policy.old)
+        (noted_in out.old).entries)
         sysfs.new
-        (state_of hub_default table.new (judging_of R.stream policy.new)
+        (state_of hub_default table.new (judging_of Z.clock R.stream policy.new)
         (noted_in out.new).entries) }
     ensures tells { TellsDue Y.gives Y.calls Y.faults due sysfs.old
-        (state_of hub_default table.old (judging_of R.stream policy.old) (noted_in out.old).entries)
+        (state_of hub_default table.old (judging_of Z.clock R.stream policy.old)
+        (noted_in out.old).entries)
         sysfs.new
-        (state_of hub_default table.new (judging_of R.stream policy.new)
+        (state_of hub_default table.new (judging_of Z.clock R.stream policy.new)
         (noted_in out.new).entries) }
     ensures once { NamesOnce Y.told sysfs.old
-        (state_of hub_default table.old (judging_of R.stream policy.old) (noted_in out.old).entries)
+        (state_of hub_default table.old (judging_of Z.clock R.stream policy.old)
+        (noted_in out.old).entries)
         sysfs.new
-        (state_of hub_default table.new (judging_of R.stream policy.new)
+        (state_of hub_default table.new (judging_of Z.clock R.stream policy.new)
         (noted_in out.new).entries) }
     ensures spare { 0 < (noted_in out.new).spare }
     ensures room { 10 * (length table.old.standings + standings_due due) + 64
@@ -75,7 +80,7 @@ fn settle_due<'z, R: Rng, Y: Sysfs>(
     }
 }
 
-impl<'z, R: Rng> Daemon<'z, R> {
+impl<Z: Zone, R: Rng> Daemon<Z, R> {
     // The last stage, and the last entry.
     #[tactic(auto, unfolding(crate::specs::Event::handling), using(ug_kernel::proofs::Runs::runs_then))]
     pub(crate) fn settle<Y: Sysfs>(&mut self, alloc: Global, sysfs: &mut Y, panel: &mut Panel)

@@ -2,7 +2,6 @@
 ghost use Rattle.std.specs.Prelude.{◌≡◌, [], false, All, IfErr, IfOk};
 ghost use Rattle.ug_store.specs.Store.{seen_by};
 ghost use Rattle.ug_core.specs.Event.{daemon_of};
-ghost use Rattle.ug_core.specs.Policy.{clock_of};
 ghost use Rattle.ug_ruleset.specs.RuleFile.{IsSaveable, ReadsBack};
 ghost use Rattle.ug_policy.specs.Rules.{rules_in};
 ghost use Rattle.ug_core.specs.Settings.{classes_of, hub_default};
@@ -16,11 +15,11 @@ use crate::load::load_rules;
 use crate::policy::Policy;
 use crate::report::Report;
 use crate::start_fault::StartFault;
-use jiff::tz::TimeZone;
 use rand_core::Rng;
 use std::alloc::Global;
 use ug_acl::Acl;
 use ug_audit::Entries;
+use ug_cond::Zone;
 use ug_conf::{FolderFile, Settings, discard_files};
 use ug_kernel::Write;
 use ug_policy::RuleList;
@@ -34,27 +33,27 @@ const ROOM: usize = 128;
 
 // What a daemon is started with, beside its rules.
 #[derive(Drop)]
-struct Beside<'z, R> {
+struct Beside<Z, R> {
     classes: Classes,
     hub_default: Option<Write>,
     acl: Acl,
     rng: R,
-    zone: TimeZone<'z>,
+    zone: Z,
     first: u64,
 }
 
-impl<'z, R: Rng + Drop> Beside<'z, R> {
-    fn start(self, alloc: Global, loaded: (Store, RuleList)) -> Result<Daemon<'z, R>, StartFault>
+impl<Z: Zone + Drop, R: Rng + Drop> Beside<Z, R> {
+    fn start(self, alloc: Global, loaded: (Store, RuleList)) -> Result<Daemon<Z, R>, StartFault>
         requires readable { All ReadsBack (rules_in loaded.1.entries) }
         requires saves { IsSaveable loaded.1.entries }
         requires unsaved { loaded.0 ≡ false }
         ensures ok { IfOk result (λ d. StartsWithRules (record {
-          classes = self.entry.classes;
-          hub = self.entry.hub_default;
-          access = self.entry.acl;
-          clock = clock_of self.entry.zone;
-          words = R.stream self.entry.rng;
-          first = self.entry.first;
+          classes = self.classes;
+          hub = self.hub_default;
+          access = self.acl;
+          clock = Z.clock self.zone;
+          words = R.stream self.rng;
+          first = self.first;
         }) loaded (daemon_of d)) }
         ensures err { IfErr result (λ e. e ≡ StartFault.Memory) }
         ensures saveable { IfOk result (λ d. IsSaveable (daemon_of d).sweep.judge.rules) }
@@ -86,7 +85,7 @@ impl<'z, R: Rng + Drop> Beside<'z, R> {
     }
 }
 
-impl<'z, R: Rng + Drop> Daemon<'z, R> {
+impl<Z: Zone + Drop, R: Rng + Drop> Daemon<Z, R> {
     /// A daemon with the rules of the folder's files, in byte order of their names, and then those of the disk's rule file; its first event has
     /// that number. The folder is tried before anything is asked of the disk. It makes the room of an event's entries.
     pub fn start<D: RuleDisk>(
@@ -94,17 +93,17 @@ impl<'z, R: Rng + Drop> Daemon<'z, R> {
         settings: Settings,
         acl: Acl,
         rng: R,
-        zone: TimeZone<'z>,
+        zone: Z,
         first: u64,
         folder: List<FolderFile>,
         disk: &mut D,
-    ) -> Result<Daemon<'z, R>, StartFault>
+    ) -> Result<Daemon<Z, R>, StartFault>
         requires { AreAscending folder }
         ensures starts { Starts D.keeps D.told D.faults (record {
           classes = classes_of settings;
           hub = hub_default settings.default;
           access = acl;
-          clock = clock_of zone.entry;
+          clock = Z.clock zone;
           words = R.stream rng;
           first = first;
         }) folder disk.old (seen_by (λ d. daemon_of d) result) disk.new }

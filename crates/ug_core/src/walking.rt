@@ -5,9 +5,10 @@ ghost use Rattle.ug_table.specs.Order.{IsNextNumbered, StandInOrder};
 
 use crate::daemon::Daemon;
 use rand_core::Rng;
+use ug_cond::Zone;
 use ug_table::Standing;
 
-impl<'z, R: Rng> Daemon<'z, R> {
+impl<Z: Zone, R: Rng> Daemon<Z, R> {
     /// The standing with the least number above that one. From 0 on, it leads to each standing in the order of their numbers.
     pub fn standing_after(&self, number: u64) -> Option<&Standing>
         ensures next { IsNextNumbered (daemon_of self.now).sweep.standings number

@@ -15,7 +15,6 @@ mod rule_file;
 mod seed;
 mod standard_files;
 mod sysfs;
-mod zone;
 
 pub use auditor::WriterAuditor;
 pub use clock::SystemClock;
@@ -26,4 +25,3 @@ pub use rule_file::RuleFile;
 pub use seed::read_seed;
 pub use standard_files::fill_standard_files;
 pub use sysfs::SysfsFolder;
-pub use zone::LocalZone;

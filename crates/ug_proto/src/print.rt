@@ -9,7 +9,7 @@ use crate::reply::Reply;
 use crate::request::Request;
 use itoa::Buffer;
 use std::alloc::Global;
-use ug_refusal::Refusal;
+use ug_refusal::{Refusal, words_of};
 use ug_types::{After, NoMemory, Target, Text};
 
 // Appends the bytes, and tells whether there was memory for them.
@@ -142,7 +142,7 @@ fn put_refusal(out: &mut Vec<u8>, refusal: &Refusal) -> bool
     ensures { result ≡ true → out.new.items ≡ out.old.items
         ++ (refusal_words refusal.now ++ 10 ∷ []) }
 {
-    let words = refusal.words();
+    let words = words_of(refusal);
     put(out, words.bytes()) && put(out, b"\n")
 }
 

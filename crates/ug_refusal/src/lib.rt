@@ -3,4 +3,4 @@
 
 mod refusal;
 
-pub use refusal::Refusal;
+pub use refusal::{Refusal, words_of};

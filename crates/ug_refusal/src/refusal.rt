@@ -97,35 +97,33 @@ fn denied(section: Section, privilege: Privilege) -> Line
     line
 }
 
-impl Refusal {
-    /// The words from `refused` on, without a newline. It takes no memory.
-    #[tactic(auto, unfolding(crate::specs::Refusals::refusal_words))]
-    pub fn words(&self) -> Line
-        ensures text { result ≡ refusal_words self.now }
-        ensures length { length result ≤ 81 }
-    {
-        match self {
-            Refusal::BadRequest { place } => with_number(b"refused 1 bad-request ", *place),
-            Refusal::Denied { section, privilege } => denied(*section, *privilege),
-            Refusal::BadRule { kind, place } => {
-                with_numbers(b"refused 3 bad-rule ", *kind as u64, *place)
-            }
-            Refusal::NoDevice { number } => with_number(b"refused 4 no-device ", *number),
-            Refusal::NoRule { id } => with_number(b"refused 5 no-rule ", *id),
-            Refusal::BadParameter => Line::of(b"refused 6 bad-parameter"),
-            Refusal::BadValue => Line::of(b"refused 7 bad-value"),
-            Refusal::MalformedDevice { number } => {
-                with_number(b"refused 8 malformed-device ", *number)
-            }
-            Refusal::RulesFull => Line::of(b"refused 9 rules-full"),
-            Refusal::StoreFault { count } => with_number(b"refused 10 store-fault ", *count),
-            Refusal::DeviceFault { call, count } => {
-                with_numbers(b"refused 11 device-fault ", *call, *count)
-            }
-            Refusal::Memory { stands: false } => Line::of(b"refused 12 memory 0"),
-            Refusal::Memory { stands: true } => Line::of(b"refused 12 memory 1"),
-            Refusal::ProbeFault { count } => with_number(b"refused 13 probe-fault ", *count),
-            Refusal::FolderRule { id } => with_number(b"refused 14 folder-rule ", *id),
+/// The words from `refused` on, without a newline. It takes no memory.
+#[tactic(auto, unfolding(crate::specs::Refusals::refusal_words))]
+pub fn words_of(refusal: &Refusal) -> Line
+    ensures text { result ≡ refusal_words refusal.now }
+    ensures length { length result ≤ 81 }
+{
+    match refusal {
+        Refusal::BadRequest { place } => with_number(b"refused 1 bad-request ", *place),
+        Refusal::Denied { section, privilege } => denied(*section, *privilege),
+        Refusal::BadRule { kind, place } => {
+            with_numbers(b"refused 3 bad-rule ", *kind as u64, *place)
         }
+        Refusal::NoDevice { number } => with_number(b"refused 4 no-device ", *number),
+        Refusal::NoRule { id } => with_number(b"refused 5 no-rule ", *id),
+        Refusal::BadParameter => Line::of(b"refused 6 bad-parameter"),
+        Refusal::BadValue => Line::of(b"refused 7 bad-value"),
+        Refusal::MalformedDevice { number } => {
+            with_number(b"refused 8 malformed-device ", *number)
+        }
+        Refusal::RulesFull => Line::of(b"refused 9 rules-full"),
+        Refusal::StoreFault { count } => with_number(b"refused 10 store-fault ", *count),
+        Refusal::DeviceFault { call, count } => {
+            with_numbers(b"refused 11 device-fault ", *call, *count)
+        }
+        Refusal::Memory { stands: false } => Line::of(b"refused 12 memory 0"),
+        Refusal::Memory { stands: true } => Line::of(b"refused 12 memory 1"),
+        Refusal::ProbeFault { count } => with_number(b"refused 13 probe-fault ", *count),
+        Refusal::FolderRule { id } => with_number(b"refused 14 folder-rule ", *id),
     }
 }

@@ -31,7 +31,8 @@ use Rattle.ug_steps.specs.declared.step.Step.{Step}
 use Rattle.ug_steps.specs.declared.step.Step.TheVariants.{Setup}
 use Rattle.ug_script.specs.FolderLines.{AreFilesOf, HasLines, rules_in_folder, with_line, with_line_in}
 use Rattle.ug_steps.specs.Grammar.{AsksForRule, HoldsRule}
-use Rattle.ug_script.specs.Setup.{SetupState, no_setup, folder_asked, folder_of, has_rule_room, is_offset, with_draft, one_line_more, everything, granted, beside_of, clock_ahead, seeded, no_seed, given_or, policy_of, setup_rule, conf_asked, access_asked, seed_asked, zone_asked, iface_asked, first_or, with_rules, IsSetup}
+use Rattle.ug_cond.specs.Clocks.{clock_ahead}
+use Rattle.ug_script.specs.Setup.{SetupState, no_setup, folder_asked, folder_of, has_rule_room, is_offset, with_draft, one_line_more, everything, granted, beside_of, seeded, no_seed, given_or, policy_of, setup_rule, conf_asked, access_asked, seed_asked, zone_asked, iface_asked, first_or, with_rules, IsSetup}
 use Rattle.ug_steps.specs.Words.{is_entry}
 use Rattle.ug_script.proofs.Folders.{files_more, lines_more, no_files, no_lines}
 

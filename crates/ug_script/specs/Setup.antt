@@ -1,6 +1,5 @@
 -- What a script's setup lines give, and the policy that a daemon starts with then.
-use Rattle.std.specs.Prelude.{◌≡◌, ℕ, ◌+◌, nat_le, ℤ, pos, neg_ℤ, ◌+ℤ◌, int_le, unsigned_abs, replicate, Bool, false, is_none, ◌&&◌, nat_lt, if◌then◌else◌, List, [], ◌∷◌, ◌++◌, length, drop, map, flat_map, Option, Some, None, Result, Ok, Err}
-use Rattle.std.specs.Int.{int_rem_euclid}
+use Rattle.std.specs.Prelude.{◌≡◌, ℕ, ◌+◌, nat_le, ℤ, pos, neg_ℤ, int_le, replicate, Bool, false, is_none, ◌&&◌, nat_lt, if◌then◌else◌, List, [], ◌∷◌, ◌++◌, length, drop, map, flat_map, Option, Some, None, Result, Ok, Err}
 use Rattle.std.specs.List.{filter}
 use Rattle.ug_types.specs.Limits.{text_limit}
 use Rattle.rand_chacha.specs.ChaCha.{next_word, of_seed}
@@ -12,6 +11,7 @@ use Rattle.ug_types.specs.declared.rule.Rule as types
 use Rattle.ug_acl.specs.Acls.{Addition, addition}
 use Rattle.ug_acl.specs.Pairs.{all_pairs}
 use Rattle.ug_iface.specs.declared.rules.IfaceRule as iface
+use Rattle.ug_cond.specs.Clocks.{clock_ahead}
 use Rattle.ug_conf.specs.Faults.{SettingFault}
 use Rattle.ug_conf.specs.Settings.{defaults}
 use Rattle.ug_conf.specs.Draft.{Draft, draft_of, setting_line_read}
@@ -113,10 +113,6 @@ Adds wanted (Err Bad) before after = (wanted ≡ None) × (after ≡ before)
 Adds wanted (Err Memory) before after = Unit {0}
 
 -- ---- the policy
-
--- the second of the day on a clock that is so many seconds ahead of UTC
-abbrev pub clock_ahead : ℤ → ℕ → ℕ
-clock_ahead offset second = unsigned_abs (int_rem_euclid (pos second +ℤ offset) (pos 86400))
 
 -- the words of ChaCha20 from that seed of 32 bytes
 abbrev pub seeded : List ℕ → Stream

@@ -9,6 +9,7 @@ ghost use Rattle.std.specs.List.{list_any};
 use crate::pass_lines::{pass_begins, pass_ends, push_device};
 use rand_chacha::ChaCha20Rng;
 use std::alloc::Global;
+use ug_cond::FixedZone;
 use ug_core::Daemon;
 use ug_iface::{IfaceEntry, IfaceRule, Passed, settle_ifaces};
 use ug_sysfs::SimKernel;
@@ -90,7 +91,7 @@ fn pass_standing(
 /// The same of each standing, by number.
 fn pass_standings(
     alloc: Global,
-    daemon: &Daemon<'static, ChaCha20Rng>,
+    daemon: &Daemon<FixedZone, ChaCha20Rng>,
     rules: &[IfaceRule],
     kernel: &mut SimKernel,
     text: &mut Vec<u8>,
@@ -110,7 +111,7 @@ fn pass_standings(
 /// The pass behind the daemon's last event, and its text. Where there are no rules it does nothing.
 pub fn pass_behind(
     alloc: Global,
-    daemon: &Daemon<'static, ChaCha20Rng>,
+    daemon: &Daemon<FixedZone, ChaCha20Rng>,
     rules: &[IfaceRule],
     kernel: &mut SimKernel,
 ) -> Result<Vec<u8>, NoMemory>

@@ -3,6 +3,7 @@ ghost use Rattle.ug_core.specs.Event.{daemon_of};
 ghost use Rattle.ug_script.specs.RuleFiles.{HasFolder, StaysReadable};
 
 use rand_chacha::ChaCha20Rng;
+use ug_cond::FixedZone;
 use ug_core::Daemon;
 use ug_store::MemDisk;
 
@@ -10,7 +11,7 @@ use ug_store::MemDisk;
 /// starts with it.
 #[derive(Drop)]
 pub struct Session {
-    pub daemon: Daemon<'static, ChaCha20Rng>,
+    pub daemon: Daemon<FixedZone, ChaCha20Rng>,
     pub before: usize,
     pub disk: MemDisk,
     ghost file: { StaysReadable before disk },

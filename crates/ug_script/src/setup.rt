@@ -38,8 +38,8 @@ impl Setup {
 }
 
 impl Model for Setup {
-    ghost use Rattle.std.specs.Prelude.{IfSome, IsTrue, ◌+◌, ◌≤◌, length};
-    ghost use Rattle.ug_script.specs.Setup.{SetupState, is_offset};
+    ghost use Rattle.std.specs.Prelude.{◌+◌, ◌≤◌, length};
+    ghost use Rattle.ug_script.specs.Setup.{SetupState};
 
     ghost Value = { SetupState };
 
@@ -53,10 +53,7 @@ impl Model for Setup {
       ifaces = s.ifaces.items;
     } };
 
-    ghost invariant = { λ s. record {
-      offset : IfSome s.zone (λ offset. IsTrue (is_offset offset));
-      few : s.folder.count + length s.rules ≤ 65536;
-    } };
+    ghost invariant = { λ s. record { few : s.folder.count + length s.rules ≤ 65536 } };
 }
 
 fn is_offset(seconds: i32) -> bool

@@ -1,25 +1,24 @@
 // The daemons that a script starts.
-ghost use Rattle.std.specs.Prelude.{◌≡◌, ◌+◌, ◌≤◌, length, pos, true, false, Err, Ok, IfOk, IfSome, IsTrue, OnErr, OnOk};
+ghost use Rattle.std.specs.Prelude.{◌≡◌, ◌+◌, ◌≤◌, length, pos, true, false, Err, Ok, IfOk, OnErr, OnOk};
 ghost use Rattle.ug_command_io.specs.Fold.{BadLine, InputTooLong};
 ghost use Rattle.ug_ruleset.specs.RuleFile.{CanSave, IsSaveable};
 ghost use Rattle.ug_script.specs.RuleFiles.{HasFolder, IsStillOn};
 ghost use Rattle.ug_core.specs.Event.{daemon_of};
-ghost use Rattle.ug_core.specs.Policy.{clock_of};
 ghost use Rattle.ug_core.specs.Settings.{classes_of, hub_default};
 ghost use Rattle.ug_rule.specs.Files.{file_read};
 ghost use Rattle.ug_store.specs.Scripted.{world_at_first};
 ghost use Rattle.ug_print.specs.RuleTexts.{rules_text_of};
 ghost use Rattle.ug_script.specs.Script.{IsStartedBy, fits_file, fits_folder, fits_rules, no_start_of};
-ghost use Rattle.ug_script.specs.Setup.{StartsOn, after_reading, beside_of, clock_ahead, given_or, is_offset, no_seed, policy_of, rules_disk, rules_from, first_started};
+ghost use Rattle.ug_script.specs.Setup.{StartsOn, after_reading, beside_of, given_or, no_seed, policy_of, rules_disk, rules_from, first_started};
 
 use crate::access::access_of;
 use crate::session::Session;
 use crate::setup::Setup;
-use jiff::tz::{Offset, TimeZone};
 use rand_chacha::ChaCha20Rng;
 use rand_core::{Rng, SeedableRng};
 use std::alloc::Global;
 use std::mem::replace;
+use ug_cond::{FixedZone, Zone};
 use ug_conf::{Settings, default_settings};
 use ug_core::{Daemon, StartFault};
 use ug_policy::MAX_RULES;
@@ -48,24 +47,13 @@ impl From<NoMemory> for NoStart {
     }
 }
 
-/// The zone whose clocks are always so many seconds ahead of UTC, less than a day.
-fn zone_ahead(seconds: i32) -> TimeZone<'static>
-    requires { IsTrue (is_offset seconds) }
-    ensures { clock_of result ≡ clock_ahead seconds }
-{
-    match Offset::from_seconds(seconds) {
-        Ok(offset) => TimeZone::fixed(offset),
-        Err(_) => unreachable!(),
-    }
-}
-
-fn zone_of(zone: Option<i32>) -> TimeZone<'static>
-    requires { IfSome zone (λ seconds. IsTrue (is_offset seconds)) }
-    ensures { clock_of result ≡ clock_ahead (given_or (pos 0) zone) }
+/// The zone of the line, or UTC.
+fn zone_of(zone: Option<i32>) -> FixedZone
+    ensures { result.ahead ≡ given_or (pos 0) zone }
 {
     match zone {
-        Some(seconds) => zone_ahead(seconds),
-        None => zone_ahead(0),
+        Some(ahead) => FixedZone { ahead },
+        None => FixedZone { ahead: 0 },
     }
 }
 
@@ -78,8 +66,8 @@ fn seed_of(seed: Option<[u8; 32]>) -> [u8; 32]
     }
 }
 
-fn zone_for(setup: &Setup) -> TimeZone<'static>
-    ensures { clock_of result ≡ (policy_of setup.now).clock }
+fn zone_for(setup: &Setup) -> FixedZone
+    ensures { ⟦<FixedZone as Zone>⟧.clock result ≡ (policy_of setup.now).clock }
 {
     zone_of(setup.zone)
 }
@@ -150,7 +138,7 @@ fn start_on(
     setup: &Setup,
     first: u64,
     disk: &mut MemDisk,
-) -> Result<Daemon<'static, ChaCha20Rng>, NoStart>
+) -> Result<Daemon<FixedZone, ChaCha20Rng>, NoStart>
     ensures started { IfOk result (λ daemon. StartsOn setup.now first disk.old (daemon_of daemon)) }
     ensures fits { OnOk result (fits_folder setup.now ≡ true) }
     ensures folder { IfOk result (λ daemon. HasFolder setup.now.folder.count (daemon_of daemon)) }

@@ -8,8 +8,9 @@ ghost use Rattle.ug_script.specs.Replay.{terminated, lines_text};
 
 use crate::quoting::push_reply;
 use std::alloc::Global;
+use ug_audit::line_of;
 use ug_command_io::Ran;
-use ug_core::{Entry, Fault, Report, line_of};
+use ug_core::{Entry, Fault, Report};
 use ug_refusal::Refusal;
 use ug_types::{Line, NoMemory, Put, Saved, Sink};
 

@@ -3,7 +3,6 @@ ghost use Rattle.std.specs.Prelude.{◌≡◌, ◌⊎◌, ◌<◌, ◌^◌, List
 ghost use Rattle.ug_types.specs.Elements.{Has};
 ghost use Rattle.ug_types.specs.Ends.{Rose};
 ghost use Rattle.ug_audit.specs.Journal.{members};
-ghost use Rattle.ug_core.specs.Policy.{clock_of};
 ghost use Rattle.ug_core.specs.Event.{daemon_of};
 ghost use Rattle.ug_serve.specs.Opening.{started, words_of_seed};
 ghost use Rattle.ug_serve.specs.Turns.{Turned};
@@ -17,10 +16,10 @@ use crate::not_started::NotStarted;
 use crate::noting::note_refusal;
 use crate::start::{Started, start};
 use crate::turn::{TurnEnd, serve_turns};
-use jiff::tz::TimeZone;
 use std::alloc::Global;
 use ug_arguments::{WordsFault, read_daemon_words};
 use ug_audit::{Auditor, Panel};
+use ug_cond::Zone;
 use ug_conf::ConfFiles;
 use ug_kernel::Sysfs;
 use ug_links::{Clock, Links, Waiter};
@@ -38,9 +37,9 @@ fn status_of(end: TurnEnd) -> u8
 }
 
 /// The turns of a daemon that started, once its links listen for those that it is open to.
-fn serve_started<Y: Sysfs, D: RuleDisk, N: Links, W: Waiter, C: Clock>(
+fn serve_started<Z: Zone + Drop, Y: Sysfs, D: RuleDisk, N: Links, W: Waiter, C: Clock>(
     alloc: Global,
-    first: Started<'_>,
+    first: Started<Z>,
     sysfs: &mut Y,
     disk: &mut D,
     links: &mut N,
@@ -52,7 +51,7 @@ fn serve_started<Y: Sysfs, D: RuleDisk, N: Links, W: Waiter, C: Clock>(
     requires { length first.principals < 2 ^ 32 }
     ensures serves { (sockets : AtSockets) × (made : List Turned)
         × ServesStarted Y.Sysfs D.RuleDisk N.Links W.Waiter C.Clock turns
-        (started first.entry.principals (daemon_of first.entry.daemon))
+        (started first.principals (daemon_of first.daemon))
         (objects sysfs.old disk.old links.old waiter.old clock.old
         (members (λ b. ⟦<dyn Auditor as Auditor>⟧ b.vtable) panel.old)) sockets made result
         (objects sysfs.new disk.new links.new waiter.new clock.new
@@ -91,11 +90,11 @@ fn serve_started<Y: Sysfs, D: RuleDisk, N: Links, W: Waiter, C: Clock>(
 }
 
 /// The daemon with the settings at that path.
-fn serve<Y: Sysfs, D: RuleDisk, F: ConfFiles, N: Links, W: Waiter, C: Clock>(
+fn serve<Z: Zone + Drop, Y: Sysfs, D: RuleDisk, F: ConfFiles, N: Links, W: Waiter, C: Clock>(
     alloc: Global,
     path: &[u8],
     seed: [u8; 32],
-    zone: TimeZone<'_>,
+    zone: Z,
     sysfs: &mut Y,
     disk: &mut D,
     files: &mut F,
@@ -106,7 +105,7 @@ fn serve<Y: Sysfs, D: RuleDisk, F: ConfFiles, N: Links, W: Waiter, C: Clock>(
     turns: u64,
 ) -> u8
     ensures runs { RunsDaemon F.gives Y.Sysfs D.RuleDisk N.Links W.Waiter C.Clock turns
-        (clock_of zone.entry) (words_of_seed seed)
+        (Z.clock zone) (words_of_seed seed)
         files.old (objects sysfs.old disk.old links.old waiter.old clock.old
         (members (λ b. ⟦<dyn Auditor as Auditor>⟧ b.vtable) panel.old))
         (Some path.now) result
@@ -135,11 +134,19 @@ fn serve<Y: Sysfs, D: RuleDisk, F: ConfFiles, N: Links, W: Waiter, C: Clock>(
 /// status is 0; 1 for other words; 3 where the settings' file is absent, or settings, access files or rules aren't taken; 4 where a file of
 /// the configuration couldn't be read; 6 for want of memory before the first turn; 9 where the rule file couldn't be read; 10 where the
 /// numbers leave no room for an event; 11 where a listener couldn't be had, or a wait failed. The auditors are given the journal.
-pub fn run_daemon<Y: Sysfs, D: RuleDisk, F: ConfFiles, N: Links, W: Waiter, C: Clock>(
+pub fn run_daemon<
+    Z: Zone + Drop,
+    Y: Sysfs,
+    D: RuleDisk,
+    F: ConfFiles,
+    N: Links,
+    W: Waiter,
+    C: Clock,
+>(
     alloc: Global,
     words: &[&str],
     seed: [u8; 32],
-    zone: TimeZone<'_>,
+    zone: Z,
     sysfs: &mut Y,
     disk: &mut D,
     files: &mut F,
@@ -150,7 +157,7 @@ pub fn run_daemon<Y: Sysfs, D: RuleDisk, F: ConfFiles, N: Links, W: Waiter, C: C
     turns: u64,
 ) -> u8
     ensures runs { RunsDaemon F.gives Y.Sysfs D.RuleDisk N.Links W.Waiter C.Clock turns
-        (clock_of zone.entry) (words_of_seed seed)
+        (Z.clock zone) (words_of_seed seed)
         files.old (objects sysfs.old disk.old links.old waiter.old clock.old
         (members (λ b. ⟦<dyn Auditor as Auditor>⟧ b.vtable) panel.old))
         (settings_path (map (λ word. word.now) words.now)) result

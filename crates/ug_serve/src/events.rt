@@ -10,6 +10,7 @@ use crate::respond::{notify_of_event, respond};
 use rand_chacha::ChaCha20Rng;
 use std::alloc::Global;
 use ug_audit::{Auditor, Panel};
+use ug_cond::Zone;
 use ug_core::Daemon;
 use ug_kernel::Sysfs;
 use ug_links::LinkId;
@@ -18,8 +19,8 @@ use ug_store::RuleDisk;
 use ug_types::{Event, Moment};
 
 /// Whether the numbers leave room for an event.
-pub fn has_room<Y: Sysfs, D: RuleDisk>(
-    daemon: &Daemon<'_, ChaCha20Rng>,
+pub fn has_room<Z: Zone, Y: Sysfs, D: RuleDisk>(
+    daemon: &Daemon<Z, ChaCha20Rng>,
     sysfs: &Y,
     disk: &D,
 ) -> bool
@@ -29,11 +30,11 @@ pub fn has_room<Y: Sysfs, D: RuleDisk>(
 }
 
 // Handles the order of that session, and puts what it comes to to the sessions.
-fn serve_order<Y: Sysfs, D: RuleDisk>(
+fn serve_order<Z: Zone, Y: Sysfs, D: RuleDisk>(
     alloc: Global,
     id: LinkId,
     order: &Event,
-    daemon: &mut Daemon<'_, ChaCha20Rng>,
+    daemon: &mut Daemon<Z, ChaCha20Rng>,
     server: &mut Server,
     sysfs: &mut Y,
     disk: &mut D,
@@ -55,10 +56,10 @@ fn serve_order<Y: Sysfs, D: RuleDisk>(
 }
 
 // Handles an order for each request until none is left, and tells whether the numbers left room for each.
-fn serve_orders<Y: Sysfs, D: RuleDisk>(
+fn serve_orders<Z: Zone, Y: Sysfs, D: RuleDisk>(
     alloc: Global,
     moment: Moment,
-    daemon: &mut Daemon<'_, ChaCha20Rng>,
+    daemon: &mut Daemon<Z, ChaCha20Rng>,
     server: &mut Server,
     sysfs: &mut Y,
     disk: &mut D,
@@ -94,10 +95,10 @@ fn serve_orders<Y: Sysfs, D: RuleDisk>(
 }
 
 /// Handles an order for each request in turn, or one sweep where there is no request. Tells whether the numbers left room for each.
-pub fn serve_events<Y: Sysfs, D: RuleDisk>(
+pub fn serve_events<Z: Zone, Y: Sysfs, D: RuleDisk>(
     alloc: Global,
     moment: Moment,
-    daemon: &mut Daemon<'_, ChaCha20Rng>,
+    daemon: &mut Daemon<Z, ChaCha20Rng>,
     server: &mut Server,
     sysfs: &mut Y,
     disk: &mut D,

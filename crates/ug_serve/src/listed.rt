@@ -5,7 +5,7 @@ ghost use Rattle.ug_types.specs.Principals.{principal_text};
 ghost use Rattle.ug_serve.specs.Access.{AreListed, AreOnce, IsInByteOrder, with_new};
 
 use std::alloc::Global;
-use ug_types::{List, NoMemory, Principal};
+use ug_types::{Line, List, NoMemory, Principal};
 
 fn push_new(principals: &mut Vec<Principal>, who: &Principal) -> Result<(), NoMemory>
     ensures { OnOk result (principals.new.items ≡ with_new who.now principals.old.items) }
@@ -32,7 +32,7 @@ fn sort(principals: Vec<Principal>) -> List<Principal>
     ensures in_order { IsInByteOrder principal_text result }
 {
     let mut principals = principals;
-    principals.sort_unstable_by(|a, b| a.text().bytes().cmp(b.text().bytes()));
+    principals.sort_unstable_by(|a, b| Line::naming(a).bytes().cmp(Line::naming(b).bytes()));
     List::from_vec(principals)
 }
 

@@ -9,6 +9,7 @@ use rand_chacha::ChaCha20Rng;
 use std::alloc::Global;
 use ug_acl::Acl;
 use ug_audit::{Entry, line_of};
+use ug_cond::Zone;
 use ug_core::Daemon;
 use ug_links::LinkId;
 use ug_proto::{Reply, print_reply};
@@ -59,7 +60,7 @@ fn notify_of_all(server: &mut Server, acl: &Acl, entries: &[Entry])
 }
 
 /// Puts the notices of the last event.
-pub fn notify_of_event(server: &mut Server, daemon: &Daemon<'_, ChaCha20Rng>)
+pub fn notify_of_event<Z: Zone>(server: &mut Server, daemon: &Daemon<Z, ChaCha20Rng>)
     ensures { ChangesSessions (Notifies (daemon_of daemon.now).access
         daemon.now.report.entries.entries) server.old server.new }
 {
@@ -88,7 +89,12 @@ fn watch_if(server: &mut Server, id: LinkId, granted: bool)
 }
 
 /// Answers the order of that session, marks the session where it is to get notices, and puts the notices.
-pub fn respond(alloc: Global, server: &mut Server, id: LinkId, daemon: &Daemon<'_, ChaCha20Rng>)
+pub fn respond<Z: Zone>(
+    alloc: Global,
+    server: &mut Server,
+    id: LinkId,
+    daemon: &Daemon<Z, ChaCha20Rng>,
+)
     ensures { ChangesSessions (Responds id (daemon_of daemon.now) daemon.now.report.entries.entries)
         server.old server.new }
 {

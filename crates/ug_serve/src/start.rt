@@ -6,7 +6,6 @@ ghost use Rattle.ug_audit.specs.Journal.{members};
 ghost use Rattle.ug_audit.specs.Noting.{NotesStart};
 ghost use Rattle.ug_audit.specs.declared.start_entry.StartEntry.{StartEntry};
 ghost use Rattle.ug_core.specs.Event.{daemon_of};
-ghost use Rattle.ug_core.specs.Policy.{clock_of};
 ghost use Rattle.ug_core.specs.Starting.{AreAscending, Starts};
 ghost use Rattle.ug_serve.specs.Opening.{Opens, StartsDaemon, outset_of, started, words_of_seed};
 ghost use Rattle.ug_serve.specs.declared.not_started.NotStarted.TheVariants.{FilesFailed, DiskFailed};
@@ -16,12 +15,12 @@ use crate::folder::read_folder;
 use crate::not_started::NotStarted;
 use crate::noting::note_unused;
 use crate::settings::read_settings;
-use jiff::tz::TimeZone;
 use rand_chacha::ChaCha20Rng;
 use rand_core::SeedableRng;
 use std::alloc::Global;
 use ug_acl::Acl;
 use ug_audit::{Auditor, Panel};
+use ug_cond::Zone;
 use ug_conf::{ConfFiles, FolderFile, Settings};
 use ug_core::{Daemon, StartFault};
 use ug_store::RuleDisk;
@@ -29,8 +28,8 @@ use ug_types::{List, NoMemory, Principal, Text};
 
 /// A daemon that started, and those that it is open to.
 #[derive(Drop)]
-pub struct Started<'z> {
-    pub daemon: Daemon<'z, ChaCha20Rng>,
+pub struct Started<Z: Zone> {
+    pub daemon: Daemon<Z, ChaCha20Rng>,
     pub principals: List<Principal>,
 }
 
@@ -46,18 +45,18 @@ fn names_of(alloc: Global, files: &[FolderFile]) -> Result<List<Text>, NoMemory>
 }
 
 /// Starts a daemon from the files of the folder of rules and the disk's rule file.
-fn start_from<'z, D: RuleDisk>(
+fn start_from<Z: Zone + Drop, D: RuleDisk>(
     alloc: Global,
     settings: Settings,
     acl: Acl,
     seed: [u8; 32],
-    zone: TimeZone<'z>,
+    zone: Z,
     folder: List<FolderFile>,
     disk: &mut D,
-) -> Result<Daemon<'z, ChaCha20Rng>, StartFault>
+) -> Result<Daemon<Z, ChaCha20Rng>, StartFault>
     requires { AreAscending folder }
     ensures starts { Starts D.keeps D.told D.faults
-        (outset_of settings acl (clock_of zone.entry) (words_of_seed seed)) folder
+        (outset_of settings acl (Z.clock zone) (words_of_seed seed)) folder
         disk.old (seen_by (λ d. daemon_of d) result) disk.new }
 {
     let rng = ChaCha20Rng::from_seed(seed);
@@ -65,18 +64,18 @@ fn start_from<'z, D: RuleDisk>(
 }
 
 /// The same, with the part that isn't taken where it is refused.
-fn start_daemon<'z, D: RuleDisk>(
+fn start_daemon<Z: Zone + Drop, D: RuleDisk>(
     alloc: Global,
     settings: Settings,
     acl: Acl,
     seed: [u8; 32],
-    zone: TimeZone<'z>,
+    zone: Z,
     folder: List<FolderFile>,
     disk: &mut D,
-) -> Result<Daemon<'z, ChaCha20Rng>, NotStarted>
+) -> Result<Daemon<Z, ChaCha20Rng>, NotStarted>
     requires { AreAscending folder }
     ensures starts { StartsDaemon D.RuleDisk
-        (outset_of settings acl (clock_of zone.entry) (words_of_seed seed)) folder
+        (outset_of settings acl (Z.clock zone) (words_of_seed seed)) folder
         disk.old (seen_by (λ d. daemon_of d) result) disk.new }
     ensures not_files { ¬ (result ≡ Err FilesFailed) }
     ensures cause { result ≡ Err DiskFailed → Rose (D.faults disk.old) (D.faults disk.new) }
@@ -90,18 +89,18 @@ fn start_daemon<'z, D: RuleDisk>(
 
 /// Reads the settings at that path, and starts a daemon from the folder of rules and the rule file that they name. The auditors note the
 /// start's entries, but for that of a part that isn't taken.
-pub fn start<'z, F: ConfFiles, D: RuleDisk>(
+pub fn start<Z: Zone + Drop, F: ConfFiles, D: RuleDisk>(
     alloc: Global,
     path: &[u8],
     seed: [u8; 32],
-    zone: TimeZone<'z>,
+    zone: Z,
     disk: &mut D,
     files: &mut F,
     panel: &mut Panel,
-) -> Result<Started<'z>, NotStarted>
+) -> Result<Started<Z>, NotStarted>
     ensures few { IfOk result (λ s. length s.principals < 2 ^ 32) }
     ensures starts { (told : List StartEntry)
-        × Opens F.gives D.RuleDisk path.now (clock_of zone.entry) (words_of_seed seed)
+        × Opens F.gives D.RuleDisk path.now (Z.clock zone) (words_of_seed seed)
         files.old disk.old told (seen_by (λ s. started s.principals (daemon_of s.daemon)) result)
         files.new disk.new
         × NotesStart told (members (λ b. ⟦<dyn Auditor as Auditor>⟧ b.vtable) panel.old)

@@ -9,6 +9,7 @@ use crate::events::{has_room, serve_events};
 use rand_chacha::ChaCha20Rng;
 use std::alloc::Global;
 use ug_audit::{Auditor, Panel};
+use ug_cond::Zone;
 use ug_core::Daemon;
 use ug_kernel::Sysfs;
 use ug_links::{Clock, Links, Ready, Waiter, Woken};
@@ -26,9 +27,9 @@ pub enum TurnEnd {
 
 /// One turn: it waits, takes the moment, accepts and reads, handles an order for each request or else one sweep, and sends. The auditors
 /// note an event's entries while it goes on. Where the numbers leave no room for an event, the turn ends there.
-pub fn serve_turn<Y: Sysfs, D: RuleDisk, N: Links, W: Waiter, C: Clock>(
+pub fn serve_turn<Z: Zone, Y: Sysfs, D: RuleDisk, N: Links, W: Waiter, C: Clock>(
     alloc: Global,
-    daemon: &mut Daemon<'_, ChaCha20Rng>,
+    daemon: &mut Daemon<Z, ChaCha20Rng>,
     server: &mut Server,
     sysfs: &mut Y,
     disk: &mut D,
@@ -66,10 +67,10 @@ pub fn serve_turn<Y: Sysfs, D: RuleDisk, N: Links, W: Waiter, C: Clock>(
 }
 
 /// Turns one after another, until that many are made, or one can't be.
-pub fn serve_turns<Y: Sysfs, D: RuleDisk, N: Links, W: Waiter, C: Clock>(
+pub fn serve_turns<Z: Zone, Y: Sysfs, D: RuleDisk, N: Links, W: Waiter, C: Clock>(
     alloc: Global,
     turns: u64,
-    daemon: &mut Daemon<'_, ChaCha20Rng>,
+    daemon: &mut Daemon<Z, ChaCha20Rng>,
     server: &mut Server,
     sysfs: &mut Y,
     disk: &mut D,

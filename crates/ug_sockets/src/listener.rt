@@ -16,7 +16,7 @@ use std::rt::Files;
 use std::str;
 use ug_files::{FileFault, tell_failed};
 use ug_links::Ready;
-use ug_types::Principal;
+use ug_types::{Line, Principal};
 
 #[derive(Drop)]
 pub struct Listener {
@@ -64,7 +64,7 @@ impl Listener {
     pub fn is_roots(&self) -> bool
         ensures { result ≡ pointwise nat_eq (principal_text self.now.principal) (codes "root") }
     {
-        self.principal.text().bytes() == b"root".as_slice()
+        Line::naming(&self.principal).bytes() == b"root".as_slice()
     }
 
     /// Has the next wait tell whether somebody waits.
@@ -124,7 +124,7 @@ pub fn path_of(alloc: Global, folder: &str, principal: &Principal) -> Result<Str
     ensures { IfOk result (λ path. string_bytes path
         ≡ socket_path folder.now (principal_text principal.now)) }
 {
-    let text = principal.text();
+    let text = Line::naming(principal);
     let Ok(name) = str::from_utf8(text.bytes()) else {
         return Err(FileFault::Failed);
     };

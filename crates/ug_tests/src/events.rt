@@ -1,32 +1,32 @@
 // A daemon starts from a rule file.
 use crate::devices::hub_and_key;
-use jiff::tz::TimeZone;
 use rand_chacha::ChaCha20Rng;
 use rand_core::SeedableRng;
 use std::alloc::Global;
 use ug_acl::Acl;
-use ug_audit::Panel;
+use ug_audit::{Panel, line_of};
+use ug_cond::FixedZone;
 use ug_conf::default_settings;
-use ug_core::{Daemon, StartFault, line_of};
+use ug_core::{Daemon, StartFault};
 use ug_store::{MemDisk, RuleDisk};
 use ug_sysfs::{SimKernel, Sysfs};
 use ug_types::{Event, List, Moment};
 
 // Settings by default, nobody may do anything, the clock of UTC, and a seed of zeros.
-fn start(alloc: Global, disk: &mut MemDisk) -> Result<Daemon<'static, ChaCha20Rng>, StartFault> {
+fn start(alloc: Global, disk: &mut MemDisk) -> Result<Daemon<FixedZone, ChaCha20Rng>, StartFault> {
     let Ok(settings) = default_settings(alloc) else {
         return Err(StartFault::Memory);
     };
     let rng = ChaCha20Rng::from_seed([0; 32]);
     let acl = Acl::new(alloc);
     let folder = List::new(alloc);
-    Daemon::start(alloc, settings, acl, rng, TimeZone::UTC, 7, folder, disk)
+    Daemon::start(alloc, settings, acl, rng, FixedZone::UTC, 7, folder, disk)
 }
 
 // Handles a sweep, before a panel without members.
 fn sweeps(
     alloc: Global,
-    daemon: &mut Daemon<'static, ChaCha20Rng>,
+    daemon: &mut Daemon<FixedZone, ChaCha20Rng>,
     kernel: &mut SimKernel,
     disk: &mut MemDisk,
 ) -> bool {
@@ -39,7 +39,7 @@ fn sweeps(
     true
 }
 
-fn notes(daemon: &Daemon<'static, ChaCha20Rng>, lines: &[&[u8]]) -> bool {
+fn notes(daemon: &Daemon<FixedZone, ChaCha20Rng>, lines: &[&[u8]]) -> bool {
     let entries = daemon.report().entries.as_slice();
     let same = entries
         .iter()

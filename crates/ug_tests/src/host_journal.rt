@@ -1,10 +1,12 @@
 // A journal's output, the zone and the seed of this machine.
 use crate::folders::{holds, make_folder, put, remove_folder};
-use jiff::Timestamp;
 use std::fs;
 use std::fs::{File, OpenOptions};
 use ug_audit::{Auditor, Noted};
-use ug_host::{LocalZone, WriterAuditor, read_seed};
+use ug_cond::Zone;
+use ug_host::{WriterAuditor, read_seed};
+use ug_types::Moment;
+use ug_zone::LocalZone;
 
 const JOURNAL: &str = "out/journal/lines";
 
@@ -46,20 +48,20 @@ const ONE_HOUR_AHEAD: &[u8] =
 
 const ZONE: &str = "out/zone/localtime";
 
-// Whether a clock in the zone of that file has that hour when it is midnight in UTC.
-fn is_hour(rt: &HostRuntime, hour: i8) -> bool {
+// Whether a clock in the zone of that file shows that second of the day when it is midnight in UTC.
+fn shows(rt: &HostRuntime, second: u32) -> bool {
     let zone = LocalZone::read(rt, rt.alloc(), ZONE);
-    zone.time_zone().to_datetime(Timestamp::UNIX_EPOCH).hour() == hour
+    zone.civil().local_second(Moment(0)) == second
 }
 
 #[test]
 fn the_zone_of_a_file(rt: HostRuntime) {
     assert!(rt; make_folder(&rt, "out/zone"));
-    assert!(rt; is_hour(&rt, 0));
+    assert!(rt; shows(&rt, 0));
     assert!(rt; put(&rt, ZONE, ONE_HOUR_AHEAD));
-    assert!(rt; is_hour(&rt, 1));
+    assert!(rt; shows(&rt, 3600));
     assert!(rt; put(&rt, ZONE, b"Europe/Vienna\n"));
-    assert!(rt; is_hour(&rt, 0));
+    assert!(rt; shows(&rt, 0));
     assert!(rt; remove_folder(&rt, "out/zone"));
 }
 

@@ -2,10 +2,10 @@
 use crate::audit::{panel, took};
 use crate::devices::hub_and_key;
 use crate::turns::{clock, one, peer, was_sent};
-use jiff::tz::TimeZone;
 use std::alloc::Global;
 use std::collections::VecDeque;
 use ug_audit::Panel;
+use ug_cond::FixedZone;
 use ug_conf::{MemFile, MemFiles, MemFolder};
 use ug_kernel::Sysfs;
 use ug_links::{Arrival, ListClock, ListWaiter, ListenItem, MemLinks, Script};
@@ -72,7 +72,7 @@ pub fn run_over<Y: Sysfs>(
         alloc,
         words,
         [0; 32],
-        TimeZone::UTC,
+        FixedZone::UTC,
         kernel,
         &mut given.disk,
         files,

@@ -1,12 +1,12 @@
 // Turns of the daemon over sockets in memory.
 use crate::devices::hub_and_key;
-use jiff::tz::TimeZone;
 use rand_chacha::ChaCha20Rng;
 use rand_core::SeedableRng;
 use std::alloc::Global;
 use std::collections::VecDeque;
 use ug_acl::{Acl, parse_access};
 use ug_audit::Panel;
+use ug_cond::FixedZone;
 use ug_conf::default_settings;
 use ug_core::Daemon;
 use ug_links::{
@@ -103,18 +103,18 @@ fn access(alloc: Global) -> Option<Acl> {
     Some(acl)
 }
 
-fn daemon(alloc: Global, disk: &mut MemDisk) -> Option<Daemon<'static, ChaCha20Rng>> {
+fn daemon(alloc: Global, disk: &mut MemDisk) -> Option<Daemon<FixedZone, ChaCha20Rng>> {
     let acl = access(alloc)?;
     let settings = default_settings(alloc).ok()?;
     let rng = ChaCha20Rng::from_seed([0; 32]);
     let folder = List::new(alloc);
-    Daemon::start(alloc, settings, acl, rng, TimeZone::UTC, 1, folder, disk).ok()
+    Daemon::start(alloc, settings, acl, rng, FixedZone::UTC, 1, folder, disk).ok()
 }
 
 // The daemon and all that it serves over but its links.
 #[derive(Drop)]
 struct World {
-    daemon: Daemon<'static, ChaCha20Rng>,
+    daemon: Daemon<FixedZone, ChaCha20Rng>,
     server: Server,
     kernel: SimKernel,
     disk: MemDisk,
@@ -123,7 +123,7 @@ struct World {
     panel: Panel,
 }
 
-fn started(alloc: Global) -> Option<(MemDisk, Daemon<'static, ChaCha20Rng>)> {
+fn started(alloc: Global) -> Option<(MemDisk, Daemon<FixedZone, ChaCha20Rng>)> {
     let mut disk = MemDisk::with_text(alloc, b"allow 1050:0011\n").ok()?;
     let daemon = daemon(alloc, &mut disk)?;
     Some((disk, daemon))

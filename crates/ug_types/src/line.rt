@@ -1,6 +1,8 @@
 // A short line.
 ghost use Rattle.std.specs.Prelude.{◌≡◌, ◌≤◌, ◌<◌, ◌+◌, ◌++◌, [], ◌∷◌, length, decimal};
+ghost use Rattle.ug_types.specs.Principals.{principal_text};
 
+use crate::principal::Principal;
 use arrayvec::ArrayVec;
 use itoa::Buffer;
 use std::marker::Model;
@@ -51,6 +53,19 @@ impl Line {
     {
         let mut line = Line::new();
         line.push(bytes);
+        line
+    }
+
+    /// The name of a user, or of a group behind `:`.
+    pub fn naming(who: &Principal) -> Line
+        ensures text { result ≡ principal_text who.now }
+        ensures length { length result ≤ 33 }
+    {
+        let mut line = Line::new();
+        if who.is_group() {
+            line.push(b":");
+        }
+        line.push(who.name());
         line
     }
 

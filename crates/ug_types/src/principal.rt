@@ -2,12 +2,11 @@
 ghost use Rattle.std.specs.Prelude.{◌≡◌, ◌≤◌, IsTrue, length, true};
 ghost use Rattle.std.specs.List.{list_all};
 ghost use Rattle.ug_types.specs.Principals as principals;
-ghost use Rattle.ug_types.specs.Principals.{is_name, principal_of, principal_named, principal_text, same_principal};
+ghost use Rattle.ug_types.specs.Principals.{is_name, principal_of, principal_named, same_principal};
 ghost use Rattle.std.proofs.Common.{rules};
 ghost use Rattle.std.specs.Cmp as Cmp;
 ghost use Rattle.std.specs.Cmp.Rules.{comparing};
 
-use crate::line::Line;
 use std::marker::Model;
 
 /// A user or a group, by a name of 1 to 32 ASCII letters, digits, `_`, `-` and `.`.
@@ -109,19 +108,6 @@ impl Principal {
         ensures short { length result.now ≤ 32 }
     {
         &self.bytes[..self.len as usize]
-    }
-
-    /// The name, behind `:` where it is that of a group. It takes no memory.
-    pub fn text(&self) -> Line
-        ensures text { result ≡ principal_text self.now }
-        ensures length { length result ≤ 33 }
-    {
-        let mut line = Line::new();
-        if self.is_group() {
-            line.push(b":");
-        }
-        line.push(self.name());
-        line
     }
 }
 

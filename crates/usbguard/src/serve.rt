@@ -7,11 +7,12 @@ use std::rc::Rc;
 use std::{env, io, mem};
 use ug_audit::{Auditor, Panel};
 use ug_host::{
-    ConfFolder, JournalOutput, LocalZone, RefusalReader, RuleFile, StartRefusal, SysfsFolder,
-    SystemClock, WriterAuditor, read_seed,
+    ConfFolder, JournalOutput, RefusalReader, RuleFile, StartRefusal, SysfsFolder, SystemClock,
+    WriterAuditor, read_seed,
 };
 use ug_serve::run_daemon;
 use ug_sockets::{SocketFolder, SocketWaiter};
+use ug_zone::LocalZone;
 
 /// Where the devices are, what counts the kernel's announcements, and where the sockets come.
 const DEVICES: &str = "/sys/bus/usb/devices";
@@ -111,7 +112,7 @@ fn serve_with(
         alloc,
         words,
         seed,
-        zone.time_zone(),
+        zone.civil(),
         &mut sysfs,
         &mut disk,
         &mut files,

@@ -30,20 +30,20 @@ settle_names-requires-clause-next g c =
 
 pub returns-in-None-clause-runs : goal.returns-in-None-clause-runs
 returns-in-None-clause-runs g c =
-    let w : State Judging = state_of c.args.hub_default c.args.table.now (judging_of g.R.Rng.stream c.args.policy.now) (noted_in c.args.out.now).entries in
-    let v : State Judging = state_of c.args.hub_default c.sweep.new.self (judging_of g.R.Rng.stream c.sweep.new.judge) (noted_in c.sweep.new.out).entries in
+    let w : State Judging = state_of c.args.hub_default c.args.table.now (judging_of g.Z.Zone.clock g.R.Rng.stream c.args.policy.now) (noted_in c.args.out.now).entries in
+    let v : State Judging = state_of c.args.hub_default c.sweep.new.self (judging_of g.Z.Zone.clock g.R.Rng.stream c.sweep.new.judge) (noted_in c.sweep.new.out).entries in
     subst (λ (x : Option (List (List ℕ))). Runs g.Y.Sysfs.gives c.args.sysfs.now (settling_due x w) v c.sweep.new.sysfs) (sym c.in-None.is) c.sweep.ensures.runs
 
 pub returns-in-None-clause-law : goal.returns-in-None-clause-law
 returns-in-None-clause-law g c =
-    let w : State Judging = state_of c.args.hub_default c.args.table.now (judging_of g.R.Rng.stream c.args.policy.now) (noted_in c.args.out.now).entries in
-    let v : State Judging = state_of c.args.hub_default c.sweep.new.self (judging_of g.R.Rng.stream c.sweep.new.judge) (noted_in c.sweep.new.out).entries in
+    let w : State Judging = state_of c.args.hub_default c.args.table.now (judging_of g.Z.Zone.clock g.R.Rng.stream c.args.policy.now) (noted_in c.args.out.now).entries in
+    let v : State Judging = state_of c.args.hub_default c.sweep.new.self (judging_of g.Z.Zone.clock g.R.Rng.stream c.sweep.new.judge) (noted_in c.sweep.new.out).entries in
     subst (λ (x : Option (List (List ℕ))). SettlesDueIn g.Y.Sysfs.told x c.args.sysfs.now w c.sweep.new.sysfs v) (sym c.in-None.is) c.sweep.ensures.swept
 
 pub returns-in-None-clause-tells : goal.returns-in-None-clause-tells
 returns-in-None-clause-tells g c =
-    let w : State Judging = state_of c.args.hub_default c.args.table.now (judging_of g.R.Rng.stream c.args.policy.now) (noted_in c.args.out.now).entries in
-    let v : State Judging = state_of c.args.hub_default c.sweep.new.self (judging_of g.R.Rng.stream c.sweep.new.judge) (noted_in c.sweep.new.out).entries in
+    let w : State Judging = state_of c.args.hub_default c.args.table.now (judging_of g.Z.Zone.clock g.R.Rng.stream c.args.policy.now) (noted_in c.args.out.now).entries in
+    let v : State Judging = state_of c.args.hub_default c.sweep.new.self (judging_of g.Z.Zone.clock g.R.Rng.stream c.sweep.new.judge) (noted_in c.sweep.new.out).entries in
     subst (λ (x : Option (List (List ℕ))). TellsDue g.Y.Sysfs.gives g.Y.Sysfs.calls g.Y.Sysfs.faults x c.args.sysfs.now w c.sweep.new.sysfs v) (sym c.in-None.is)
     (sweep_tells g.Y.Sysfs.gives g.Y.Sysfs.calls g.Y.Sysfs.faults c.args.sysfs.now w c.sweep.new.sysfs v c.sweep.ensures.faults)
 
@@ -57,8 +57,8 @@ returns-in-None-clause-room g c =
 
 pub returns-in-Some-clause-runs : goal.returns-in-Some-clause-runs
 returns-in-Some-clause-runs g c =
-    let w : State Judging = state_of c.args.hub_default c.args.table.now (judging_of g.R.Rng.stream c.args.policy.now) (noted_in c.args.out.now).entries in
-    let v : State Judging = state_of c.args.hub_default c.settle_names.new.self (judging_of g.R.Rng.stream c.settle_names.new.judge) (noted_in c.settle_names.new.out).entries in
+    let w : State Judging = state_of c.args.hub_default c.args.table.now (judging_of g.Z.Zone.clock g.R.Rng.stream c.args.policy.now) (noted_in c.args.out.now).entries in
+    let v : State Judging = state_of c.args.hub_default c.settle_names.new.self (judging_of g.Z.Zone.clock g.R.Rng.stream c.settle_names.new.judge) (noted_in c.settle_names.new.out).entries in
     let slice : List (List ℕ) = c.as_slice.result.now in
     let is : c.args.due ≡ Some slice = c.in-Some.is ∙ ap (λ (ns : List (List ℕ)). Some ns) (sym c.as_slice.ensures) in
     let terms : terms_of (not c.listed-present.result) c.args.hub_default ≡ terms_for w = ap (λ (b : Bool). terms_of (not b) c.args.hub_default) c.listed-present.ensures in
@@ -67,8 +67,8 @@ returns-in-Some-clause-runs g c =
 
 pub returns-in-Some-clause-law : goal.returns-in-Some-clause-law
 returns-in-Some-clause-law g c =
-    let w : State Judging = state_of c.args.hub_default c.args.table.now (judging_of g.R.Rng.stream c.args.policy.now) (noted_in c.args.out.now).entries in
-    let v : State Judging = state_of c.args.hub_default c.settle_names.new.self (judging_of g.R.Rng.stream c.settle_names.new.judge) (noted_in c.settle_names.new.out).entries in
+    let w : State Judging = state_of c.args.hub_default c.args.table.now (judging_of g.Z.Zone.clock g.R.Rng.stream c.args.policy.now) (noted_in c.args.out.now).entries in
+    let v : State Judging = state_of c.args.hub_default c.settle_names.new.self (judging_of g.Z.Zone.clock g.R.Rng.stream c.settle_names.new.judge) (noted_in c.settle_names.new.out).entries in
     let slice : List (List ℕ) = c.as_slice.result.now in
     let is : c.args.due ≡ Some slice = c.in-Some.is ∙ ap (λ (ns : List (List ℕ)). Some ns) (sym c.as_slice.ensures) in
     let terms : terms_of (not c.listed-present.result) c.args.hub_default ≡ terms_for w = ap (λ (b : Bool). terms_of (not b) c.args.hub_default) c.listed-present.ensures in
@@ -80,8 +80,8 @@ returns-in-Some-clause-law g c =
 
 pub returns-in-Some-clause-tells : goal.returns-in-Some-clause-tells
 returns-in-Some-clause-tells g c =
-    let w : State Judging = state_of c.args.hub_default c.args.table.now (judging_of g.R.Rng.stream c.args.policy.now) (noted_in c.args.out.now).entries in
-    let v : State Judging = state_of c.args.hub_default c.settle_names.new.self (judging_of g.R.Rng.stream c.settle_names.new.judge) (noted_in c.settle_names.new.out).entries in
+    let w : State Judging = state_of c.args.hub_default c.args.table.now (judging_of g.Z.Zone.clock g.R.Rng.stream c.args.policy.now) (noted_in c.args.out.now).entries in
+    let v : State Judging = state_of c.args.hub_default c.settle_names.new.self (judging_of g.Z.Zone.clock g.R.Rng.stream c.settle_names.new.judge) (noted_in c.settle_names.new.out).entries in
     let slice : List (List ℕ) = c.as_slice.result.now in
     let is : c.args.due ≡ Some slice = c.in-Some.is ∙ ap (λ (ns : List (List ℕ)). Some ns) (sym c.as_slice.ensures) in
     let terms : terms_of (not c.listed-present.result) c.args.hub_default ≡ terms_for w = ap (λ (b : Bool). terms_of (not b) c.args.hub_default) c.listed-present.ensures in
@@ -92,8 +92,8 @@ returns-in-Some-clause-tells g c =
 
 pub returns-in-Some-clause-once : goal.returns-in-Some-clause-once
 returns-in-Some-clause-once g c =
-    let w : State Judging = state_of c.args.hub_default c.args.table.now (judging_of g.R.Rng.stream c.args.policy.now) (noted_in c.args.out.now).entries in
-    let v : State Judging = state_of c.args.hub_default c.settle_names.new.self (judging_of g.R.Rng.stream c.settle_names.new.judge) (noted_in c.settle_names.new.out).entries in
+    let w : State Judging = state_of c.args.hub_default c.args.table.now (judging_of g.Z.Zone.clock g.R.Rng.stream c.args.policy.now) (noted_in c.args.out.now).entries in
+    let v : State Judging = state_of c.args.hub_default c.settle_names.new.self (judging_of g.Z.Zone.clock g.R.Rng.stream c.settle_names.new.judge) (noted_in c.settle_names.new.out).entries in
     let slice : List (List ℕ) = c.as_slice.result.now in
     let is : c.args.due ≡ Some slice = c.in-Some.is ∙ ap (λ (ns : List (List ℕ)). Some ns) (sym c.as_slice.ensures) in
     let terms : terms_of (not c.listed-present.result) c.args.hub_default ≡ terms_for w = ap (λ (b : Bool). terms_of (not b) c.args.hub_default) c.listed-present.ensures in

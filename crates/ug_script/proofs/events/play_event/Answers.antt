@@ -24,3 +24,60 @@ returns-then-stopped-clause-readable c done = c.handle.ensures.readable (search 
 
 pub returns-clause-readable : goal.returns-clause-readable
 returns-clause-readable c done = c.handle.ensures.readable (search rules) (search rules) (search rules)
+
+pub handle-requires-clause-numbers : goal.handle-requires-clause-numbers
+handle-requires-clause-numbers c = assumption c
+
+pub handle-requires-clause-piece : goal.handle-requires-clause-piece
+handle-requires-clause-piece c = assumption c
+
+pub as_slice-noted-requires : goal.as_slice-noted-requires
+as_slice-noted-requires c = assumption c
+
+pub ran_out-requires : goal.ran_out-requires
+ran_out-requires c = assumption c
+
+pub invariant_of-session : goal.invariant_of-session
+invariant_of-session c = assumption c
+
+pub ran_out-requires-else-ran_out : goal.ran_out-requires-else-ran_out
+ran_out-requires-else-ran_out c = assumption c
+
+pub invariant_of-session-then-ran_out-2 : goal.invariant_of-session-then-ran_out-2
+invariant_of-session-then-ran_out-2 c = assumption c
+
+pub tells_memory-requires : goal.tells_memory-requires
+tells_memory-requires c = assumption c
+
+pub invariant_of-session-else-ran_out-2 : goal.invariant_of-session-else-ran_out-2
+invariant_of-session-else-ran_out-2 c = assumption c
+
+pub stopped-requires : goal.stopped-requires
+stopped-requires c = assumption c
+
+pub invariant_of-session-2 : goal.invariant_of-session-2
+invariant_of-session-2 c = assumption c
+
+pub end_event-requires : goal.end_event-requires
+end_event-requires c = assumption c
+
+pub calls-requires : goal.calls-requires
+calls-requires c = assumption c
+
+pub invariant_of-session-then-stopped : goal.invariant_of-session-then-stopped
+invariant_of-session-then-stopped c = assumption c
+
+pub first_stop-call-requires : goal.first_stop-call-requires
+first_stop-call-requires c = assumption c
+
+pub stop_event-requires-clause-entries : goal.stop_event-requires-clause-entries
+stop_event-requires-clause-entries c = assumption c
+
+pub returns-then-stopped-clause-taken : goal.returns-then-stopped-clause-taken
+returns-then-stopped-clause-taken c = assumption c
+
+pub finish_event-requires : goal.finish_event-requires
+finish_event-requires c = assumption c
+
+pub returns-clause-taken : goal.returns-clause-taken
+returns-clause-taken c = assumption c

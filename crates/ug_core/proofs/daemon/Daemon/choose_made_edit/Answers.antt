@@ -12,7 +12,7 @@ use Rattle.ug_core.proofs.daemon.Daemon.choose_made_edit.Goals as goal
 
 pub returns-in-Ok-clause-chosen : goal.returns-in-Ok-clause-chosen
 returns-in-Ok-clause-chosen g c =
-    let p = judging_of g.R.Rng.stream c.args.self.now.policy in
+    let p = judging_of g.Z.Zone.clock g.R.Rng.stream c.args.self.now.policy in
     inl (c.change.ensures ∙ edit_taken p c.args.number c.args.verdict c.args.on c.args.edit c.in-Ok.lines c.in-Ok.ensures.free c.in-Ok.ensures.lines)
 
 pub returns-in-Ok-clause-can_make : goal.returns-in-Ok-clause-can_make
@@ -20,6 +20,6 @@ returns-in-Ok-clause-can_make g c = subst (λ (v : Choice). CanMake c.args.self.
 
 pub returns-in-Err-clause-chosen : goal.returns-in-Err-clause-chosen
 returns-in-Err-clause-chosen g c =
-    let p = judging_of g.R.Rng.stream c.args.self.now.policy in
+    let p = judging_of g.Z.Zone.clock g.R.Rng.stream c.args.self.now.policy in
     let made = changing (change.Rules c.args.edit) (deed.SetVerdict c.args.number c.args.verdict c.args.on (change_lines (change.Rules c.args.edit) p.next)) in
     subst (λ (v : Choice). (v ≡ by_edit p c.args.number c.args.verdict c.args.on c.args.edit) ⊎ (v ≡ refusing (refusal.Memory false))) (sym c.refuse.ensures) (refused_so (if_room_for c.args.edit p.rules) made c.in-Err.refusal c.in-Err.ensures.refused)

@@ -19,7 +19,7 @@ use Rattle.ug_core.proofs.daemon.Daemon.choose_place.Goals as goal
 
 pub returns-in-Ok-clause-chosen : goal.returns-in-Ok-clause-chosen
 returns-in-Ok-clause-chosen g c =
-    let p = judging_of g.R.Rng.stream c.args.self.now.policy in
+    let p = judging_of g.Z.Zone.clock g.R.Rng.stream c.args.self.now.policy in
     inl (subst (λ (r : Result Rule Fault). c.change.result ≡ by_rule p c.args.after c.args.permanent r) (sym c.requires)
     (c.change.ensures ∙ rule_taken p c.args.after c.args.permanent c.args.rule c.ordered_mark.result c.in-Ok.lines c.ordered_mark.ensures c.in-Ok.ensures.free c.in-Ok.ensures.lines))
 
@@ -31,7 +31,7 @@ returns-in-Ok-clause-can_make g c =
 
 pub returns-in-Err-clause-chosen : goal.returns-in-Err-clause-chosen
 returns-in-Err-clause-chosen g c =
-    let p = judging_of g.R.Rng.stream c.args.self.now.policy in
+    let p = judging_of g.Z.Zone.clock g.R.Rng.stream c.args.self.now.policy in
     let made = changing (change.Rules (Insert c.args.after c.args.rule (ordered_mark c.args.permanent))) (deed.Tell (decimal p.next ∷ [])) in
     subst (λ (r : Result Rule Fault). (c.refuse.result ≡ by_rule p c.args.after c.args.permanent r) ⊎ (c.refuse.result ≡ refusing (refusal.Memory false))) (sym c.requires)
     (subst (λ (v : Choice). (v ≡ by_rule p c.args.after c.args.permanent (Ok c.args.rule)) ⊎ (v ≡ refusing (refusal.Memory false))) (sym c.refuse.ensures) (refused_so (if_taken c.args.after p.rules) made c.in-Err.refusal c.in-Err.ensures.refused))

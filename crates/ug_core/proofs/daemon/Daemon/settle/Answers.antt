@@ -20,7 +20,7 @@ pub returns-clause-runs : goal.returns-clause-runs
 returns-clause-runs g c =
     let d : DaemonState = daemon_of c.args.self.now in
     let es : List Entry = (noted_in c.join-journal.result).entries in
-    let v : State Judging = state_of c.args.self.now.hub_default c.settle_due.new.table (judging_of g.R.Rng.stream c.settle_due.new.policy) (noted_in c.settle_due.new.out).entries in
+    let v : State Judging = state_of c.args.self.now.hub_default c.settle_due.new.table (judging_of g.Z.Zone.clock g.R.Rng.stream c.settle_due.new.policy) (noted_in c.settle_due.new.out).entries in
     handles_run g.Y.Sysfs.gives c.args.sysfs.now d _ v es c.settle_due.new.sysfs
     (ap (λ (x : Noted). without_drops x.entries) c.join-journal.ensures.now)
     (subst (λ (x : Option (List (List ℕ))). Runs g.Y.Sysfs.gives c.args.sysfs.now (settling_due x (record d.sweep { entries = es })) v c.settle_due.new.sysfs) c.take-due.ensures.value c.settle_due.ensures.runs)
@@ -31,7 +31,7 @@ returns-clause-law g c = λ l e.
     let q = c.settle_due.ensures.law l e in
     let d : DaemonState = daemon_of c.args.self.now in
     let es : List Entry = (noted_in c.join-journal.result).entries in
-    let v : State Judging = state_of c.args.self.now.hub_default c.settle_due.new.table (judging_of g.R.Rng.stream c.settle_due.new.policy) (noted_in c.settle_due.new.out).entries in (
+    let v : State Judging = state_of c.args.self.now.hub_default c.settle_due.new.table (judging_of g.Z.Zone.clock g.R.Rng.stream c.settle_due.new.policy) (noted_in c.settle_due.new.out).entries in (
       q.0,
       q.1,
       λ sound stand. handled d q.0 l v es _
@@ -52,7 +52,7 @@ pub returns-clause-tells : goal.returns-clause-tells
 returns-clause-tells g c =
     let d : DaemonState = daemon_of c.args.self.now in
     let es : List Entry = (noted_in c.join-journal.result).entries in
-    let v : State Judging = state_of c.args.self.now.hub_default c.settle_due.new.table (judging_of g.R.Rng.stream c.settle_due.new.policy) (noted_in c.settle_due.new.out).entries in
+    let v : State Judging = state_of c.args.self.now.hub_default c.settle_due.new.table (judging_of g.Z.Zone.clock g.R.Rng.stream c.settle_due.new.policy) (noted_in c.settle_due.new.out).entries in
     let some : TellsDue g.Y.Sysfs.gives g.Y.Sysfs.calls g.Y.Sysfs.faults d.due c.args.sysfs.now (record d.sweep { entries = es }) c.settle_due.new.sysfs v = subst (λ (x : Option (List (List ℕ))). TellsDue g.Y.Sysfs.gives g.Y.Sysfs.calls g.Y.Sysfs.faults x c.args.sysfs.now (record d.sweep { entries = es }) c.settle_due.new.sysfs v) c.take-due.ensures.value c.settle_due.ensures.tells in
     let h : TellsDue g.Y.Sysfs.gives g.Y.Sysfs.calls g.Y.Sysfs.faults d.due c.args.sysfs.now d.sweep c.settle_due.new.sysfs v = subst (λ (xs : List Entry). TellsDue g.Y.Sysfs.gives g.Y.Sysfs.calls g.Y.Sysfs.faults d.due c.args.sysfs.now (record d.sweep { entries = xs }) c.settle_due.new.sysfs v) (ap (λ (x : Noted). without_drops x.entries) c.join-journal.ensures.now) some in
     record {
@@ -82,3 +82,24 @@ returns-clause-noted g c =
     let all = goes_on _ _ _ _ c.settle_due.ensures.same c.push.ensures.same in
     let name = sym (all.panel ∙ c.join-journal.ensures.same_panel) in
     noted_more _ _ _ _ _ _ _ all c.join-journal.ensures.panel (c.panel-1.given.1 name) (ap (λ (v : Noted). v.entries) c.join-journal.ensures.now) refl
+
+pub settle_due-requires-clause-next : goal.settle_due-requires-clause-next
+settle_due-requires-clause-next g c = assumption c
+
+pub push-requires-clause-spare : goal.push-requires-clause-spare
+push-requires-clause-spare g c = assumption c
+
+pub push-requires-clause-kind : goal.push-requires-clause-kind
+push-requires-clause-kind g c = assumption c
+
+pub overflow_add-self : goal.overflow_add-self
+overflow_add-self g c = assumption c
+
+pub returns-clause-number : goal.returns-clause-number
+returns-clause-number g c = assumption c
+
+pub returns-clause-reply : goal.returns-clause-reply
+returns-clause-reply g c = assumption c
+
+pub returns-clause-watch : goal.returns-clause-watch
+returns-clause-watch g c = assumption c

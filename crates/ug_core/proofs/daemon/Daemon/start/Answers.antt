@@ -3,7 +3,6 @@ use Rattle.ug_store.specs.Store.{seen_by}
 use Rattle.ug_core.specs.Event.{daemon_of}
 use Rattle.ug_kernel.specs.declared.control.Write.{Write}
 use Rattle.ug_conf.specs.declared.folder_file.FolderFile.{FolderFile}
-use Rattle.ug_core.specs.Policy.{clock_of}
 use Rattle.ug_core.specs.Settings.{classes_of, hub_default}
 use Rattle.ug_core.specs.Starting.{Outset, StartsFrom, TakesFolder}
 use Rattle.ug_core.specs.declared.classes.Classes.{Classes}
@@ -12,7 +11,7 @@ use Rattle.ug_core.proofs.daemon.Daemon.start.Goals as goal
 
 pub returns-in-Err-clause-starts : goal.returns-in-Err-clause-starts
 returns-in-Err-clause-starts g c =
-    let outset : Outset = record { classes = classes_of c.args.settings; hub = hub_default c.args.settings.default; access = c.args.acl; clock = clock_of c.args.zone; words = g.R.Rng.stream c.args.rng; first = c.args.first } in
+    let outset : Outset = record { classes = classes_of c.args.settings; hub = hub_default c.args.settings.default; access = c.args.acl; clock = g.Z.Zone.clock c.args.zone; words = g.R.Rng.stream c.args.rng; first = c.args.first } in
     refused_folder g.D.RuleDisk.keeps g.D.RuleDisk.told g.D.RuleDisk.faults outset c.args.folder c.args.disk.now _ (subst (λ (files : List FolderFile). TakesFolder files (Err c.in-Err.fault)) c.as_slice.ensures c.in-Err.ensures.takes)
 
 pub returns-in-Err-load_rules-clause-starts : goal.returns-in-Err-load_rules-clause-starts
@@ -26,7 +25,7 @@ returns-in-Err-load_rules-clause-starts g c =
 
 pub returns-in-Ok-load_rules-clause-starts : goal.returns-in-Ok-load_rules-clause-starts
 returns-in-Ok-load_rules-clause-starts g c =
-    let outset : Classes → Option Write → Outset = λ classes hub. record { classes = classes; hub = hub; access = c.args.acl; clock = clock_of c.args.zone; words = g.R.Rng.stream c.args.rng; first = c.args.first } in
+    let outset : Classes → Option Write → Outset = λ classes hub. record { classes = classes; hub = hub; access = c.args.acl; clock = g.Z.Zone.clock c.args.zone; words = g.R.Rng.stream c.args.rng; first = c.args.first } in
     let takes = subst (λ (files : List FolderFile). TakesFolder files (Ok c.in-Ok.listed)) c.as_slice.ensures c.in-Ok.ensures.takes in
     record {
       folder = Ok takes.0;

@@ -13,7 +13,7 @@ put_in_force-requires g c =
     let saves = c.save_change-stored.ensures in
     let policy = c.note_stored.ensures.policy in
     let refused : refused_by c.save_change-stored.result ≡ None = sym c.refusal.ensures ∙ c.in-None.is in
-    let judge = ap (λ (p : _). judging_of g.R.Rng.stream p) policy ∙ ap (λ (x : DaemonState). x.sweep.judge) saves.daemon in
+    let judge = ap (λ (p : _). judging_of g.Z.Zone.clock g.R.Rng.stream p) policy ∙ ap (λ (x : DaemonState). x.sweep.judge) saves.daemon in
     record {
       can = subst (λ (p : Judging). CanChange change p.rules) (sym judge) c.requires.can;
       reads = subst (λ (p : Judging). ChangeReads change p.rules) (sym judge) c.requires.reads;
@@ -44,3 +44,33 @@ returns-in-None-clause-notes g c =
     let saves = c.save_change-stored.ensures in
     notes_then (notes_none {most = 0} saves.report saves.daemon)
     (notes_then c.note_stored.ensures.notes c.put_in_force.ensures.notes)
+
+pub save_change-stored-requires-clause-can : goal.save_change-stored-requires-clause-can
+save_change-stored-requires-clause-can g c = assumption c
+
+pub save_change-stored-requires-clause-reads : goal.save_change-stored-requires-clause-reads
+save_change-stored-requires-clause-reads g c = assumption c
+
+pub refusal-requires : goal.refusal-requires
+refusal-requires g c = assumption c
+
+pub discard-requires : goal.discard-requires
+discard-requires g c = assumption c
+
+pub returns-in-Some-clause-runs : goal.returns-in-Some-clause-runs
+returns-in-Some-clause-runs g c = assumption c
+
+pub returns-in-Some-clause-counted : goal.returns-in-Some-clause-counted
+returns-in-Some-clause-counted g c = assumption c
+
+pub returns-in-Some-clause-written : goal.returns-in-Some-clause-written
+returns-in-Some-clause-written g c = assumption c
+
+pub returns-in-None-clause-runs : goal.returns-in-None-clause-runs
+returns-in-None-clause-runs g c = assumption c
+
+pub returns-in-None-clause-counted : goal.returns-in-None-clause-counted
+returns-in-None-clause-counted g c = assumption c
+
+pub returns-in-None-clause-written : goal.returns-in-None-clause-written
+returns-in-None-clause-written g c = assumption c
