@@ -1,5 +1,5 @@
 -- How long the lines of requests are.
-use Rattle.std.proofs.Common.{◌≡◌, ℕ, ◌+◌, ◌≤◌, ◌<◌, ◌^◌, List, ◌++◌, ◌∷◌, length, refl, ap, ◌∙◌, arith, length-append}
+use Rattle.std.proofs.Common.{◌≡◌, ℕ, ◌+◌, ◌≤◌, List, ◌++◌, ◌∷◌, length, refl, arith, length-append}
 use Rattle.std.specs.Prelude.{codes, decimal, nat_le, Bool, true, false}
 use Rattle.std.proofs.lemmas.Bool.{le-leb}
 use Rattle.ug_types.specs.declared.rule.After.{After}

@@ -1,6 +1,6 @@
 -- The values that an argument may have.
 use Rattle.std.specs.Prelude.{ℕ, ◌&&◌, Bool, not, nat_eq, nat_le, List, length, Option, Some, None, if◌then◌else◌}
-use Rattle.std.specs.Prelude.{option_and_then, codes, bytes_eq, true, false}
+use Rattle.std.specs.Prelude.{option_and_then, codes, bytes_eq, false}
 use Rattle.std.specs.List.{list_all}
 use Rattle.clap.specs.Words.{Row, first_of}
 use Rattle.ug_numerals.specs.Numbers.{number_in}

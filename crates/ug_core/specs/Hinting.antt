@@ -1,6 +1,6 @@
 -- What a piece of a stream of recorded uevents brings to an event: its messages are read, those
 -- that are refused are noted, and the names of the others are due.
-use Rattle.std.specs.Prelude.{◌≡◌, ◌↔◌, ℕ, ◌≤◌, Bool, true, false, length, List, [], ◌∷◌, ◌++◌, flat_map, Option, Some, None, Result, Ok, Err, ◌⊎◌}
+use Rattle.std.specs.Prelude.{◌≡◌, ◌↔◌, ℕ, Bool, true, false, List, [], ◌∷◌, ◌++◌, flat_map, Option, Some, None, Result, Ok, Err, ◌⊎◌}
 use Rattle.ug_types.specs.Elements.{Has}
 use Rattle.ug_uevent.specs.declared.hint.Hint.{Hint}
 use Rattle.ug_uevent.specs.Answers.{AnswersMessage}

@@ -31,7 +31,6 @@ use Rattle.ug_node.specs.Removal.{IsAuthorizedFile}
 use Rattle.ug_node.specs.Under.{IsParentKept, BindsUnder}
 use Rattle.ug_node.specs.declared.files.OwnFiles.{OwnFiles}
 use Rattle.ug_node.specs.declared.files.Stop.{Stop}
-use Rattle.ug_node.specs.declared.identity.Bound.{Bound}
 use Rattle.ug_node.specs.declared.identity.Binding.{Binding}
 use Rattle.ug_node.proofs.BindShapes.{told, Reads, own_first, parent_files, files_of, ReadsFirst, None_read, One_read, Stops, own_from, parents_from, reads_own, reads_parents, Below, Binds_by, Cut, Probed_gone, Probe_failed, Bound_by, first_more, reads_more, own_read, parent_read}
 use Rattle.ug_node.proofs.CallOrders.{reads_go, stops_end}

@@ -13,7 +13,6 @@ use Rattle.ug_links.specs.declared.links.Accepted.TheVariants as accepted
 use Rattle.ug_links.specs.declared.step.LinkStep.{LinkStep}
 use Rattle.ug_links.specs.declared.step.LinkStep.TheVariants.{Listened, AcceptedAt, ReadFrom, WroteTo, Closed}
 use Rattle.ug_links.specs.declared.step.Reading.{Reading}
-use Rattle.ug_links.specs.declared.step.Reading.TheVariants as given
 use Rattle.ug_links.specs.Steps.{ids_end}
 use Rattle.ug_links.specs.Talk.{Return, Path, Talks, Makes, AreSteps, and_then}
 use Rattle.ug_links.proofs.Paths.{path_split}

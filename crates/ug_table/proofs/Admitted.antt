@@ -1,5 +1,5 @@
 -- What a name's binding and its verdict lead to.
-use Rattle.std.proofs.Common.{◌≡◌, ℕ, ◌+◌, Bool, true, is_none, List, [], ◌∷◌, ◌++◌, Option, Some, sym, ap, ◌∙◌, subst, refl}
+use Rattle.std.proofs.Common.{◌≡◌, ℕ, ◌+◌, Bool, true, is_none, List, [], ◌∷◌, ◌++◌, Option, ap, ◌∙◌, subst, refl}
 use Rattle.ug_audit.specs.declared.entry.Entry.TheVariants as entry
 use Rattle.ug_kernel.proofs.Runs.{runs_then}
 use Rattle.ug_kernel.specs.Tree.{Room}

@@ -1,4 +1,4 @@
-use Rattle.std.proofs.Common.{◌≡◌, ◌≤◌, ℕ, Bool, nat_le, length, true, sym, ◌∙◌, ap, subst}
+use Rattle.std.proofs.Common.{◌≤◌, ℕ, Bool, nat_le, length, sym, ◌∙◌, ap, subst}
 use Rattle.std.specs.Prelude.{decimal}
 use Rattle.ug_proto.specs.Texts.{request_text}
 use Rattle.ug_proto.specs.declared.request.Request.{Request}

@@ -13,18 +13,3 @@ pub returns-in-Ok-clause-saves : goal.returns-in-Ok-clause-saves
 returns-in-Ok-clause-saves c =
     let read = behind_folder c.args.folder _ _ c.requires.own c.in_ok-list.ensures in
     text_saves read.folder _ _ _ read.lists c.in-Ok.ensures.text c.in-Ok.ensures.fits c.in-Ok.ensures.bytes
-
-pub list_rules-requires : goal.list_rules-requires
-list_rules-requires c = assumption c
-
-pub list_text-requires : goal.list_text-requires
-list_text-requires c = assumption c
-
-pub discard-requires : goal.discard-requires
-discard-requires c = assumption c
-
-pub returns-in-Err-clause-readable : goal.returns-in-Err-clause-readable
-returns-in-Err-clause-readable c = assumption c
-
-pub returns-in-Err-clause-saves : goal.returns-in-Err-clause-saves
-returns-in-Err-clause-saves c = assumption c

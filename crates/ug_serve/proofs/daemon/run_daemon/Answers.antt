@@ -119,30 +119,3 @@ returns-clause-complete g c = λ words taken files disk links waiter.
 
 pub returns-clause-carries : goal.returns-clause-carries
 returns-clause-carries g c = turns_tell g.Y.Sysfs g.D.RuleDisk g.N.Links g.W.Waiter g.C.Clock g.met.N.Links.tells g.met.W.Waiter.tells g.met.C.Clock.tells
-
-pub read_daemon_words-requires : goal.read_daemon_words-requires
-read_daemon_words-requires g c = assumption c
-
-pub drop-zone-requires : goal.drop-zone-requires
-drop-zone-requires g c κs within = assumption c
-
-pub status-requires : goal.status-requires
-status-requires g c = assumption c
-
-pub drop-zone-requires-in-Err-Memory : goal.drop-zone-requires-in-Err-Memory
-drop-zone-requires-in-Err-Memory g c κs within = assumption c
-
-pub bytes-requires : goal.bytes-requires
-bytes-requires g c = assumption c
-
-pub serve-requires : goal.serve-requires
-serve-requires g c κs = assumption c
-
-pub returns-clause-files_failed : goal.returns-clause-files_failed
-returns-clause-files_failed g c = assumption c
-
-pub returns-clause-disk_failed : goal.returns-clause-disk_failed
-returns-clause-disk_failed g c = assumption c
-
-pub returns-clause-wait_failed : goal.returns-clause-wait_failed
-returns-clause-wait_failed g c = assumption c

@@ -26,15 +26,3 @@ returns-in-Ok-clause-files_failed g c = λ e. absurd (not_four c.serve_started.r
 
 pub returns-in-Ok-clause-disk_failed : goal.returns-in-Ok-clause-disk_failed
 returns-in-Ok-clause-disk_failed g c = λ e. absurd (not_nine c.serve_started.result c.serve_started.ensures.statuses e)
-
-pub start-requires : goal.start-requires
-start-requires g c κs = assumption c
-
-pub status-status-requires : goal.status-status-requires
-status-status-requires g c = assumption c
-
-pub note_refusal-requires : goal.note_refusal-requires
-note_refusal-requires g c = assumption c
-
-pub returns-in-Ok-clause-wait_failed : goal.returns-in-Ok-clause-wait_failed
-returns-in-Ok-clause-wait_failed g c = assumption c

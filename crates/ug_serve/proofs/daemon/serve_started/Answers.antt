@@ -23,18 +23,3 @@ returns-in-Ok-clause-serves g c =
     c.args.turns (started c.args.first.principals (daemon_of c.args.first.daemon)) (objects c.args.sysfs.now c.args.disk.now c.args.links.now c.args.waiter.now c.args.clock.now (members (λ b. goal.Auditor-dyn g (b.vtable, b.value)) c.args.panel.now))
     (Ok tt) c.listen_for_all.new.links c.new-server.result turns.0 c.serve_turns-end.result (turn_world (core_of (daemon_of c.serve_turns-end.new.daemon) c.serve_turns-end.new.sysfs c.serve_turns-end.new.disk (members (λ b. goal.Auditor-dyn g (b.vtable, b.value)) c.serve_turns-end.new.panel)) c.serve_turns-end.new.server c.serve_turns-end.new.links c.serve_turns-end.new.waiter c.serve_turns-end.new.clock) c.status_of.result
     refl (subst (λ (l : List Named). Talks g.N.Links.gives c.args.links.now (listening l) (Ok tt) c.listen_for_all.new.links) c.as_slice.ensures c.in-Ok.ensures.listens) c.new-server.ensures.principals c.new-server.ensures.listeners c.new-server.ensures.sessions turns.1 c.status_of.ensures
-
-pub listen_for_all-requires : goal.listen_for_all-requires
-listen_for_all-requires g c κs = assumption c
-
-pub new-server-requires : goal.new-server-requires
-new-server-requires g c = assumption c
-
-pub serve_turns-end-requires : goal.serve_turns-end-requires
-serve_turns-end-requires g c κs = assumption c
-
-pub status_of-requires : goal.status_of-requires
-status_of-requires g c = assumption c
-
-pub status-requires : goal.status-requires
-status-requires g c = assumption c

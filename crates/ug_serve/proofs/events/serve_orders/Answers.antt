@@ -38,12 +38,3 @@ loop-id-smaller-else-not-has_room g c =
     let handed : lines_waiting c.next_request.new.self.sessions < lines_waiting c.loop-id.server.sessions = hands_fewer c.loop-id.server.sessions c.next_request.new.self.sessions c.in-Some.id c.in-Some.who c.in-Some.line c.in-Some.ensures.hands in
     let told : lines_waiting c.serve_order.new.server.sessions ≤ lines_waiting c.next_request.new.self.sessions = responds_fewer c.in-Some.id e.0.after e.0.entries c.next_request.new.self.sessions c.serve_order.new.server.sessions e.4.2 in
     omega arith
-
-pub next_request-requires : goal.next_request-requires
-next_request-requires g c = assumption c
-
-pub has_room-requires : goal.has_room-requires
-has_room-requires g c κs = assumption c
-
-pub serve_order-requires-clause-piece : goal.serve_order-requires-clause-piece
-serve_order-requires-clause-piece g c = assumption c

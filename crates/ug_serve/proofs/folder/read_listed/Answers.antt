@@ -10,33 +10,3 @@ returns-in-Names-clause-ascend g c =
     let counted = subst (λ (ns : List (List ℕ)). AreInByteOrder ns c.in_byte_order-names.result.items) c.counting.ensures c.in_byte_order-names.ensures in
     let sorted = subst (λ (ns : List (List ℕ)). AreInByteOrder (filter is_rule_file_name c.in-Names.names) ns) (sym c.as_slice.ensures.value) counted in
     read_ascending g.F.ConfFiles.gives c.args.folder.now c.in-Names.names c.as_slice.result.now _ _ _ c.in-Names.ensures.fits.1 sorted c.read_files.ensures.reads
-
-pub list_folder-requires : goal.list_folder-requires
-list_folder-requires g c κs = assumption c
-
-pub counting-requires : goal.counting-requires
-counting-requires g c = assumption c
-
-pub in_byte_order-names-requires : goal.in_byte_order-names-requires
-in_byte_order-names-requires g c = assumption c
-
-pub read_files-requires : goal.read_files-requires
-read_files-requires g c κs = assumption c
-
-pub returns-in-Names-clause-not_disk : goal.returns-in-Names-clause-not_disk
-returns-in-Names-clause-not_disk g c = assumption c
-
-pub returns-in-Absent-clause-counted : goal.returns-in-Absent-clause-counted
-returns-in-Absent-clause-counted g c = assumption c
-
-pub returns-in-Failed-clause-ascend : goal.returns-in-Failed-clause-ascend
-returns-in-Failed-clause-ascend g c = assumption c
-
-pub returns-in-Failed-clause-counted : goal.returns-in-Failed-clause-counted
-returns-in-Failed-clause-counted g c = assumption c
-
-pub returns-in-Memory-clause-ascend : goal.returns-in-Memory-clause-ascend
-returns-in-Memory-clause-ascend g c = assumption c
-
-pub returns-in-Memory-clause-counted : goal.returns-in-Memory-clause-counted
-returns-in-Memory-clause-counted g c = assumption c

@@ -44,36 +44,3 @@ returns-clause-starts g c =
     let noted = subst (λ (ls : List ℕ). NotesStart (unused_entries ls) (members (λ b. goal.Auditor-dyn g (b.vtable, b.value)) c.args.panel.now) (members (λ b. goal.Auditor-dyn g (b.vtable, b.value)) c.note_unused.new.panel)) c.as_slice.ensures c.note_unused.ensures in
     let read = subst (λ (path : List ℕ). ReadsRules g.F.ConfFiles.gives path c.read_access.new.files (Ok c.in_ok-folder.folder) c.read_folder.new.files) c.bytes.ensures c.in_ok-folder.ensures.reads in
     (unused_entries c.in_ok-settings.settings.unused, From_rules c.in_ok-settings.settings c.in_ok-access.access c.in_ok-folder.folder c.read_settings.new.files c.read_access.new.files c.read_folder.new.files c.aim.new.self c.start_daemon.new.disk (Ok (daemon_of c.in_ok-daemon.daemon)) c.in_ok-settings.ensures.reads c.in_ok-access.ensures.opens read (record { same_disk = record { same = c.aim.ensures.told; counts = c.aim.ensures.faults }; at = subst (λ (p : List ℕ). g.D.RuleDisk.aimed c.aim.new.self p) c.bytes-2.ensures c.in_ok-aim.ensures.aimed }) c.in_ok-daemon.ensures.starts, noted)
-
-pub read_settings-requires : goal.read_settings-requires
-read_settings-requires g c κs = assumption c
-
-pub drop-zone-requires : goal.drop-zone-requires
-drop-zone-requires g c κs within = assumption c
-
-pub note_unused-requires : goal.note_unused-requires
-note_unused-requires g c = assumption c
-
-pub read_access-requires : goal.read_access-requires
-read_access-requires g c κs = assumption c
-
-pub drop-zone-requires-in_err-access : goal.drop-zone-requires-in_err-access
-drop-zone-requires-in_err-access g c κs within = assumption c
-
-pub bytes-requires : goal.bytes-requires
-bytes-requires g c = assumption c
-
-pub read_folder-requires : goal.read_folder-requires
-read_folder-requires g c κs = assumption c
-
-pub drop-zone-requires-in_err-folder : goal.drop-zone-requires-in_err-folder
-drop-zone-requires-in_err-folder g c κs within = assumption c
-
-pub bytes-requires-2 : goal.bytes-requires-2
-bytes-requires-2 g c = assumption c
-
-pub aim-requires : goal.aim-requires
-aim-requires g c κs = assumption c
-
-pub drop-zone-requires-in_err-aim : goal.drop-zone-requires-in_err-aim
-drop-zone-requires-in_err-aim g c κs within = assumption c

@@ -19,15 +19,3 @@ returns-clause-starts g c =
     let names = c.as_slice-in-Err.ensures ∙ c.in_ok-names.ensures ∙ ap file_names c.as_slice.ensures in
     let is : c.of_start.result ≡ refusal_of_start (file_names c.args.folder) c.in-Err.fault = c.of_start.ensures ∙ ap (λ (ns : List (List ℕ)). refusal_of_start ns c.in-Err.fault) names in
     rw is (Started_from (Err c.in-Err.fault) c.start_from.new.disk c.in-Err.ensures.starts)
-
-pub names_of-requires : goal.names_of-requires
-names_of-requires g c = assumption c
-
-pub drop-zone-requires : goal.drop-zone-requires
-drop-zone-requires g c κs within = assumption c
-
-pub start_from-requires : goal.start_from-requires
-start_from-requires g c = assumption c
-
-pub of_start-requires : goal.of_start-requires
-of_start-requires g c = assumption c

@@ -52,34 +52,3 @@ returns-clause-turn g c =
       },
       refl,
     )
-
-pub has_room-requires : goal.has_room-requires
-has_room-requires g c κs = assumption c
-
-pub slice_bounds-wait-end : goal.slice_bounds-wait-end
-slice_bounds-wait-end g c = assumption c
-
-pub wait-requires : goal.wait-requires
-wait-requires g c = assumption c
-
-pub returns-in-Failed-clause-counted : goal.returns-in-Failed-clause-counted
-returns-in-Failed-clause-counted g c = assumption c
-
-pub now-moment-requires : goal.now-moment-requires
-now-moment-requires g c κs = assumption c
-
-pub turn-came-requires : goal.turn-came-requires
-turn-came-requires g c κs = assumption c
-
-pub serve_events-requires : goal.serve_events-requires
-serve_events-requires g c κs = assumption c
-
-pub returns-then-not-serve_events-clause-counted :
-    goal.returns-then-not-serve_events-clause-counted
-returns-then-not-serve_events-clause-counted g c = assumption c
-
-pub flush-sent-requires : goal.flush-sent-requires
-flush-sent-requires g c κs = assumption c
-
-pub returns-clause-counted : goal.returns-clause-counted
-returns-clause-counted g c = assumption c

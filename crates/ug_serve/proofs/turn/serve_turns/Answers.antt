@@ -31,9 +31,3 @@ pub returns-in-WaitFailed-clause-turns : goal.returns-in-WaitFailed-clause-turns
 returns-in-WaitFailed-clause-turns g c =
     let so = c.loop-i.invariant.made in
     (so.0, (turn_world (core_of (daemon_of c.loop-i.daemon) c.loop-i.sysfs c.loop-i.disk (members (λ b. goal.Auditor-dyn g (b.vtable, b.value)) c.loop-i.panel)) c.loop-i.server c.loop-i.links c.loop-i.waiter c.loop-i.clock, (omega (arith, so.1, c.loop-i-test.true), so.2, so.3), c.in-WaitFailed.ensures.turn))
-
-pub serve_turn-requires : goal.serve_turn-requires
-serve_turn-requires g c κs = assumption c
-
-pub returns-clause-counted : goal.returns-clause-counted
-returns-clause-counted g c = assumption c

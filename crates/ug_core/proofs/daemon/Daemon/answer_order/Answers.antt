@@ -17,18 +17,3 @@ returns-clause-written g c =
 
 pub returns-clause-whole : goal.returns-clause-whole
 returns-clause-whole g c = subst (λ (r : Option Reply). IfSome r (λ (x : Reply). HasWholeLines x)) (sym c.reply.ensures.reply) c.carry_out-reply.ensures.whole
-
-pub choose-change-requires : goal.choose-change-requires
-choose-change-requires g c κs = assumption c
-
-pub store-stored-requires-clause-can : goal.store-stored-requires-clause-can
-store-stored-requires-clause-can g c = assumption c
-
-pub store-stored-requires-clause-id : goal.store-stored-requires-clause-id
-store-stored-requires-clause-id g c = assumption c
-
-pub deed_after-deed-requires : goal.deed_after-deed-requires
-deed_after-deed-requires g c = assumption c
-
-pub returns-clause-counted : goal.returns-clause-counted
-returns-clause-counted g c = assumption c

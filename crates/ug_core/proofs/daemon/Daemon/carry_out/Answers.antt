@@ -23,18 +23,3 @@ returns-in-SetVerdict-clause-runs g c =
     let told = ap (λ (r : Reply). replying r e) c.reply_to.ensures.reply ∙ ap (λ (x : DaemonState). replying (reply_to lines settled) x) c.set_verdict-settled.ensures.daemon in
     subst (λ (doing : Deed). Runs gives before (acting c.args.who.now d doing) said after) (sym c.in-SetVerdict.is)
     (runs_then gives before first (λ p. Return (answered_with d lines p)) (settled, kept_of e.sweep.standings e.sweep.entries) after said after c.set_verdict-settled.ensures.runs (told, refl))
-
-pub invariant_of-self : goal.invariant_of-self
-invariant_of-self g c = assumption c
-
-pub set_verdict-settled-requires-clause-spare : goal.set_verdict-settled-requires-clause-spare
-set_verdict-settled-requires-clause-spare g c = assumption c
-
-pub reply_to-requires : goal.reply_to-requires
-reply_to-requires g c = assumption c
-
-pub returns-in-Refuse-clause-whole : goal.returns-in-Refuse-clause-whole
-returns-in-Refuse-clause-whole g c = assumption c
-
-pub returns-in-SetVerdict-clause-notes : goal.returns-in-SetVerdict-clause-notes
-returns-in-SetVerdict-clause-notes g c = assumption c

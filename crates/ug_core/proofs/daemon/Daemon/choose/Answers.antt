@@ -8,24 +8,3 @@ use Rattle.ug_core.proofs.daemon.Daemon.choose.Goals as goal
 pub returns-in-Ok-clause-runs : goal.returns-in-Ok-clause-runs
 unfolding asking
 returns-in-Ok-clause-runs g c = (true, subst (λ (read : Result Request ℕ). Runs g.Y.Sysfs.gives c.args.sysfs.now (by_request (daemon_of c.args.self.now) c.args.who.now read) c.choose_for.result c.choose_for.new.sysfs) (sym c.in-Ok.ensures.ok) c.choose_for.ensures.runs)
-
-pub parse_request-requires : goal.parse_request-requires
-parse_request-requires g c = assumption c
-
-pub choose_for-requires : goal.choose_for-requires
-choose_for-requires g c κs = assumption c
-
-pub refuse-requires : goal.refuse-requires
-refuse-requires g c = assumption c
-
-pub refuse-requires-in-Err-Memory : goal.refuse-requires-in-Err-Memory
-refuse-requires-in-Err-Memory g c = assumption c
-
-pub returns-in-Ok-clause-can_do : goal.returns-in-Ok-clause-can_do
-returns-in-Ok-clause-can_do g c = assumption c
-
-pub returns-in-Ok-clause-lines : goal.returns-in-Ok-clause-lines
-returns-in-Ok-clause-lines g c = assumption c
-
-pub returns-in-Ok-clause-can_make : goal.returns-in-Ok-clause-can_make
-returns-in-Ok-clause-can_make g c = assumption c

@@ -93,30 +93,3 @@ pub returns-clause-alone : goal.returns-clause-alone
 returns-clause-alone g c none =
     all_entries _ _ [] _ (live_members _ _ _ _ ∙ none)
     (all_noted _ _ _ _ _ (all_noted _ _ _ _ _ (all_noted _ _ _ _ _ c.begin.ensures.noted c.save_pending-tried.ensures.notes.noted) c.answer-stored.ensures.noted) c.settle.ensures.noted)
-
-pub next_number-next-requires : goal.next_number-next-requires
-next_number-next-requires g c = assumption c
-
-pub stay_saveable-requires : goal.stay_saveable-requires
-stay_saveable-requires g c κs = assumption c
-
-pub lend-lent-requires : goal.lend-lent-requires
-lend-lent-requires g c = assumption c
-
-pub begin-requires : goal.begin-requires
-begin-requires g c κs = assumption c
-
-pub begin-requires-2 : goal.begin-requires-2
-begin-requires-2 g c κs = assumption c
-
-pub pass-requires : goal.pass-requires
-pass-requires g c κs = assumption c
-
-pub pass-requires-2 : goal.pass-requires-2
-pass-requires-2 g c κs = assumption c
-
-pub settle-requires-clause-fits : goal.settle-requires-clause-fits
-settle-requires-clause-fits g c = assumption c
-
-pub stay_saveable-requires-2 : goal.stay_saveable-requires-2
-stay_saveable-requires-2 g c κs = assumption c

@@ -35,24 +35,3 @@ returns-in-Failed-clause-runs g c =
     let p = judging_of g.Z.Zone.clock g.R.Rng.stream c.args.self.now.policy in
     let x = stands_so c.args.number c.args.self.now.table.standings c.args.judged.now c.requires in
     subst (λ (o : Option Standing). Runs g.Y.Sysfs.gives c.args.sysfs.now (by_standing p c.args.number c.args.verdict c.args.permanent o) c.refuse-in-Failed.result c.probe.new.sysfs) (sym x.1) (_, c.probe.new.sysfs, c.in-Failed.ensures.call x.0 x.1, (cc, refl))
-
-pub only-requires : goal.only-requires
-only-requires g c = assumption c
-
-pub refuse-requires : goal.refuse-requires
-refuse-requires g c = assumption c
-
-pub faults-requires : goal.faults-requires
-faults-requires g c κs = assumption c
-
-pub refuse-requires-in-Failed : goal.refuse-requires-in-Failed
-refuse-requires-in-Failed g c = assumption c
-
-pub returns-in-Alive-clause-can_do : goal.returns-in-Alive-clause-can_do
-returns-in-Alive-clause-can_do g c = assumption c
-
-pub returns-in-Alive-clause-lines : goal.returns-in-Alive-clause-lines
-returns-in-Alive-clause-lines g c = assumption c
-
-pub returns-in-Alive-clause-can_make : goal.returns-in-Alive-clause-can_make
-returns-in-Alive-clause-can_make g c = assumption c

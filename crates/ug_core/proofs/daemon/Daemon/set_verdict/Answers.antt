@@ -19,6 +19,3 @@ returns-clause-notes g c =
       due = search rules;
       standings = search rules;
     }
-
-pub order-requires-clause-stands : goal.order-requires-clause-stands
-order-requires-clause-stands g c = assumption c

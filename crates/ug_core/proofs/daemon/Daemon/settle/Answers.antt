@@ -82,24 +82,3 @@ returns-clause-noted g c =
     let all = goes_on _ _ _ _ c.settle_due.ensures.same c.push.ensures.same in
     let name = sym (all.panel ∙ c.join-journal.ensures.same_panel) in
     noted_more _ _ _ _ _ _ _ all c.join-journal.ensures.panel (c.panel-1.given.1 name) (ap (λ (v : Noted). v.entries) c.join-journal.ensures.now) refl
-
-pub settle_due-requires-clause-next : goal.settle_due-requires-clause-next
-settle_due-requires-clause-next g c = assumption c
-
-pub push-requires-clause-spare : goal.push-requires-clause-spare
-push-requires-clause-spare g c = assumption c
-
-pub push-requires-clause-kind : goal.push-requires-clause-kind
-push-requires-clause-kind g c = assumption c
-
-pub overflow_add-self : goal.overflow_add-self
-overflow_add-self g c = assumption c
-
-pub returns-clause-number : goal.returns-clause-number
-returns-clause-number g c = assumption c
-
-pub returns-clause-reply : goal.returns-clause-reply
-returns-clause-reply g c = assumption c
-
-pub returns-clause-watch : goal.returns-clause-watch
-returns-clause-watch g c = assumption c

@@ -44,33 +44,3 @@ returns-in-None-clause-notes g c =
     let saves = c.save_change-stored.ensures in
     notes_then (notes_none {most = 0} saves.report saves.daemon)
     (notes_then c.note_stored.ensures.notes c.put_in_force.ensures.notes)
-
-pub save_change-stored-requires-clause-can : goal.save_change-stored-requires-clause-can
-save_change-stored-requires-clause-can g c = assumption c
-
-pub save_change-stored-requires-clause-reads : goal.save_change-stored-requires-clause-reads
-save_change-stored-requires-clause-reads g c = assumption c
-
-pub refusal-requires : goal.refusal-requires
-refusal-requires g c = assumption c
-
-pub discard-requires : goal.discard-requires
-discard-requires g c = assumption c
-
-pub returns-in-Some-clause-runs : goal.returns-in-Some-clause-runs
-returns-in-Some-clause-runs g c = assumption c
-
-pub returns-in-Some-clause-counted : goal.returns-in-Some-clause-counted
-returns-in-Some-clause-counted g c = assumption c
-
-pub returns-in-Some-clause-written : goal.returns-in-Some-clause-written
-returns-in-Some-clause-written g c = assumption c
-
-pub returns-in-None-clause-runs : goal.returns-in-None-clause-runs
-returns-in-None-clause-runs g c = assumption c
-
-pub returns-in-None-clause-counted : goal.returns-in-None-clause-counted
-returns-in-None-clause-counted g c = assumption c
-
-pub returns-in-None-clause-written : goal.returns-in-None-clause-written
-returns-in-None-clause-written g c = assumption c

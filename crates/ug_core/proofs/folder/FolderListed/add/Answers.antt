@@ -20,21 +20,3 @@ invariant_of-self-then-len-lt-MAX_RULES c =
       holds_once_tried (record { mark = mark.Folder; rule = c.args.rule }) c.in-Some.list c.append.new.list c.append.result before.0 c.append.ensures.rules c.append.ensures.next c.append.ensures.history c.append.ensures.err,
       own_once_tried c.args.rule c.in-Some.list c.append.new.list c.append.result before.1 room back c.append.ensures.rules c.append.ensures.err,
     )
-
-pub discard-requires : goal.discard-requires
-discard-requires c = assumption c
-
-pub invariant_of-self : goal.invariant_of-self
-invariant_of-self c = assumption c
-
-pub len-requires : goal.len-requires
-len-requires c = assumption c
-
-pub stay_readable-requires : goal.stay_readable-requires
-stay_readable-requires c = assumption c
-
-pub discard-requires-2 : goal.discard-requires-2
-discard-requires-2 c = assumption c
-
-pub discard-requires-in-Some-take : goal.discard-requires-in-Some-take
-discard-requires-in-Some-take c = assumption c

@@ -13,21 +13,3 @@ pub invariant_of-self-then-len-lt-MAX_RULES : goal.invariant_of-self-then-len-lt
 invariant_of-self-then-len-lt-MAX_RULES c =
     let before : HoldsJust (marked_in c.in-Some.list.entries) c.in-Some.list = held c.self.inside.list c.in-Some.list c.in-Some.is c.self.invariant in
     holds_once_tried (record { mark = mark.File; rule = c.args.rule }) c.in-Some.list c.append.new.list c.append.result before c.append.ensures.rules c.append.ensures.next c.append.ensures.history c.append.ensures.err
-
-pub discard-requires : goal.discard-requires
-discard-requires c = assumption c
-
-pub invariant_of-self : goal.invariant_of-self
-invariant_of-self c = assumption c
-
-pub len-requires : goal.len-requires
-len-requires c = assumption c
-
-pub append-requires-clause-order : goal.append-requires-clause-order
-append-requires-clause-order c = assumption c
-
-pub discard-requires-2 : goal.discard-requires-2
-discard-requires-2 c = assumption c
-
-pub discard-requires-in-Some-take : goal.discard-requires-in-Some-take
-discard-requires-in-Some-take c = assumption c

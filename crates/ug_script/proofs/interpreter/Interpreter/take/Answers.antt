@@ -26,24 +26,3 @@ returns-in-TooLong-clause-ran g c = long_written _ _ (g.K.Sink.held c.args.out.n
 
 pub returns-in-Memory-clause-ran : goal.returns-in-Memory-clause-ran
 returns-in-Memory-clause-ran g c = memory_steps _ _ (g.K.Sink.held c.args.out.now)
-
-pub take_line-requires : goal.take_line-requires
-take_line-requires g c = assumption c
-
-pub write_event-requires : goal.write_event-requires
-write_event-requires g c κs = assumption c
-
-pub put-requires : goal.put-requires
-put-requires g c κs = assumption c
-
-pub returns-in-Event-clause-counted : goal.returns-in-Event-clause-counted
-returns-in-Event-clause-counted g c = assumption c
-
-pub returns-in-Event-clause-cause : goal.returns-in-Event-clause-cause
-returns-in-Event-clause-cause g c = assumption c
-
-pub returns-in-Text-clause-counted : goal.returns-in-Text-clause-counted
-returns-in-Text-clause-counted g c = assumption c
-
-pub returns-in-Text-clause-cause : goal.returns-in-Text-clause-cause
-returns-in-Text-clause-cause g c = assumption c

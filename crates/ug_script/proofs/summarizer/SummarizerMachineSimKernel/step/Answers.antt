@@ -38,33 +38,3 @@ pub returns-in-TooLong-clause-why : goal.returns-in-TooLong-clause-why
 returns-in-TooLong-clause-why g c = λ fault e.
     line_fault (interpreter_state c.args.self.now.script, c.args.world.now) c.args.line.now _ _ _ (ran_of c.take_line.result) c.take_line.ensures.ran c.take_line.ensures.why fault
     (subst (λ (t : Taken). fault_in (ran_of t) ≡ Some fault) (sym c.in-TooLong.is) e)
-
-pub take_line-requires : goal.take_line-requires
-take_line-requires g c = assumption c
-
-pub count_text-requires : goal.count_text-requires
-count_text-requires g c = assumption c
-
-pub count_event-requires : goal.count_event-requires
-count_event-requires g c = assumption c
-
-pub count_text-requires-in-Text : goal.count_text-requires-in-Text
-count_text-requires-in-Text g c = assumption c
-
-pub returns-in-Silent-clause-kept : goal.returns-in-Silent-clause-kept
-returns-in-Silent-clause-kept g c = assumption c
-
-pub returns-in-Event-clause-kept : goal.returns-in-Event-clause-kept
-returns-in-Event-clause-kept g c = assumption c
-
-pub returns-in-Text-clause-kept : goal.returns-in-Text-clause-kept
-returns-in-Text-clause-kept g c = assumption c
-
-pub returns-in-Bad-clause-kept : goal.returns-in-Bad-clause-kept
-returns-in-Bad-clause-kept g c = assumption c
-
-pub returns-in-TooLong-clause-kept : goal.returns-in-TooLong-clause-kept
-returns-in-TooLong-clause-kept g c = assumption c
-
-pub returns-in-Memory-clause-kept : goal.returns-in-Memory-clause-kept
-returns-in-Memory-clause-kept g c = assumption c

@@ -4,7 +4,7 @@ use Rattle.ug_kernel.specs.Tree.{Room}
 use Rattle.ug_types.specs.Names.{parent_of}
 use Rattle.ug_audit.specs.Journal.{noted_in}
 use Rattle.ug_table.specs.Settle.{if_place, kept_standings, no_room}
-use Rattle.ug_table.specs.State.{State, state_of, terms_of}
+use Rattle.ug_table.specs.State.{state_of, terms_of}
 use Rattle.ug_table.specs.Table.{TableState}
 use Rattle.ug_table.proofs.Common.{Entry, Runs}
 use Rattle.ug_table.proofs.Admitted.{judged_so}
