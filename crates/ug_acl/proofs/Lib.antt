@@ -8,3 +8,6 @@ pub mod PrintLine
 pub mod Printing
 pub mod Saying
 pub mod SeenSections
+pub mod ListsRead
+pub mod UnitedMembers
+pub mod Unions

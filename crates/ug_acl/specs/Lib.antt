@@ -7,3 +7,6 @@ pub mod Pairs
 pub mod Printed
 pub mod Texts
 pub mod Words
+pub mod Adding
+pub mod Asking
+pub mod Lists

@@ -41,8 +41,12 @@ fn is_added(all: &[Added], who: &Principal, section: Section, privilege: Privile
         (λ a. same_principal a.who who.now
         && holds_privilege (pairs_kept a.kept) section privilege) all.now }
 {
-    all.iter()
-        .any(|a| a.who == *who && a.kept.has(section, privilege))
+    for a in all {
+        if a.who == *who && a.kept.has(section, privilege) {
+            return true;
+        }
+    }
+    false
 }
 
 impl Acl {

@@ -20,7 +20,12 @@ pub struct Given {
 fn has_section(given: &[Given], section: Section) -> bool
     ensures { result ≡ lines.has_section given.now section }
 {
-    given.iter().any(|g| g.section == section)
+    for g in given {
+        if g.section == section {
+            return true;
+        }
+    }
+    false
 }
 
 // The section that a word is, unless an earlier line has it.

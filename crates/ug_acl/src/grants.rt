@@ -58,9 +58,12 @@ impl Model for Grants {
 fn gives(given: &[Given], section: Section, privilege: Privilege) -> bool
     ensures { result ≡ grants_privilege given.now section privilege }
 {
-    given
-        .iter()
-        .any(|g| g.section == section && g.privileges.has(privilege))
+    for g in given {
+        if g.section == section && g.privileges.has(privilege) {
+            return true;
+        }
+    }
+    false
 }
 
 fn given_in(given: &[Given], section: Section) -> Privileges

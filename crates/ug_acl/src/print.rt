@@ -1,5 +1,5 @@
 // Grants as a text.
-ghost use Rattle.std.specs.Prelude.{◌≡◌, ◌∷◌, ◌++◌, [], IfOk, true};
+ghost use Rattle.std.specs.Prelude.{◌≡◌, ◌≤◌, ◌∷◌, ◌++◌, [], IfOk, true, length};
 ghost use Rattle.ug_types.specs.Access.{section_word};
 ghost use Rattle.ug_acl.specs.Kept.{pairs_kept};
 ghost use Rattle.ug_acl.specs.Printed as texts;
@@ -9,9 +9,10 @@ use crate::grants::Kept;
 use std::alloc::Global;
 use ug_types::{NoMemory, Privilege, Section};
 
-// The words of the privileges that are held, with commas between.
-fn words_held(modify: bool, list: bool, listen: bool) -> &'static [u8]
-    ensures { result.now ≡ texts.words_held modify list listen }
+/// The words of the privileges that are held, with commas between.
+pub fn words_held(modify: bool, list: bool, listen: bool) -> &'static [u8]
+    ensures words { result.now ≡ texts.words_held modify list listen }
+    ensures short { length result.now ≤ 18 }
 {
     match (modify, list, listen) {
         (false, false, false) => b"",

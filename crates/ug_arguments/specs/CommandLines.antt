@@ -2,7 +2,7 @@
 use Rattle.std.specs.Prelude.{ℕ, List, Option, Some, codes, false, true}
 use Rattle.ug_types.specs.Principals.{Named}
 use Rattle.ug_proto.specs.declared.request.Request.{Request}
-use Rattle.ug_users.specs.declared.lists.Listed.{Listed}
+use Rattle.ug_acl.specs.declared.lists.Listed.{Listed}
 use Rattle.ug_arguments.specs.declared.command.Command.{Command}
 use Rattle.ug_arguments.specs.declared.command.Command.TheVariants.{AddUser, Ask}
 

@@ -8,13 +8,13 @@ use Rattle.ug_types.specs.declared.access.Section.TheVariants.{Devices, Policy, 
 use Rattle.ug_types.specs.declared.rule.After.{After}
 use Rattle.ug_types.specs.declared.rule.After.TheVariants as after
 use Rattle.ug_types.specs.declared.verdict.Target.{Target}
-use Rattle.ug_numerals.specs.Numbers.{number_in}
+use Rattle.ug_lines.specs.Numbers.{number_in}
 use Rattle.ug_proto.specs.Texts.{request_text}
 use Rattle.ug_proto.specs.declared.request.Request.{Request}
 use Rattle.ug_proto.specs.declared.request.Request.TheVariants as request
-use Rattle.ug_users.specs.Lists.{list_read, nothing_listed}
-use Rattle.ug_users.specs.declared.asked.Asked.{Asked}
-use Rattle.ug_users.specs.declared.lists.Listed.{Listed}
+use Rattle.ug_acl.specs.Lists.{list_read, nothing_listed}
+use Rattle.ug_acl.specs.declared.asked.Asked.{Asked}
+use Rattle.ug_acl.specs.declared.lists.Listed.{Listed}
 use Rattle.ug_arguments.specs.CommandWords.{word_in}
 use Rattle.ug_arguments.specs.SimpleCommands.{app_of_word, daemon_app, rows_in}
 use Rattle.ug_arguments.specs.Values.{is_event_count, is_line, is_most, is_rule, is_set, is_start, is_plain_word, number_found, passing, text_found}

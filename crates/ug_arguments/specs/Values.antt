@@ -3,7 +3,7 @@ use Rattle.std.specs.Prelude.{ℕ, ◌&&◌, Bool, not, nat_eq, nat_le, List, le
 use Rattle.std.specs.Prelude.{option_and_then, codes, bytes_eq, false}
 use Rattle.std.specs.List.{list_all}
 use Rattle.clap.specs.Words.{Row, first_of}
-use Rattle.ug_numerals.specs.Numbers.{number_in}
+use Rattle.ug_lines.specs.Numbers.{number_in}
 
 abbrev pub is_line_byte : ℕ → Bool
 is_line_byte b = not (nat_eq b 10)

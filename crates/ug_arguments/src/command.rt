@@ -1,9 +1,9 @@
 // What a command line asks for.
 ghost use Rattle.std.specs.Prelude.{◌≡◌};
 
+use ug_acl::Asked;
 use ug_proto::Request;
 use ug_types::{NoMemory, Principal, Text};
-use ug_users::Asked;
 
 /// A command of usbguard(1), with what its words say.
 #[derive(Drop)]

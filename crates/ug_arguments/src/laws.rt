@@ -3,7 +3,7 @@ ghost use Rattle.std.specs.Prelude.{◌≡◌, [], ◌∷◌, Some, codes, false
 ghost use Rattle.ug_types.specs.declared.rule.After.TheVariants as after;
 ghost use Rattle.ug_types.specs.declared.verdict.Target.TheVariants as target;
 ghost use Rattle.ug_proto.specs.declared.request.Request.TheVariants as request;
-ghost use Rattle.ug_users.specs.Lists.{nothing_listed};
+ghost use Rattle.ug_acl.specs.Lists.{nothing_listed};
 ghost use Rattle.ug_arguments.specs.CommandLines.{adds, asking_command, joe, listen_alone, listing, root_socket};
 ghost use Rattle.ug_arguments.specs.Commands.{command_in, settings_path};
 ghost use Rattle.ug_arguments.specs.declared.command.Command.TheVariants.{Ask, CheckRules, GeneratePolicy, LintRules, MakeScript, ReadDescriptor, Replay, Summarize, Watch};

@@ -1,19 +1,21 @@
 // What the values mean that were found behind a command's word.
-ghost use Rattle.std.specs.Prelude.{◌≡◌, IfOk, IfErr, Some};
+ghost use Rattle.std.specs.Prelude.{◌≡◌, IfOk, IfErr, Option, Some};
 ghost use Rattle.clap.specs.Words.{found_of, rows_of};
 ghost use Rattle.ug_arguments.specs.Commands as commands;
 ghost use Rattle.ug_arguments.specs.Commands.{NotRead, add_user_in, ask_in, request_given, made_of, make_script_in, replay_in, watch_in};
+ghost use Rattle.ug_proto.specs.declared.request.Request.{Request};
 
 use crate::command::{Command, WordsFault};
 use crate::command_word::CommandWord;
 use crate::matches::is_set;
-use crate::requests::{append_rule, device, get_parameter, remove_rule, sendable, set_parameter};
+use crate::requests::{append_rule, device, get_parameter, remove_rule, set_parameter};
+use crate::sending::is_sendable;
 use crate::values::{is_event_count, is_start, listed, most, number, principal, socket};
 use clap::ArgMatches;
 use std::alloc::Global;
+use ug_acl::Asked;
 use ug_proto::Request;
 use ug_types::Section;
-use ug_users::Asked;
 
 fn replay(matches: &ArgMatches) -> Command
     ensures { result ≡ replay_in (rows_of (found_of matches.now)) }
@@ -86,13 +88,34 @@ fn ask(alloc: Global, matches: &ArgMatches, request: Request) -> Result<Command,
         ≡ Some c) }
     ensures err { IfErr result (NotRead (ask_in (Some request) (rows_of (found_of matches.now)))) }
 {
-    let request = sendable(request)?;
-    let socket = socket(alloc, matches)?;
-    Ok(Command::Ask { socket, request })
+    if !is_sendable(&request) {
+        return Err(WordsFault::Bad);
+    }
+    match socket(alloc, matches) {
+        Ok(socket) => Ok(Command::Ask { socket, request }),
+        Err(fault) => Err(fault),
+    }
+}
+
+// The command that asks what was read, if it was read.
+fn ask_for(
+    alloc: Global,
+    matches: &ArgMatches,
+    request: Result<Request, WordsFault>,
+) -> Result<Command, WordsFault>
+    ensures ok { (read : Option Request) → IfOk request (λ r. read ≡ Some r)
+        → IfOk result (λ c. ask_in read (rows_of (found_of matches.now)) ≡ Some c) }
+    ensures err { (read : Option Request) → IfOk request (λ r. read ≡ Some r)
+        → IfErr request (NotRead read)
+        → IfErr result (NotRead (ask_in read (rows_of (found_of matches.now)))) }
+{
+    match request {
+        Ok(request) => ask(alloc, matches, request),
+        Err(fault) => Err(fault),
+    }
 }
 
 /// What the values mean that were found behind the word.
-#[tactic(auto, unfolding(crate::specs::Commands::meaning))]
 pub fn meaning(
     alloc: Global,
     word: CommandWord,
@@ -112,13 +135,13 @@ pub fn meaning(
         }),
         CommandWord::GeneratePolicy => Ok(Command::GeneratePolicy),
         CommandWord::AddUser => add_user(matches),
-        CommandWord::GetParameter => ask(alloc, matches, get_parameter(alloc, matches)?),
-        CommandWord::SetParameter => ask(alloc, matches, set_parameter(alloc, matches)?),
+        CommandWord::GetParameter => ask_for(alloc, matches, get_parameter(alloc, matches)),
+        CommandWord::SetParameter => ask_for(alloc, matches, set_parameter(alloc, matches)),
         CommandWord::ListDevices => ask(alloc, matches, Request::ListDevices),
-        CommandWord::Device(target) => ask(alloc, matches, device(matches, target)?),
+        CommandWord::Device(target) => ask_for(alloc, matches, device(matches, target)),
         CommandWord::ListRules => ask(alloc, matches, Request::ListRules),
-        CommandWord::AppendRule => ask(alloc, matches, append_rule(alloc, matches)?),
-        CommandWord::RemoveRule => ask(alloc, matches, remove_rule(matches)?),
+        CommandWord::AppendRule => ask_for(alloc, matches, append_rule(alloc, matches)),
+        CommandWord::RemoveRule => ask_for(alloc, matches, remove_rule(matches)),
         CommandWord::Watch => watch(alloc, matches),
     }
 }

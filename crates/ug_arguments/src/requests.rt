@@ -1,12 +1,10 @@
 // The requests that are asked for.
 ghost use Rattle.std.specs.Prelude.{◌≡◌, IfOk, IfErr, Some};
 ghost use Rattle.clap.specs.Words.{found_of, rows_of};
-ghost use Rattle.ug_arguments.specs.Commands as commands;
 ghost use Rattle.ug_arguments.specs.Commands.{NotRead, append_rule_in, device_in, get_parameter_in, remove_rule_in, set_parameter_in};
 
 use crate::command::WordsFault;
 use crate::matches::is_set;
-use crate::sending::is_sendable;
 use crate::values::{after, number, rule, word};
 use clap::ArgMatches;
 use std::alloc::Global;
@@ -61,15 +59,4 @@ pub fn remove_rule(matches: &ArgMatches) -> Result<Request, WordsFault>
 {
     let id = number(matches, "id")?;
     Ok(Request::RemoveRule { id })
-}
-
-/// The request, where it isn't too long to be sent.
-pub fn sendable(request: Request) -> Result<Request, WordsFault>
-    ensures ok { IfOk result (λ r. commands.sendable request ≡ Some r) }
-    ensures err { IfErr result (NotRead (commands.sendable request)) }
-{
-    if is_sendable(&request) {
-        return Ok(request);
-    }
-    Err(WordsFault::Bad)
 }

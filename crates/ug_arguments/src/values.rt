@@ -5,15 +5,15 @@ ghost use Rattle.ug_arguments.specs.Commands.{NotRead, after_id, after_of, given
 ghost use Rattle.ug_arguments.specs.Values as values;
 ghost use Rattle.ug_arguments.specs.Values.{number_found, passing, text_found};
 ghost use Rattle.ug_types.specs.Principals.{principal_of};
-ghost use Rattle.ug_numerals.specs.Numbers.{number_in};
+ghost use Rattle.ug_lines.specs.Numbers.{number_in};
 
 use crate::command::WordsFault;
 use crate::matches::value;
 use clap::ArgMatches;
 use std::alloc::Global;
-use ug_numerals::parse_decimal;
+use ug_acl::{Listed, read_list};
+use ug_lines::parse_decimal;
 use ug_types::{After, Principal, Section, Text};
-use ug_users::{Listed, read_list};
 
 fn is_line(text: &str) -> bool
     ensures { result ≡ values.is_line text.now }

@@ -3,15 +3,15 @@ use Rattle.std.proofs.Common.{◌≡◌, ℕ, Bool, true, false, List, [], ◌�
 use Rattle.std.specs.Prelude.{codes, decimal, if◌then◌else◌, Ok, Err}
 use Rattle.ug_types.specs.Elements.{Has}
 use Rattle.ug_types.specs.NodeNames.{IsNodeName}
-use Rattle.ug_parameter.specs.Parameters.{inserted_word, parameter_name, parameter_set, value_word}
+use Rattle.ug_types.specs.Parameters.{inserted_word, parameter_name, parameter_set, value_word}
 use Rattle.ug_types.specs.Principals.{principal_text}
-use Rattle.ug_refusal.specs.Refusals.{refusal_words}
+use Rattle.ug_types.specs.Refusals.{refusal_words}
 use Rattle.ug_types.specs.declared.saved.Saved.{Saved}
 use Rattle.ug_types.specs.declared.saved.Saved.TheVariants as saved
-use Rattle.ug_parameter.specs.declared.parameter.Inserted.{Inserted}
-use Rattle.ug_parameter.specs.declared.parameter.Inserted.TheVariants as inserted
-use Rattle.ug_parameter.specs.declared.parameter.Parameter.{Parameter}
-use Rattle.ug_parameter.specs.declared.parameter.Parameter.TheVariants as parameter
+use Rattle.ug_types.specs.declared.parameter.Inserted.{Inserted}
+use Rattle.ug_types.specs.declared.parameter.Inserted.TheVariants as inserted
+use Rattle.ug_types.specs.declared.parameter.Parameter.{Parameter}
+use Rattle.ug_types.specs.declared.parameter.Parameter.TheVariants as parameter
 use Rattle.ug_types.specs.declared.verdict.Target.{Target}
 use Rattle.ug_types.specs.declared.verdict.Target.TheVariants as target
 use Rattle.ug_types.specs.Targets.{target_word}
@@ -20,7 +20,7 @@ use Rattle.ug_types.specs.declared.verdict.Cause.TheVariants as cause
 use Rattle.ug_kernel.specs.declared.control.Write.{Write}
 use Rattle.ug_kernel.specs.declared.control.Write.TheVariants as write
 use Rattle.ug_types.proofs.NameWords.{node_graphic, node_no_star, principal_graphic, principal_read, principal_back}
-use Rattle.ug_refusal.proofs.RefusalRead.{number_back, refusal_read, refusal_first, refusal_back, refusal_on_line}
+use Rattle.ug_types.proofs.RefusalRead.{number_back, refusal_read, refusal_first, refusal_back, refusal_on_line}
 use Rattle.ug_types.proofs.SpacedWords.{is_graphic, is_line, split_words, line_no_newline, number_graphic}
 use Rattle.ug_kernel.specs.declared.calls.Wrote.{Wrote}
 use Rattle.ug_kernel.specs.declared.calls.Wrote.TheVariants as wrote

@@ -7,7 +7,7 @@ use Rattle.std.proofs.lemmas.Bool.Decides.{nat_tests}
 use Rattle.ug_types.specs.Elements.{Has}
 use Rattle.ug_types.specs.Principals.{is_name_byte}
 use Rattle.ug_types.proofs.SpacedWords.{is_graphic, is_line, split_words, line_no_newline, number_graphic}
-use Rattle.ug_refusal.proofs.RefusalRead.{number_back}
+use Rattle.ug_types.proofs.RefusalRead.{number_back}
 use Rattle.ug_audit.specs.declared.entry.Entry.{Entry}
 use Rattle.ug_audit.specs.declared.start_entry.ConfigPart.{ConfigPart}
 use Rattle.ug_audit.specs.declared.start_entry.ConfigPart.TheVariants as part

@@ -1,8 +1,8 @@
 -- The journal's lines of events, without their newlines.
 use Rattle.std.specs.Prelude.{ℕ, List, [], ◌∷◌, ◌++◌, Ok, Err, codes, decimal}
-use Rattle.ug_parameter.specs.Parameters.{parameter_name, parameter_set, value_word}
+use Rattle.ug_types.specs.Parameters.{parameter_name, parameter_set, value_word}
 use Rattle.ug_types.specs.Principals.{principal_text}
-use Rattle.ug_refusal.specs.Refusals.{refusal_words}
+use Rattle.ug_types.specs.Refusals.{refusal_words}
 use Rattle.ug_types.specs.declared.saved.Saved.{Saved}
 use Rattle.ug_types.specs.declared.saved.Saved.TheVariants as saved
 use Rattle.ug_types.specs.Targets.{target_word}

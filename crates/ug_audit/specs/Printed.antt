@@ -2,7 +2,7 @@
 use Rattle.std.specs.Prelude.{◌<◌, ◌^◌, IsTrue, Ok, Err}
 use Rattle.ug_types.specs.NodeNames.{IsNodeName}
 use Rattle.ug_types.specs.Principals.{is_name}
-use Rattle.ug_refusal.specs.Refusals.{IsRefusal}
+use Rattle.ug_types.specs.Refusals.{IsRefusal}
 use Rattle.ug_types.specs.declared.saved.Saved.TheVariants as saved
 use Rattle.ug_types.specs.declared.verdict.Cause.{Cause}
 use Rattle.ug_types.specs.declared.verdict.Cause.TheVariants as cause

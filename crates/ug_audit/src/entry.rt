@@ -1,11 +1,9 @@
 // What the daemon notes of an event.
 use ug_kernel::{FailedCall, Held, Write, Wrote};
-use ug_parameter::Parameter;
-use ug_refusal::Refusal;
-use ug_types::{Cause, Moment, NodeName, Principal, Saved, Target};
+use ug_types::{Cause, Moment, NodeName, Parameter, Principal, Refusal, Saved, Target};
 
 /// Why a name is unsettled.
-#[derive(Clone, Copy, PartialEq, Eq)]
+#[derive(Clone, Copy)]
 pub enum Fault {
     Call(FailedCall),
     Memory,

@@ -2,16 +2,16 @@
 ghost use Rattle.std.specs.Prelude.{◌≡◌, ◌≤◌, ◌<◌, ◌+◌, ◌++◌, [], ◌∷◌, length, codes, decimal};
 ghost use Rattle.ug_audit.specs.Lines.{and_words, cause_words, change_word, entry_line, fault_words, saved_word, wrote_word};
 ghost use Rattle.ug_audit.specs.Lines as lines;
-ghost use Rattle.ug_parameter.specs.Parameters.{parameter_name, parameter_set, value_word};
+ghost use Rattle.ug_types.specs.Parameters.{parameter_name, parameter_set, value_word};
 ghost use Rattle.ug_types.specs.Principals.{principal_text};
-ghost use Rattle.ug_refusal.specs.Refusals.{refusal_words};
+ghost use Rattle.ug_types.specs.Refusals.{refusal_words};
 ghost use Rattle.ug_types.specs.Targets.{target_word};
 
 use crate::entry::{Entry, Fault, RuleChange};
 use ug_kernel::{Write, Wrote};
-use ug_parameter::Parameter;
-use ug_refusal::{Refusal, words_of};
-use ug_types::{Cause, Line, Moment, NodeName, Principal, Saved, Target};
+use ug_types::{
+    Cause, Line, Moment, NodeName, Parameter, Principal, Refusal, Saved, Target, words_of,
+};
 
 /// Appends a space and a name.
 fn push_name(line: &mut Line, name: &NodeName)

@@ -1,7 +1,7 @@
 // Answers that are put together.
 use itoa::Buffer;
 use std::alloc::Global;
-use ug_numerals::two_digits;
+use ug_lines::two_digits;
 use ug_types::{NoMemory, Text};
 
 /// A text that grows. Where memory is short for a part, the text is none at its end.

@@ -68,7 +68,7 @@ fn text_of(alloc: Global, rules: &[Rule]) -> Option<Text> {
 
 fn save_on(alloc: Global, disk: &mut MemDisk, text: &[u8]) -> bool {
     match Store::recover(alloc, disk) {
-        Ok((mut store, _empty)) => store.save(alloc, disk, text) == Saved::Done,
+        Ok((mut store, _empty)) => matches!(store.save(alloc, disk, text), Saved::Done),
         Err(_) => false,
     }
 }

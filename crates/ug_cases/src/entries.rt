@@ -6,9 +6,10 @@ use ug_audit::{
 use ug_casefile::{Answer, number_of};
 use ug_conf::is_rule_file_name;
 use ug_kernel::{FailedCall, Held, Write, Wrote};
-use ug_parameter::ParameterName;
-use ug_refusal::Refusal;
-use ug_types::{Cause, Moment, NoMemory, NodeName, Principal, Privilege, Saved, Section, Target};
+use ug_types::{
+    Cause, Moment, NoMemory, NodeName, ParameterName, Principal, Privilege, Refusal, Saved,
+    Section, Target,
+};
 
 fn number(word: &str) -> Option<u64> {
     number_of(word.as_bytes())

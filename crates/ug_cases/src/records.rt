@@ -1,10 +1,9 @@
 // Descriptors and files of devices, the rules made of them, and which rules match them.
 use std::alloc::Global;
 use ug_casefile::{Answer, Case, bytes_of_hex};
-use ug_descr::{Descr, DescrFault, decode, ifaces};
 use ug_match::matches;
 use ug_print::{device_line, generated_rule, malformed_line, print_rule};
-use ug_record::{record_of, text_of};
+use ug_record::{Descr, DescrFault, decode, ifaces, record_of, text_of};
 use ug_rule::parse_query;
 use ug_types::{Attrs, DeviceRecord, Judged, NoMemory, NodeName, Target, Text, Triple};
 

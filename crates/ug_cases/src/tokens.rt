@@ -1,8 +1,8 @@
 // Tokens of lines.
 use std::alloc::Global;
 use ug_casefile::{Answer, Case};
-use ug_lex::{LexFault, Token, TokenKind, tokens};
 use ug_types::NoMemory;
+use ug_words::{LexFault, Token, TokenKind, tokens};
 
 fn letter(token: &Token) -> u8 {
     match &token.kind {

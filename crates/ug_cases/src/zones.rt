@@ -1,9 +1,9 @@
 // Seconds of local days.
-use jiff::tz::TimeZone;
+use jiff_tz::{TimeZone, posix};
 use ug_casefile::{Answer, number_of, split_word};
 use ug_cond::{FixedZone, Zone};
+use ug_host::CivilZone;
 use ug_types::Moment;
-use ug_zone::CivilZone;
 
 // So many seconds ahead of UTC.
 fn fixed(sign: i32, digits: &[u8]) -> Option<FixedZone> {
@@ -19,7 +19,7 @@ fn second(zone: &[u8], moment: &[u8]) -> Option<u32> {
         [b'-', digits @ ..] => Some(fixed(-1, digits)?.local_second(moment)),
         _ => {
             let name = str::from_utf8(zone).ok()?;
-            let zone = TimeZone::posix(name).ok()?;
+            let zone = TimeZone::Posix(posix::TimeZone::parse(name.as_bytes()).ok()?);
             Some(CivilZone { zone }.local_second(moment))
         }
     }

@@ -8,8 +8,8 @@ use Rattle.std.proofs.lemmas.List.{append-nil, drop-append-le, take-append-drop}
 use Rattle.std.proofs.lemmas.List.Sums.{sum_by-append, sum_by-cons}
 use Rattle.ug_types.specs.Elements.{Has}
 use Rattle.ug_types.proofs.Elements.{has_cases}
-use Rattle.ug_numerals.specs.Numbers.{number_in}
-use Rattle.ug_numerals.proofs.Numerals.{number_found}
+use Rattle.ug_lines.specs.Numbers.{number_in}
+use Rattle.ug_lines.proofs.Numerals.{number_found}
 use Rattle.ug_proto.specs.declared.reply.Reply.TheVariants.{Lines}
 use Rattle.ug_proto.specs.Replies.{AreWholeLines, ended_lines, reply_text}
 use Rattle.ug_proto.specs.ReplyReading.{IsReplyBegun}

@@ -2,18 +2,18 @@
 use Rattle.std.proofs.Common.{◌≡◌, ℕ, inl, inr, Bool, true, false, List, [], ◌∷◌, ◌++◌, Option, Some, None, refl, sym, ap, subst, ◌∙◌, append_assoc}
 use Rattle.std.specs.Prelude.{codes, decimal, if◌then◌else◌, is_some, IsTrue}
 use Rattle.std.proofs.lemmas.Bool.{and_parts, or_cases, or_right}
-use Rattle.ug_parameter.specs.Parameters.{parameter_name, parameter_of, parameter_set, parameter_with, value_word}
+use Rattle.ug_types.specs.Parameters.{parameter_name, parameter_of, parameter_set, parameter_with, value_word}
 use Rattle.ug_types.specs.Principals.{principal_text}
 use Rattle.ug_types.specs.Targets.{target_word}
 use Rattle.ug_kernel.specs.declared.control.Write.{Write}
-use Rattle.ug_parameter.specs.declared.parameter.Parameter.{Parameter}
-use Rattle.ug_parameter.specs.declared.parameter.Parameter.TheVariants as parameter
-use Rattle.ug_parameter.specs.declared.parameter.ParameterName.{ParameterName}
+use Rattle.ug_types.specs.declared.parameter.Parameter.{Parameter}
+use Rattle.ug_types.specs.declared.parameter.Parameter.TheVariants as parameter
+use Rattle.ug_types.specs.declared.parameter.ParameterName.{ParameterName}
 use Rattle.ug_types.specs.declared.verdict.Cause.{Cause}
 use Rattle.ug_types.specs.declared.verdict.Cause.TheVariants as cause
 use Rattle.ug_kernel.specs.declared.control.Held.{Held}
 use Rattle.ug_types.specs.declared.verdict.Target.{Target}
-use Rattle.ug_parameter.proofs.ParameterWords.{parameter_law, value_law}
+use Rattle.ug_types.proofs.ParameterWords.{parameter_law, value_law}
 use Rattle.ug_types.proofs.NameWords.{node_graphic}
 use Rattle.ug_types.proofs.SpacedWords.{number_graphic}
 use Rattle.ug_kernel.specs.declared.calls.Wrote.{Wrote}

@@ -23,8 +23,8 @@ use Rattle.ug_types.specs.declared.verdict.Target.TheVariants as target
 use Rattle.ug_types.proofs.AccessWords.{target_law}
 use Rattle.ug_types.proofs.SpacedWords.{is_graphic}
 use Rattle.ug_types.proofs.Spelled.{ended, ended_early, read, read_more, stopped}
-use Rattle.ug_numerals.specs.Numbers.{number_in}
-use Rattle.ug_numerals.proofs.Numerals.{is_number as number_read, number_found}
+use Rattle.ug_lines.specs.Numbers.{number_in}
+use Rattle.ug_lines.proofs.Numerals.{is_number as number_read, number_found}
 use Rattle.ug_kernel.specs.declared.calls.Wrote.{Wrote}
 use Rattle.ug_kernel.specs.declared.calls.Wrote.TheVariants as wrote
 use Rattle.ug_audit.specs.Lines.{write_word, wrote_word}

@@ -1,7 +1,7 @@
 -- What the bytes of a link answer: notices are skipped, and behind them stands a reply.
 use Rattle.std.specs.Prelude.{◌≡◌, ℕ, ◌≤◌, ◌⊎◌, List, length, drop, [], ◌∷◌, ◌++◌, codes, Option, Some, None, Result, Ok, Err}
 use Rattle.ug_types.specs.Elements.{Has}
-use Rattle.ug_refusal.specs.Refusals.{refusal_words}
+use Rattle.ug_types.specs.Refusals.{refusal_words}
 use Rattle.ug_audit.specs.Lines.{entry_line}
 use Rattle.ug_audit.specs.Printed.{IsEntry}
 use Rattle.ug_audit.specs.declared.entry.Entry.{Entry}

@@ -4,12 +4,12 @@ use Rattle.std.specs.Cmp.Lexicographic.{pointwise}
 use Rattle.ug_types.specs.Reading.{ends_name}
 use Rattle.ug_types.specs.declared.reading.Reading.{Reading}
 use Rattle.ug_types.specs.declared.reading.Reading.TheVariants.{Start}
-use Rattle.ug_parameter.specs.declared.parameter.ParameterName.{ParameterName}
-use Rattle.ug_parameter.specs.Parameters.{parameter_of, parameter_with}
+use Rattle.ug_types.specs.declared.parameter.ParameterName.{ParameterName}
+use Rattle.ug_types.specs.Parameters.{parameter_of, parameter_with}
 use Rattle.ug_types.specs.Principals.{principal_of}
 use Rattle.ug_types.specs.Targets.{target_of}
 use Rattle.ug_types.proofs.Spelled.{read}
-use Rattle.ug_numerals.specs.Numbers.{number_in}
+use Rattle.ug_lines.specs.Numbers.{number_in}
 
 abbrev pub onto_cut : ℕ → Option (List ℕ × List ℕ) → Option (List ℕ × List ℕ)
 onto_cut b None = None

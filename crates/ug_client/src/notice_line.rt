@@ -3,9 +3,8 @@ ghost use Rattle.std.specs.Prelude.{◌≡◌, ◌↔◌, IsTrue, IfSome, IfNone
 ghost use Rattle.ug_client.specs.Answers.{IsNotice};
 ghost use Rattle.ug_client.specs.NoticeLines as lines;
 
-use ug_numerals::parse_decimal;
-use ug_parameter::ParameterName;
-use ug_types::{NodeName, Principal, Target, is_word};
+use ug_lines::parse_decimal;
+use ug_types::{NodeName, ParameterName, Principal, Target, is_word};
 
 /// The first word, where a space stands behind it, and what stands behind that.
 fn cut_word(text: &[u8]) -> Option<(&[u8], &[u8])>

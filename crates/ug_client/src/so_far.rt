@@ -6,7 +6,7 @@ ghost use Rattle.ug_client.specs.ReadSoFar.{AwaitsLines, IsReadSoFar, newlines};
 use crate::answer::read_behind;
 use crate::notice::line_length;
 use std::alloc::Global;
-use ug_numerals::parse_decimal;
+use ug_lines::parse_decimal;
 use ug_proto::{Reply, ReplyFault};
 
 /// How far bytes in which no reply stands whole were read.

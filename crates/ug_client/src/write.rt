@@ -8,8 +8,7 @@ ghost use Rattle.ug_client.specs.Asking.{Writes, end_by_reply};
 use crate::asked::Asked;
 use std::alloc::Global;
 use ug_proto::Reply;
-use ug_refusal::words_of;
-use ug_types::{NoMemory, Put, Sink, Text};
+use ug_types::{NoMemory, Put, Sink, Text, words_of};
 
 fn put_lines(out: &mut Vec<u8>, lines: &[Text]) -> Result<(), NoMemory>
     ensures { OnOk result (out.new.items ≡ out.old.items ++ ended_lines lines.now) }

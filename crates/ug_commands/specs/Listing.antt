@@ -3,8 +3,8 @@ use Rattle.std.specs.Prelude.{ℕ, ◌≡◌, List, Option}
 use Rattle.ug_types.specs.Limits.{text_limit}
 use Rattle.ug_command_io.specs.Statuses.{status_of}
 use Rattle.ug_command_io.specs.declared.results.Ended.{Ended}
-use Rattle.ug_descr.specs.declared.descriptors.Descr.{Descr}
-use Rattle.ug_descr.specs.Grammar as grammar
+use Rattle.ug_record.specs.declared.descriptors.Descr.{Descr}
+use Rattle.ug_record.specs.Grammar as grammar
 use Rattle.ug_command_io.specs.WholeInputs as whole
 use Rattle.ug_commands.specs.ListingLines.{listing_text, malformed_line}
 

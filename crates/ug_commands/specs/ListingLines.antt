@@ -1,11 +1,11 @@
 -- The lines about descriptors.
 use Rattle.std.specs.Prelude.{ℕ, List, [], ◌∷◌, ◌++◌, codes, decimal}
 use Rattle.std.specs.List.{flat_map}
-use Rattle.ug_numerals.specs.Digits.{hex_two, hex_four}
+use Rattle.ug_lines.specs.Digits.{hex_two, hex_four}
 use Rattle.ug_types.specs.declared.record.Triple.{Triple}
-use Rattle.ug_descr.specs.declared.descriptors.Descr.{Descr}
-use Rattle.ug_descr.specs.declared.descriptors.Config.{Config}
-use Rattle.ug_descr.specs.declared.descriptors.IfaceDescr.{IfaceDescr}
+use Rattle.ug_record.specs.declared.descriptors.Descr.{Descr}
+use Rattle.ug_record.specs.declared.descriptors.Config.{Config}
+use Rattle.ug_record.specs.declared.descriptors.IfaceDescr.{IfaceDescr}
 
 -- a text and words behind it, one space before each, and a newline
 abbrev pub line_with : List ℕ → List (List ℕ) → List ℕ

@@ -11,7 +11,7 @@ use crate::listing_lines::line_of_malformed;
 use crate::writing::write_listing;
 use std::alloc::Global;
 use ug_command_io::{Ended, read_input, refuse_input, status, write_result};
-use ug_descr::{DescrFault, decode};
+use ug_record::{DescrFault, decode};
 use ug_types::{Put, Sink, Source, TEXT_LIMIT};
 
 /// Writes what the bytes of an input say, whose end was reached.

@@ -2,8 +2,8 @@
 ghost use Rattle.std.specs.Prelude.{◌≡◌, ◌≤◌, ◌<◌, ◌+◌, ◌++◌, ◌/◌, ◌%◌, [], ◌∷◌, length, decimal};
 ghost use Rattle.ug_commands.specs.ListingLines.{vendor_product_text, triple_text, device_line, configuration_line, interface_line, malformed_line};
 
-use ug_descr::{Config, Descr, IfaceDescr};
-use ug_numerals::{four_digits, two_digits};
+use ug_lines::{four_digits, two_digits};
+use ug_record::{Config, Descr, IfaceDescr};
 use ug_types::{Line, Triple};
 
 /// Appends a space and `vvvv:pppp`.

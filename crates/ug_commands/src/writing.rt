@@ -4,7 +4,7 @@ ghost use Rattle.ug_types.specs.Ends.{Puts, Rose};
 ghost use Rattle.ug_commands.specs.ListingLines.{configuration_text, listing_text};
 
 use crate::listing_lines::{line_of_configuration, line_of_device, line_of_interface};
-use ug_descr::{Config, Descr};
+use ug_record::{Config, Descr};
 use ug_types::{Put, Sink};
 
 /// Writes the device's line and its configurations. After a failed call of the sink nothing more is written.

@@ -13,4 +13,4 @@ pub use conditions::holds;
 pub use context::Context;
 pub use history::History;
 pub use laws::conditions_law;
-pub use zone::{FixedZone, Zone};
+pub use zone::{FixedZone, LAST_SECOND, Zone};

@@ -4,8 +4,8 @@ ghost use Rattle.ug_cond.specs.Clocks.{clock_ahead};
 
 use ug_types::Moment;
 
-// The last second that a calendar has at every offset, in the year 9999.
-const LAST_SECOND: u64 = 253_402_207_200;
+/// The last second that a calendar has at every offset, in the year 9999.
+pub const LAST_SECOND: u64 = 253_402_207_200;
 
 /// A time zone, as the condition localtime asks it for the time of day.
 pub trait Zone {

@@ -10,9 +10,9 @@ use Rattle.ug_conf.specs.Grammar.{IsSettingValue}
 use Rattle.ug_conf.specs.Names.{words_between, all_named}
 use Rattle.ug_conf.specs.Values.{setting_of, path_of, present_of, default_of, flag_of}
 use Rattle.ug_conf.proofs.Spacing.{names_read, names_found}
-use Rattle.ug_parameter.specs.Parameters.{inserted_of}
+use Rattle.ug_types.specs.Parameters.{inserted_of}
 use Rattle.ug_types.specs.Targets.{target_of}
-use Rattle.ug_parameter.proofs.ParameterWords.{inserted_written, inserted_read}
+use Rattle.ug_types.proofs.ParameterWords.{inserted_written, inserted_read}
 use Rattle.ug_types.proofs.AccessWords.{target_written, target_read}
 use Rattle.ug_conf.proofs.Tables.{present_written, present_read, default_written, default_read, flag_written, flag_read}
 

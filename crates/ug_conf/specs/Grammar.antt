@@ -4,7 +4,7 @@ use Rattle.ug_lines.specs.Equations.{IsBlank, AreBlanks, IsTextOf, IsSkipped, Is
 use Rattle.ug_types.specs.Elements.{Has}
 use Rattle.ug_lines.specs.Entries.{IsSkippedLine}
 use Rattle.ug_types.specs.declared.verdict.Target.{Target}
-use Rattle.ug_parameter.specs.Parameters.{inserted_word}
+use Rattle.ug_types.specs.Parameters.{inserted_word}
 use Rattle.ug_types.specs.Targets.{target_word}
 use Rattle.ug_conf.specs.declared.fault.FaultKind.{FaultKind}
 use Rattle.ug_conf.specs.declared.fault.FaultKind.TheVariants.{NoEquals, UnknownKey, BadValue, Repeated}
@@ -12,7 +12,7 @@ use Rattle.ug_conf.specs.declared.keys.Key.{Key}
 use Rattle.ug_conf.specs.declared.keys.Key.TheVariants as key
 use Rattle.ug_conf.specs.declared.settings.AuthDefault.{AuthDefault}
 use Rattle.ug_conf.specs.declared.settings.AuthDefault.TheVariants as auth_default
-use Rattle.ug_parameter.specs.declared.parameter.Inserted.{Inserted}
+use Rattle.ug_types.specs.declared.parameter.Inserted.{Inserted}
 use Rattle.ug_conf.specs.declared.settings.Present.{Present}
 use Rattle.ug_conf.specs.declared.settings.Present.TheVariants as present
 use Rattle.ug_conf.specs.declared.values.Setting.{Setting}

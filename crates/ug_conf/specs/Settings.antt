@@ -3,7 +3,7 @@ use Rattle.std.specs.Prelude.{[], codes, false}
 use Rattle.ug_types.specs.declared.verdict.Target.TheVariants.{Block}
 use Rattle.ug_conf.specs.declared.settings.Settings.{Settings}
 use Rattle.ug_conf.specs.declared.settings.Present.TheVariants as present
-use Rattle.ug_parameter.specs.declared.parameter.Inserted.TheVariants as inserted
+use Rattle.ug_types.specs.declared.parameter.Inserted.TheVariants as inserted
 use Rattle.ug_conf.specs.declared.settings.AuthDefault.TheVariants as auth_default
 
 unfoldable pub defaults : Settings

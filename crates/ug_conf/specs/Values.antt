@@ -2,7 +2,7 @@
 use Rattle.std.specs.Prelude.{ℕ, Bool, true, false, nat_eq, if◌then◌else◌, List, [], ◌∷◌, codes, Option, Some, None}
 use Rattle.std.specs.Cmp.Lexicographic.{pointwise}
 use Rattle.std.specs.Option.{option_map}
-use Rattle.ug_parameter.specs.Parameters.{inserted_of}
+use Rattle.ug_types.specs.Parameters.{inserted_of}
 use Rattle.ug_types.specs.Targets.{target_of}
 use Rattle.ug_conf.specs.declared.keys.Key.{Key}
 use Rattle.ug_conf.specs.declared.keys.Key.TheVariants as key

@@ -4,8 +4,7 @@ ghost use Rattle.ug_conf.specs.Settings.{defaults};
 
 use crate::settings::{AuthDefault, Present, Settings};
 use std::alloc::Global;
-use ug_parameter::Inserted;
-use ug_types::{List, NoMemory, Target, Text};
+use ug_types::{Inserted, List, NoMemory, Target, Text};
 
 /// The settings of an empty text: rules in `/etc/usbguard/rules.conf`, access files in
 /// `/etc/usbguard/IPCAccessControl.d/`, no folder of rules, no users, `block` where no rule matches, and

@@ -27,7 +27,12 @@ fn is_name_byte(byte: u8) -> bool
 fn are_name_bytes(name: &[u8]) -> bool
     ensures { result ≡ list_all is_name_byte name.now }
 {
-    name.iter().all(|byte| is_name_byte(*byte))
+    for byte in name {
+        if !is_name_byte(*byte) {
+            return false;
+        }
+    }
+    true
 }
 
 /// Whether a folder's file of that name counts: it has at most 255 bytes, all of them ASCII letters, digits, `_`, `-` and `.`, and ends

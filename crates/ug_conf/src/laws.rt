@@ -7,7 +7,7 @@ ghost use Rattle.ug_types.specs.TextFaults.{fault_of_kind};
 ghost use Rattle.ug_lines.specs.Entries.{IsSkippedLine};
 ghost use Rattle.ug_conf.specs.FolderFiles.{IsRuleFileName, is_rule_file_name};
 ghost use Rattle.ug_conf.specs.Grammar.{IsSettingsLine, IsSetting, IsBadSetting};
-ghost use Rattle.ug_parameter.specs.declared.parameter.Inserted.TheVariants as inserted;
+ghost use Rattle.ug_types.specs.declared.parameter.Inserted.TheVariants as inserted;
 ghost use Rattle.ug_types.specs.declared.verdict.Target.TheVariants as target;
 ghost use Rattle.ug_conf.specs.declared.settings.AuthDefault.TheVariants as auth_default;
 ghost use Rattle.ug_conf.specs.declared.settings.Present.TheVariants as present;

@@ -56,13 +56,23 @@ impl MemFiles {
 fn find_file<'a>(files: &'a [MemFile], path: &[u8]) -> Option<&'a MemFile>
     ensures { option_copied result ≡ find (λ f. pointwise nat_eq f.path path.now) files.now }
 {
-    files.iter().find(|f| f.path.bytes() == path)
+    for file in files {
+        if file.path.bytes() == path {
+            return Some(file);
+        }
+    }
+    None
 }
 
 fn find_folder<'a>(folders: &'a [MemFolder], path: &[u8]) -> Option<&'a MemFolder>
     ensures { option_copied result ≡ find (λ f. pointwise nat_eq f.path path.now) folders.now }
 {
-    folders.iter().find(|f| f.path.bytes() == path)
+    for folder in folders {
+        if folder.path.bytes() == path {
+            return Some(folder);
+        }
+    }
+    None
 }
 
 fn copy_file(alloc: Global, file: Option<&MemFile>) -> FileRead

@@ -7,8 +7,7 @@ use crate::names::named;
 use crate::settings::{AuthDefault, Present};
 use crate::spelled::{OneWord, spelled};
 use std::alloc::Global;
-use ug_parameter::Inserted;
-use ug_types::{List, NoMemory, Principal, Target, Text, is_word};
+use ug_types::{Inserted, List, NoMemory, Principal, Target, Text, is_word};
 
 /// A key with its value.
 #[derive(Drop)]

@@ -4,13 +4,13 @@ use Rattle.std.specs.Prelude.{IsSome}
 use Rattle.std.specs.Option.{option_map}
 use Rattle.std.proofs.lemmas.Option.{same_Some}
 use Rattle.ug_types.specs.Principals.{Named}
-use Rattle.ug_refusal.specs.declared.refusal.Refusal.{Refusal}
-use Rattle.ug_refusal.specs.declared.refusal.Refusal.TheVariants as refusal
-use Rattle.ug_parameter.specs.Parameters.{parameter_of, parameter_with, value_word}
+use Rattle.ug_types.specs.declared.refusal.Refusal.{Refusal}
+use Rattle.ug_types.specs.declared.refusal.Refusal.TheVariants as refusal
+use Rattle.ug_types.specs.Parameters.{parameter_of, parameter_with, value_word}
 use Rattle.ug_types.specs.declared.access.Privilege.{Privilege}
 use Rattle.ug_types.specs.declared.access.Section.{Section}
-use Rattle.ug_parameter.specs.declared.parameter.Parameter.{Parameter}
-use Rattle.ug_parameter.specs.declared.parameter.ParameterName.{ParameterName}
+use Rattle.ug_types.specs.declared.parameter.Parameter.{Parameter}
+use Rattle.ug_types.specs.declared.parameter.ParameterName.{ParameterName}
 use Rattle.ug_types.specs.declared.record.DeviceRecord.{DeviceRecord}
 use Rattle.ug_types.specs.declared.record.Judged.{Judged}
 use Rattle.ug_types.specs.declared.record.Judged.TheVariants as judged

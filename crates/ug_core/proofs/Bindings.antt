@@ -24,13 +24,13 @@ use Rattle.ug_kernel.specs.Kernel.{Kernel, IsKernel}
 use Rattle.ug_kernel.specs.Tree.{Runs, calls}
 use Rattle.ug_kernel.proofs.Quiet.{WritesNothing, moves_quiet, quiet_trans}
 use Rattle.ug_kernel.proofs.Ways.{Unwritten, Way, Ways, along_quiet, along_split, ways_last, ways_more, ways_run}
-use Rattle.ug_node.specs.Bind.{binding_of}
-use Rattle.ug_node.specs.declared.files.OwnFiles.{OwnFiles}
-use Rattle.ug_node.specs.declared.files.Stop.{Stop}
-use Rattle.ug_node.specs.declared.identity.Binding.{Binding}
-use Rattle.ug_node.specs.declared.identity.Bound.{Bound}
-use Rattle.ug_node.proofs.BindShapes.{Binds_by, Bound_by, Cut, Reads, No_more, Then_read, reads_own, reads_parents, told, way_binds}
-use Rattle.ug_node.proofs.UnderShapes.{Behind_by, Cut_behind, Found_alive, Probed_by, Read_behind, Under_alive, Under_by, Under_cut, Under_other}
+use Rattle.ug_kernel.specs.Bind.{binding_of}
+use Rattle.ug_kernel.specs.declared.files.OwnFiles.{OwnFiles}
+use Rattle.ug_kernel.specs.declared.files.Stop.{Stop}
+use Rattle.ug_kernel.specs.declared.identity.Binding.{Binding}
+use Rattle.ug_kernel.specs.declared.identity.Bound.{Bound}
+use Rattle.ug_kernel.proofs.BindShapes.{Binds_by, Bound_by, Cut, Reads, No_more, Then_read, reads_own, reads_parents, told, way_binds}
+use Rattle.ug_kernel.proofs.UnderShapes.{Behind_by, Cut_behind, Found_alive, Probed_by, Read_behind, Under_alive, Under_by, Under_cut, Under_other}
 use Rattle.ug_audit.specs.declared.entry.Entry.{Entry}
 use Rattle.ug_policy.specs.declared.entry.RuleEntry.{RuleEntry}
 use Rattle.ug_policy.specs.Deciding.{Found, decider}

@@ -17,7 +17,7 @@ use Rattle.ug_policy.specs.declared.entry.RuleEntry.{RuleEntry}
 use Rattle.ug_policy.proofs.Changes.{followed_first}
 use Rattle.ug_policy.proofs.Numbering.{numbered_insert, numbered_removed, numbered_retargeted}
 use Rattle.ug_policy.proofs.Order.{end_within, order_inserted}
-use Rattle.ug_policy.proofs.Places.{FirstAt}
+use Rattle.ug_policy.proofs.FirstPlaces.{FirstAt}
 use Rattle.ug_policy.proofs.Stands.{stands_insert, stands_removed, stands_retargeted}
 use Rattle.ug_core.specs.Changes.{CanChange, changed_by, with_parameter}
 use Rattle.ug_core.specs.Policy.{Judging}

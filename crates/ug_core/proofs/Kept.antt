@@ -39,8 +39,8 @@ use Rattle.std.specs.Prelude.{IsSome, nat_le, length, Result}
 use Rattle.ug_types.specs.Limits.{text_limit}
 use Rattle.ug_types.proofs.Elements.{has_left, has_right}
 use Rattle.ug_types.specs.Principals.{Named}
-use Rattle.ug_refusal.specs.declared.refusal.Refusal.{Refusal}
-use Rattle.ug_refusal.specs.declared.refusal.Refusal.TheVariants as refusal
+use Rattle.ug_types.specs.declared.refusal.Refusal.{Refusal}
+use Rattle.ug_types.specs.declared.refusal.Refusal.TheVariants as refusal
 use Rattle.ug_types.specs.declared.verdict.Target.{Target}
 use Rattle.ug_kernel.proofs.Ways.{ways_run}
 use Rattle.ug_proto.specs.Privileges.{needs}

@@ -4,7 +4,7 @@ use Rattle.ug_core.proofs.Kept.{asked_anytime}
 use Rattle.std.specs.List.{list_any}
 use Rattle.ug_types.specs.Elements.{Has}
 use Rattle.ug_types.specs.Principals.{Named}
-use Rattle.ug_refusal.specs.declared.refusal.Refusal.{Refusal}
+use Rattle.ug_types.specs.declared.refusal.Refusal.{Refusal}
 use Rattle.ug_types.specs.declared.saved.Saved.{Saved}
 use Rattle.ug_types.specs.declared.verdict.Moment.{Moment}
 use Rattle.ug_types.proofs.Elements.{cancel, has_right}
@@ -49,7 +49,7 @@ use Rattle.ug_core.proofs.Walk.{IsAt}
 use Rattle.std.proofs.lemmas.Option.{same_Some}
 use Rattle.ug_types.specs.declared.access.Privilege.{Privilege}
 use Rattle.ug_types.specs.declared.access.Section.{Section}
-use Rattle.ug_refusal.specs.declared.refusal.Refusal.TheVariants as refusal
+use Rattle.ug_types.specs.declared.refusal.Refusal.TheVariants as refusal
 use Rattle.ug_types.specs.declared.saved.Saved.TheVariants as saved
 use Rattle.ug_kernel.specs.declared.calls.Probe.{Probe}
 use Rattle.ug_kernel.specs.declared.calls.Probe.TheVariants as probe

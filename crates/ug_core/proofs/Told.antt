@@ -1,7 +1,7 @@
 -- A reply of lines, and a rule that is read, for which memory is taken.
 use Rattle.std.proofs.Common.{◌≡◌, ℕ, Bool, List, Result, Ok, Err, true, false, ◌⊎◌, inl, inr, refl, sym, ap, subst, ◌∙◌}
 use Rattle.std.specs.Prelude.{IfOk, OnErr}
-use Rattle.ug_refusal.specs.declared.refusal.Refusal.TheVariants as refusal
+use Rattle.ug_types.specs.declared.refusal.Refusal.TheVariants as refusal
 use Rattle.ug_kernel.specs.Calls.{Call, Answer}
 use Rattle.ug_kernel.specs.Tree.{Room, Runs}
 use Rattle.ug_policy.specs.declared.entry.RuleEntry.{RuleEntry}

@@ -1,10 +1,10 @@
 -- The words for the values of settings hold no newline.
 use Rattle.std.proofs.Common.{◌≡◌, ℕ, ◌<◌, arith}
 use Rattle.ug_lines.specs.Splitting.{IsLine}
-use Rattle.ug_parameter.specs.Parameters.{value_word}
-use Rattle.ug_parameter.specs.declared.parameter.Inserted.TheVariants as inserted
-use Rattle.ug_parameter.specs.declared.parameter.Parameter.{Parameter}
-use Rattle.ug_parameter.specs.declared.parameter.Parameter.TheVariants as parameter
+use Rattle.ug_types.specs.Parameters.{value_word}
+use Rattle.ug_types.specs.declared.parameter.Inserted.TheVariants as inserted
+use Rattle.ug_types.specs.declared.parameter.Parameter.{Parameter}
+use Rattle.ug_types.specs.declared.parameter.Parameter.TheVariants as parameter
 use Rattle.ug_types.specs.declared.verdict.Target.TheVariants as target
 
 byte : (m : ℕ) → 31 < m → m ≡ 10 → ⊥

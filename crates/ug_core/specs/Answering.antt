@@ -2,11 +2,11 @@
 -- standings, and by what a probe of its device finds.
 use Rattle.std.specs.Prelude.{◌≡◌, ◌⊎◌, ℕ, Bool, true, false, List, [], ◌∷◌, decimal, Option, Some, None, IsSome, Result, Ok, Err}
 use Rattle.ug_types.specs.Principals.{Named}
-use Rattle.ug_refusal.specs.declared.refusal.Refusal.{Refusal}
-use Rattle.ug_refusal.specs.declared.refusal.Refusal.TheVariants as refusal
-use Rattle.ug_parameter.specs.Parameters.{parameter_of, parameter_with, value_word}
-use Rattle.ug_parameter.specs.declared.parameter.Parameter.{Parameter}
-use Rattle.ug_parameter.specs.declared.parameter.ParameterName.{ParameterName}
+use Rattle.ug_types.specs.declared.refusal.Refusal.{Refusal}
+use Rattle.ug_types.specs.declared.refusal.Refusal.TheVariants as refusal
+use Rattle.ug_types.specs.Parameters.{parameter_of, parameter_with, value_word}
+use Rattle.ug_types.specs.declared.parameter.Parameter.{Parameter}
+use Rattle.ug_types.specs.declared.parameter.ParameterName.{ParameterName}
 use Rattle.ug_types.specs.declared.rule.After.{After}
 use Rattle.ug_types.specs.declared.rule.Rule.{Rule}
 use Rattle.ug_types.specs.declared.verdict.Target.{Target}

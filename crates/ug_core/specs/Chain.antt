@@ -4,7 +4,7 @@ use Rattle.std.specs.Prelude.{◌≡◌, ℕ, Bool, true, false, not, is_none, �
 use Rattle.std.specs.List.{list_any}
 use Rattle.ug_types.specs.Elements.{Has}
 use Rattle.ug_types.specs.Names.{parent_of}
-use Rattle.ug_refusal.specs.declared.refusal.Refusal.TheVariants as refusal
+use Rattle.ug_types.specs.declared.refusal.Refusal.TheVariants as refusal
 use Rattle.ug_types.specs.declared.saved.Saved.{Saved}
 use Rattle.ug_types.specs.declared.verdict.Target.{Target}
 use Rattle.ug_types.specs.declared.verdict.Cause.{Cause}

@@ -1,11 +1,11 @@
 -- What orders change of rules and settings.
 use Rattle.std.specs.Prelude.{ℕ, Bool, true, false, List, [], ◌∷◌, decimal, Option, Some, None, Result, Ok, Err}
 use Rattle.std.specs.Option.{option_map}
-use Rattle.ug_parameter.specs.Parameters.{parameter_of, parameter_with}
-use Rattle.ug_parameter.specs.declared.parameter.Parameter.{Parameter}
-use Rattle.ug_parameter.specs.declared.parameter.Parameter.TheVariants as parameter
-use Rattle.ug_parameter.specs.declared.parameter.ParameterName.{ParameterName}
-use Rattle.ug_parameter.specs.declared.parameter.ParameterName.TheVariants as name
+use Rattle.ug_types.specs.Parameters.{parameter_of, parameter_with}
+use Rattle.ug_types.specs.declared.parameter.Parameter.{Parameter}
+use Rattle.ug_types.specs.declared.parameter.Parameter.TheVariants as parameter
+use Rattle.ug_types.specs.declared.parameter.ParameterName.{ParameterName}
+use Rattle.ug_types.specs.declared.parameter.ParameterName.TheVariants as name
 use Rattle.ug_types.specs.declared.record.DeviceRecord.{DeviceRecord}
 use Rattle.ug_types.specs.declared.record.Judged.{Judged}
 use Rattle.ug_types.specs.declared.record.Judged.TheVariants as judged

@@ -2,7 +2,7 @@
 use Rattle.std.specs.Prelude.{◌≡◌, ℕ, cond, List, [], ◌∷◌, ◌++◌, Option, Some, None, Result, Ok, Err, ◌⊎◌}
 use Rattle.ug_types.specs.Elements.{Has}
 use Rattle.ug_types.specs.Principals.{Named}
-use Rattle.ug_refusal.specs.declared.refusal.Refusal.TheVariants as refusal
+use Rattle.ug_types.specs.declared.refusal.Refusal.TheVariants as refusal
 use Rattle.ug_types.specs.declared.rule.Rule.{Rule}
 use Rattle.ug_types.specs.declared.saved.Saved.{Saved}
 use Rattle.ug_types.specs.declared.saved.Saved.TheVariants as saved

@@ -2,10 +2,10 @@
 use Rattle.std.specs.Prelude.{◌≡◌, ℕ, ◌+◌, ◌≤◌, ◌<◌, ◌^◌, length, Bool, true, false, List, [], ◌∷◌, ◌++◌, Option, Some, None, IsSome, Ok, Err, ◌⊎◌}
 use Rattle.ug_types.specs.Elements.{Has, AllDistinct}
 use Rattle.ug_types.specs.Principals.{Named}
-use Rattle.ug_parameter.specs.Parameters.{parameter_of, parameter_with, value_word}
-use Rattle.ug_parameter.specs.declared.parameter.ParameterName.{ParameterName}
-use Rattle.ug_refusal.specs.declared.refusal.Refusal.{Refusal}
-use Rattle.ug_refusal.specs.declared.refusal.Refusal.TheVariants as refusal
+use Rattle.ug_types.specs.Parameters.{parameter_of, parameter_with, value_word}
+use Rattle.ug_types.specs.declared.parameter.ParameterName.{ParameterName}
+use Rattle.ug_types.specs.declared.refusal.Refusal.{Refusal}
+use Rattle.ug_types.specs.declared.refusal.Refusal.TheVariants as refusal
 use Rattle.ug_types.specs.declared.rule.After.{After}
 use Rattle.ug_types.specs.declared.rule.After.TheVariants as after
 use Rattle.ug_types.specs.declared.rule.Rule.{Rule}

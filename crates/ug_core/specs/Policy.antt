@@ -17,8 +17,8 @@ use Rattle.ug_policy.specs.Deciding.{Found, find_decider, decider, reached, word
 use Rattle.ug_policy.specs.Matching.{answer_by}
 use Rattle.ug_table.specs.Allowed.{allowed_records}
 use Rattle.ug_table.specs.State.{Answers, Laters}
-use Rattle.ug_parameter.specs.declared.parameter.Inserted.{Inserted}
-use Rattle.ug_parameter.specs.declared.parameter.Inserted.TheVariants as inserted
+use Rattle.ug_types.specs.declared.parameter.Inserted.{Inserted}
+use Rattle.ug_types.specs.declared.parameter.Inserted.TheVariants as inserted
 use Rattle.ug_conf.specs.declared.settings.Present.{Present}
 use Rattle.ug_conf.specs.declared.settings.Present.TheVariants as present
 use Rattle.ug_core.specs.declared.classes.Classes.{Classes}

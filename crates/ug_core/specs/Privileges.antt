@@ -4,8 +4,8 @@ use Rattle.std.specs.List.{list_any}
 use Rattle.ug_types.specs.Principals.{Named}
 use Rattle.ug_types.specs.declared.access.Section.{Section}
 use Rattle.ug_types.specs.declared.access.Privilege.{Privilege}
-use Rattle.ug_refusal.specs.declared.refusal.Refusal.{Refusal}
-use Rattle.ug_refusal.specs.declared.refusal.Refusal.TheVariants as refusal
+use Rattle.ug_types.specs.declared.refusal.Refusal.{Refusal}
+use Rattle.ug_types.specs.declared.refusal.Refusal.TheVariants as refusal
 use Rattle.ug_acl.specs.Acls.{Addition, is_allowed}
 
 -- whether one of these privileges is held

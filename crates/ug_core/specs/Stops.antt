@@ -3,7 +3,7 @@
 use Rattle.std.specs.Prelude.{◌≡◌, ℕ, ◌+◌, ◌<◌, Bool, false, List, [], ◌∷◌, ◌++◌, length, Option, Some, Result, Ok, Err, ◌⊎◌}
 use Rattle.ug_types.specs.Elements.{Has}
 use Rattle.ug_types.specs.declared.rule.Rule.{Rule}
-use Rattle.ug_refusal.specs.declared.refusal.Refusal.TheVariants as refusal
+use Rattle.ug_types.specs.declared.refusal.Refusal.TheVariants as refusal
 use Rattle.ug_types.specs.declared.saved.Saved.TheVariants as saved
 use Rattle.ug_kernel.specs.Kernel.{Kernel}
 use Rattle.ug_audit.specs.declared.entry.Entry.TheVariants as entry

@@ -4,8 +4,8 @@ ghost use Rattle.ug_core.specs.Changes.{change_entry, parameter_at, with_paramet
 
 use crate::classes::Classes;
 use ug_audit::{Entry, RuleChange};
-use ug_parameter::{Parameter, ParameterName};
 use ug_ruleset::Edit;
+use ug_types::{Parameter, ParameterName};
 
 /// A change of rules or settings.
 #[derive(Drop)]

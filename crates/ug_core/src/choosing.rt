@@ -3,7 +3,7 @@ ghost use Rattle.std.specs.Prelude.{◌≡◌, ◌⊎◌, ◌∷◌, [], ℕ, fa
 ghost use Rattle.ug_kernel.specs.Tree.{Room, Runs};
 ghost use Rattle.ug_lines.specs.Splitting.{AreLines, IsLine};
 ghost use Rattle.ug_rule.specs.Rules.{rule_read};
-ghost use Rattle.ug_parameter.specs.Parameters.{parameter_of};
+ghost use Rattle.ug_types.specs.Parameters.{parameter_of};
 ghost use Rattle.ug_core.specs.Answering.{asking, asking_of, by_edit, by_id, by_name, by_request, by_rule, by_setting, by_standing, by_value, if_rule_read, CanDo, CanMake, HasReplyLines, IsChosenForGood, changing, only, refusing, telling};
 ghost use Rattle.ug_core.specs.Changes.{change_lines, ordered_mark, verdict_edit};
 ghost use Rattle.ug_core.specs.DeviceRows.{device_rows};
@@ -22,13 +22,14 @@ use rand_core::Rng;
 use std::alloc::Global;
 use ug_cond::Zone;
 use ug_kernel::{Probe, Sysfs};
-use ug_parameter::{Parameter, ParameterName};
 use ug_policy::Mark;
 use ug_proto::{Request, RequestFault, parse_request};
-use ug_refusal::Refusal;
 use ug_rule::{RuleFault, parse_rule};
 use ug_ruleset::{Edit, stay_readable};
-use ug_types::{After, DeviceRecord, Judged, List, NoMemory, Principal, Rule, Target, Text};
+use ug_types::{
+    After, DeviceRecord, Judged, List, NoMemory, Parameter, ParameterName, Principal, Refusal,
+    Rule, Target, Text,
+};
 
 /// What is done of an order once its change is in force.
 #[derive(Drop)]

@@ -5,8 +5,7 @@ ghost use Rattle.ug_core.specs.Settings.{classes_of, hub_default};
 
 use ug_conf::{AuthDefault, Present, Settings};
 use ug_kernel::Write;
-use ug_parameter::Inserted;
-use ug_types::{Cause, Target};
+use ug_types::{Cause, Inserted, Target};
 
 /// The settings that verdicts and the rules made of devices go by: usbguard-daemon.conf(5).
 #[derive(Clone, Copy)]

@@ -31,10 +31,9 @@ use ug_cond::Zone;
 use ug_kernel::Sysfs;
 use ug_print::RulesTextFault;
 use ug_proto::Reply;
-use ug_refusal::Refusal;
 use ug_store::{RuleDisk, Saved};
 use ug_table::Settled;
-use ug_types::{List, Principal, Target, Text};
+use ug_types::{List, Principal, Refusal, Target, Text};
 
 // The reply behind the writes. Where the device has left since, the order is done.
 fn reply_to(lines: List<Text>, settled: Settled) -> Reply

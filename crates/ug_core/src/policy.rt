@@ -18,13 +18,14 @@ use rand_core::Rng;
 use std::alloc::Global;
 use ug_cond::{Allowed, Context, Zone};
 use ug_conf::Present;
-use ug_parameter::{Parameter, ParameterName};
 use ug_policy::{Mark, RuleList};
 use ug_print::{RulesTextFault, generated_rule};
-use ug_refusal::Refusal;
 use ug_ruleset::{Edit, KeptRules};
 use ug_table::{Judge, Table};
-use ug_types::{After, Cause, DeviceRecord, Judged, List, Moment, NoMemory, Query, Target, Text};
+use ug_types::{
+    After, Cause, DeviceRecord, Judged, List, Moment, NoMemory, Parameter, ParameterName, Query,
+    Refusal, Target, Text,
+};
 
 /// The settings for classes of devices, the rules in order, the local time zone, when devices are judged, and the generator of random words.
 #[derive(Drop)]

@@ -5,8 +5,7 @@ ghost use Rattle.ug_proto.specs.Privileges.{needs};
 
 use ug_acl::Acl;
 use ug_proto::Request;
-use ug_refusal::Refusal;
-use ug_types::{Principal, Privilege, Section};
+use ug_types::{Principal, Privilege, Refusal, Section};
 
 /// The refusal of a request that the user or group may not make: it names the first of the privileges of which one is needed,
 /// where none of them is held. It takes no memory.
@@ -24,7 +23,12 @@ pub fn denied(acl: &Acl, who: &Principal, request: &Request) -> Option<Refusal>
 fn has_one(acl: &Acl, who: &Principal, needed: &[(Section, Privilege)]) -> bool
     ensures { result ≡ is_granted acl.now who.now needed.now }
 {
-    needed.iter().any(|(section, privilege)| acl.allows(who, *section, *privilege))
+    for (section, privilege) in needed {
+        if acl.allows(who, *section, *privilege) {
+            return true;
+        }
+    }
+    false
 }
 
 fn refuse_first(needed: &[(Section, Privilege)]) -> Option<Refusal>

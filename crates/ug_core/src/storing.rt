@@ -2,8 +2,8 @@
 ghost use Rattle.std.specs.Prelude.{◌≡◌};
 ghost use Rattle.ug_core.specs.Storing.{after_saving, refused_by};
 
-use ug_refusal::Refusal;
 use ug_store::Saved;
+use ug_types::Refusal;
 
 /// What became of an order's change: it is in force exactly where nothing had to be saved, or the save was done.
 #[derive(Clone, Copy)]

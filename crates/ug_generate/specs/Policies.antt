@@ -14,7 +14,7 @@ use Rattle.ug_types.specs.declared.rule.Rule.{Rule}
 use Rattle.ug_types.specs.declared.verdict.Target.TheVariants.{Allow}
 use Rattle.ug_kernel.specs.declared.device.Device.{Device}
 use Rattle.ug_kernel.specs.Kernel.{Live}
-use Rattle.ug_node.specs.Bound.{attrs_of, parent_attrs_of}
+use Rattle.ug_kernel.specs.Bound.{attrs_of, parent_attrs_of}
 use Rattle.ug_record.specs.Records.{judged_of}
 use Rattle.ug_match.specs.Queries.{query_matches}
 use Rattle.ug_print.specs.Generated.{generated_of}

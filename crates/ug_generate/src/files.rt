@@ -1,7 +1,7 @@
 // What is known of a device that is held in memory.
 ghost use Rattle.std.specs.Prelude.{◌≡◌, IfOk};
 ghost use Rattle.ug_kernel.specs.Called.{text_within, within_limit};
-ghost use Rattle.ug_node.specs.Bound.{attrs_of, file_bytes, is_too_long, parent_attrs_of};
+ghost use Rattle.ug_kernel.specs.Bound.{attrs_of, file_bytes, is_too_long, parent_attrs_of};
 ghost use Rattle.ug_generate.specs.Policies.{judged_in as judged_there, parent_files as files_above};
 
 use std::alloc::Global;
@@ -58,16 +58,17 @@ fn read_text(alloc: Global, text: &Option<Text>) -> Result<FileRead, NoMemory>
 fn own_files(alloc: Global, device: &Device) -> Result<Attrs, NoMemory>
     ensures { IfOk result (λ attrs. attrs ≡ attrs_of device.now) }
 {
-    let descriptors = read_descriptors(alloc, device.descriptors.bytes())?;
-    let product = read_text(alloc, &device.product)?;
-    let serial = read_text(alloc, &device.serial)?;
-    let connect = read_text(alloc, &device.connect)?;
+    let attrs = files_for_child(alloc, device)?;
+    let Ok(connect) = read_text(alloc, &device.connect) else {
+        attrs.discard();
+        return Err(NoMemory);
+    };
     Ok(Attrs {
-        descriptors: descriptors.bytes,
-        product: product.bytes,
-        serial: serial.bytes,
+        descriptors: attrs.descriptors,
+        product: attrs.product,
+        serial: attrs.serial,
         connect: connect.bytes,
-        too_long: descriptors.too_long || product.too_long || serial.too_long || connect.too_long,
+        too_long: attrs.too_long | connect.too_long,
     })
 }
 
@@ -75,14 +76,18 @@ fn files_for_child(alloc: Global, device: &Device) -> Result<Attrs, NoMemory>
     ensures { IfOk result (λ attrs. attrs ≡ parent_attrs_of device.now) }
 {
     let descriptors = read_descriptors(alloc, device.descriptors.bytes())?;
-    let product = read_text(alloc, &device.product)?;
-    let serial = read_text(alloc, &device.serial)?;
+    let Ok(product) = read_text(alloc, &device.product) else {
+        return Err(NoMemory);
+    };
+    let Ok(serial) = read_text(alloc, &device.serial) else {
+        return Err(NoMemory);
+    };
     Ok(Attrs {
         descriptors: descriptors.bytes,
         product: product.bytes,
         serial: serial.bytes,
         connect: Text::new(alloc),
-        too_long: descriptors.too_long || product.too_long || serial.too_long,
+        too_long: descriptors.too_long | product.too_long | serial.too_long,
     })
 }
 

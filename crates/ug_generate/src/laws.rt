@@ -7,7 +7,7 @@ ghost use Rattle.ug_types.specs.declared.record.Judged.TheVariants.{Good};
 ghost use Rattle.ug_types.specs.declared.rule.Rule.{Rule};
 ghost use Rattle.ug_kernel.specs.Kernel.{Kernel, Live};
 ghost use Rattle.ug_kernel.specs.declared.device.Device.{Device};
-ghost use Rattle.ug_node.specs.Bound.{attrs_of, IsParentRead};
+ghost use Rattle.ug_kernel.specs.Bound.{attrs_of, IsParentRead};
 ghost use Rattle.ug_record.specs.Records.{judged_of};
 ghost use Rattle.ug_generate.specs.Policies.{judged_in, Admits, IsMadeOf, IsPolicy, policy_rules};
 

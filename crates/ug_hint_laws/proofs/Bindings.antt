@@ -6,14 +6,14 @@ use Rattle.ug_kernel.specs.declared.control.Control.{Control}
 use Rattle.ug_kernel.specs.declared.control.Control.TheVariants.{Authorized}
 use Rattle.ug_kernel.specs.declared.control.Attr.{Attr}
 use Rattle.ug_kernel.specs.Tree.{Prog, Return, then}
-use Rattle.ug_node.specs.declared.files.File.{File}
-use Rattle.ug_node.specs.declared.files.OwnFiles.{OwnFiles}
-use Rattle.ug_node.specs.declared.files.Stop.{Stop}
-use Rattle.ug_node.specs.declared.identity.Binding.{Binding}
-use Rattle.ug_node.specs.declared.removal.RemoveHold.{RemoveHold}
-use Rattle.ug_node.specs.Bind.{binding, binding_under, binding_of, after_open, after_open_under, after_own, after_own_under, after_parent, after_probe, after_asking, asking_alive, asking_parent, to_parent, closing}
-use Rattle.ug_node.specs.Files.{reading, reading_own, reading_parent, after_read, if_absent, after_descriptors, after_product, after_serial, after_connect, after_parent_descriptors, after_parent_product, after_parent_serial, own_of, parent_of_files}
-use Rattle.ug_node.specs.Removal.{holding, after_hold_open, after_hold_probe}
+use Rattle.ug_kernel.specs.declared.files.File.{File}
+use Rattle.ug_kernel.specs.declared.files.OwnFiles.{OwnFiles}
+use Rattle.ug_kernel.specs.declared.files.Stop.{Stop}
+use Rattle.ug_kernel.specs.declared.identity.Binding.{Binding}
+use Rattle.ug_kernel.specs.declared.removal.RemoveHold.{RemoveHold}
+use Rattle.ug_kernel.specs.Bind.{binding, binding_under, binding_of, after_open, after_open_under, after_own, after_own_under, after_parent, after_probe, after_asking, asking_alive, asking_parent, to_parent, closing}
+use Rattle.ug_kernel.specs.Files.{reading, reading_own, reading_parent, after_read, if_absent, after_descriptors, after_product, after_serial, after_connect, after_parent_descriptors, after_parent_product, after_parent_serial, own_of, parent_of_files}
+use Rattle.ug_kernel.specs.Removal.{holding, after_hold_open, after_hold_probe}
 use Rattle.ug_table.specs.Parent.{binding_by}
 use Rattle.ug_table.specs.declared.standing.Standing.{Standing}
 use Rattle.ug_hint_laws.proofs.Alike.{Alike, Ends, alike_then}

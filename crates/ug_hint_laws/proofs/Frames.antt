@@ -22,7 +22,7 @@ use Rattle.ug_table.proofs.Chains.{settling_run}
 use Rattle.ug_table.proofs.Lived.{piece_apart, stand_files}
 use Rattle.ug_table.proofs.Marks.{order_filter}
 use Rattle.ug_table.proofs.Several.{told_names}
-use Rattle.ug_node.specs.declared.identity.Bound.{Bound}
+use Rattle.ug_kernel.specs.declared.identity.Bound.{Bound}
 use Rattle.ug_table.proofs.Shapes.{flat_rest, judge_after}
 use Rattle.ug_table.proofs.Standings.{Others}
 use Rattle.ug_hint_laws.specs.Compared.{RunsStill, TurnsInto, Unchanged, Behind_one}

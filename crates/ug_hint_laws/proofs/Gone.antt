@@ -13,8 +13,8 @@ use Rattle.ug_kernel.specs.Calls.{Open, failed_open, is_probe_failed}
 use Rattle.ug_kernel.specs.Called.{does_open, says_probe}
 use Rattle.ug_kernel.specs.Kernel.{Kernel}
 use Rattle.ug_kernel.specs.Tree.{Prog, Ask, then}
-use Rattle.ug_node.specs.Bind.{binding, binding_under, after_open, after_open_under}
-use Rattle.ug_node.specs.declared.identity.Binding.{Binding}
+use Rattle.ug_kernel.specs.Bind.{binding, binding_under, after_open, after_open_under}
+use Rattle.ug_kernel.specs.declared.identity.Binding.{Binding}
 use Rattle.ug_audit.specs.declared.entry.Entry.{Entry}
 use Rattle.ug_table.specs.Laws.{Stand}
 use Rattle.ug_table.specs.Parent.{parent_standing, binding_by}

@@ -5,8 +5,8 @@ use Rattle.ug_types.specs.declared.record.Judged.{Judged}
 use Rattle.ug_types.specs.declared.verdict.Target.{Target}
 use Rattle.ug_types.specs.declared.verdict.Cause.{Cause}
 use Rattle.ug_kernel.specs.Tree.{Return, then}
-use Rattle.ug_node.specs.declared.identity.Bound.{Bound}
-use Rattle.ug_node.specs.declared.identity.Binding.{Binding}
+use Rattle.ug_kernel.specs.declared.identity.Bound.{Bound}
+use Rattle.ug_kernel.specs.declared.identity.Binding.{Binding}
 use Rattle.ug_audit.specs.declared.entry.Entry.{Entry}
 use Rattle.ug_audit.specs.declared.entry.Fault.{Fault}
 use Rattle.ug_table.specs.Bring.{treating}

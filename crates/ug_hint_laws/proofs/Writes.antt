@@ -5,8 +5,8 @@ use Rattle.ug_kernel.specs.declared.calls.Wrote.{Wrote}
 use Rattle.ug_kernel.specs.declared.calls.FailedCall.{FailedCall}
 use Rattle.ug_kernel.specs.Calls.{Close}
 use Rattle.ug_kernel.specs.Tree.{Return, Ask, then}
-use Rattle.ug_node.specs.declared.removal.RemoveHold.{RemoveHold}
-use Rattle.ug_node.specs.Removal.{holding}
+use Rattle.ug_kernel.specs.declared.removal.RemoveHold.{RemoveHold}
+use Rattle.ug_kernel.specs.Removal.{holding}
 use Rattle.ug_audit.specs.declared.entry.Entry.{Entry}
 use Rattle.ug_table.specs.Done.{control_of}
 use Rattle.ug_table.specs.Bring.{wants, write_of, after_write, to_write, to_value, valuing, after_hold, once, is_to_go, if_to_go, after_value, writing, close_gone, bringing, default_due, defaulted_known, after_default, by_default, treating}

@@ -1,2 +1,4 @@
 pub mod Names
 pub mod RuleFiles
+pub mod Local
+pub mod Zones

@@ -1,12 +1,15 @@
-// The machine's own files behind the daemon's traits.
+// The machine's own files, clock and zone behind the daemon's traits.
 #![tactic(auto)]
 
 mod auditor;
+mod civil_zone;
 mod clock;
 mod conf_folder;
 mod entries;
 mod first_byte;
 mod folder;
+mod laws;
+mod local_zone;
 mod names;
 mod output;
 mod port;
@@ -17,8 +20,11 @@ mod standard_files;
 mod sysfs;
 
 pub use auditor::WriterAuditor;
+pub use civil_zone::CivilZone;
 pub use clock::SystemClock;
 pub use conf_folder::ConfFolder;
+pub use laws::zones_law;
+pub use local_zone::LocalZone;
 pub use output::JournalOutput;
 pub use refusal::{RefusalReader, RefusedPart, StartRefusal};
 pub use rule_file::RuleFile;

@@ -2,11 +2,11 @@
 use Rattle.std.proofs.Common.{◌≡◌, ℕ, Bool, true, false, cond, codes, List, [], ◌∷◌, length, Option, Some, None, Result, Ok, Err, refl, sym, ◌∙◌, ap, subst, true≢false}
 use Rattle.std.proofs.lemmas.Bool.{cond-true, cond-false}
 use Rattle.std.specs.Cmp.Lexicographic.{bytes_decides}
-use Rattle.ug_lex.proofs.Meaning.{good_read, read_good, bad_read, read_bad}
-use Rattle.ug_lex.specs.Grammar.{Good}
-use Rattle.ug_lex.specs.Lexing as lexing
-use Rattle.ug_lex.specs.Lexing.{Lexed, tokens_of}
-use Rattle.ug_lex.specs.declared.token.Token.{Token}
+use Rattle.ug_words.proofs.Meaning.{good_read, read_good, bad_read, read_bad}
+use Rattle.ug_words.specs.Grammar.{Good}
+use Rattle.ug_words.specs.Lexing as lexing
+use Rattle.ug_words.specs.Lexing.{Lexed, tokens_of}
+use Rattle.ug_words.specs.declared.token.Token.{Token}
 use Rattle.ug_types.specs.declared.rule.Iface.{Iface}
 use Rattle.ug_types.specs.declared.rule.Query.{Query}
 use Rattle.ug_rule.specs.declared.fault.Fault.{Fault}

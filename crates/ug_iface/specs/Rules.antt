@@ -1,9 +1,9 @@
 -- Lines that switch off interfaces: what a line says, and its first fault.
 use Rattle.std.specs.Prelude.{◌≡◌, ℕ, Bool, if◌then◌else◌, nat_eq, codes, List, [], ◌∷◌, ◌++◌, length, drop, replicate, Some, None, Result, Ok, Err}
 use Rattle.std.specs.Cmp.Lexicographic.{pointwise}
-use Rattle.ug_lex.specs.declared.token.Token.{Token}
-use Rattle.ug_lex.specs.Grammar.{Good, Bad}
-use Rattle.ug_lex.specs.Lexing as lexing
+use Rattle.ug_words.specs.declared.token.Token.{Token}
+use Rattle.ug_words.specs.Grammar.{Good, Bad}
+use Rattle.ug_words.specs.Lexing as lexing
 use Rattle.ug_types.specs.declared.rule.Iface.{Iface}
 use Rattle.ug_types.specs.declared.rule.Op.TheVariants.{Equals}
 use Rattle.ug_rule.specs.declared.fault.Fault.{Fault}

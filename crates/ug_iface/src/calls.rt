@@ -3,7 +3,7 @@ use crate::name::IfaceName;
 use ug_types::{List, Triple};
 
 /// An `authorized` file of an interface that is held open.
-#[derive(Clone, Copy, PartialEq, Eq)]
+#[derive(Clone, Copy)]
 pub struct IfaceHeld(pub u64);
 
 /// The answer to a listing of a device's interfaces.

@@ -5,10 +5,9 @@ ghost use Rattle.ug_iface.specs.Rules.{blanked, GivesLine};
 ghost use Rattle.ug_rule.specs.Tokens.{word_of};
 
 use std::alloc::Global;
-use ug_lex::{LexFault, Token, TokenKind, tokens};
 use ug_rule::{RuleFault, parse_query};
 use ug_types::{Iface, NoMemory, Query, is_word};
-use ug_words::interface;
+use ug_words::{LexFault, Token, TokenKind, interface, tokens};
 
 /// The interfaces that a rule switches off: those of that type, of devices that the query matches.
 #[derive(Drop)]

@@ -46,7 +46,7 @@ pub enum IfaceEntry {
 }
 
 /// How a pass over a device's interfaces ended.
-#[derive(Clone, Copy, PartialEq, Eq)]
+#[derive(Clone, Copy)]
 pub enum Passed {
     Done,
     /// The device is gone.

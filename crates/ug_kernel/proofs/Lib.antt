@@ -11,3 +11,8 @@ pub mod Ways
 pub mod Rises
 pub mod Defaults
 pub mod Births
+pub mod BindShapes
+pub mod CallOrders
+pub mod Laws
+pub mod UnderShapes
+pub mod Joins

@@ -7,3 +7,9 @@ pub mod Along
 pub mod Few
 pub mod Entries
 pub mod Defaults
+pub mod Files
+pub mod Bind
+pub mod Bound
+pub mod CallOrder
+pub mod Removal
+pub mod Under

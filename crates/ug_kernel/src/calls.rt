@@ -11,7 +11,7 @@ pub enum Listing {
 }
 
 /// The answer to an opening.
-#[derive(Clone, Copy, PartialEq, Eq)]
+#[derive(Clone, Copy)]
 pub enum Opened {
     Token(Held),
     Absent,
@@ -31,7 +31,7 @@ pub enum ReadOut {
 }
 
 /// The answer to a probe of a held file.
-#[derive(Clone, Copy, PartialEq, Eq)]
+#[derive(Clone, Copy)]
 pub enum Probe {
     /// The device is there, and this is the value of `authorized`.
     Alive(bool),
@@ -49,7 +49,7 @@ pub enum Wrote {
 }
 
 /// A call that failed: its number in its event, and the count of failed calls after it.
-#[derive(Clone, Copy, PartialEq, Eq)]
+#[derive(Clone, Copy)]
 pub struct FailedCall {
     pub call: u64,
     pub count: u64,

@@ -28,5 +28,5 @@ pub enum Write {
 }
 
 /// A sysfs file that is held open.
-#[derive(Clone, Copy, PartialEq, Eq)]
+#[derive(Clone, Copy)]
 pub struct Held(pub u64);

@@ -9,3 +9,4 @@ pub mod Meanings
 pub mod TextLines
 pub mod Cutting
 pub mod EntriesRead
+pub mod Numerals

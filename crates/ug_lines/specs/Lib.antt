@@ -5,3 +5,5 @@ pub mod Lines
 pub mod Splitting
 pub mod Cuts
 pub mod Entries
+pub mod Digits
+pub mod Numbers

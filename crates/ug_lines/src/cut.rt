@@ -22,7 +22,12 @@ pub enum LineCut<'a> {
 fn equals_in(text: &[u8]) -> Option<usize>
     ensures { result ≡ position (nat_eq 61) text.now }
 {
-    text.iter().position(|byte| b'=' == *byte)
+    for place in 0..text.len() {
+        if b'=' == text[place] {
+            return Some(place);
+        }
+    }
+    None
 }
 
 // A text that is neither empty nor a comment, without its blanks.

@@ -1,10 +1,11 @@
 // What the definitions say.
-ghost use Rattle.std.specs.Prelude.{◌≡◌, ◌↔◌, ℕ, List, [], Ok, Err};
+ghost use Rattle.std.specs.Prelude.{◌≡◌, ◌↔◌, ℕ, List, [], Ok, Err, ◌<◌, ◌^◌, Some, decimal};
 ghost use Rattle.ug_lines.specs.Lines.{lines_of, whole_lines, rest_from};
 ghost use Rattle.ug_types.specs.declared.text_fault.TextFault.{TextFault};
 ghost use Rattle.ug_lines.specs.LineReading.{AllGood, IsFirstBadLine, lines_read};
 ghost use Rattle.ug_lines.specs.Splitting.{AreLinesOf, Splits};
 ghost use Rattle.ug_lines.specs.Cuts.{EquationCut, IsEquationCut, cut_of};
+ghost use Rattle.ug_lines.specs.Numbers.{number_in};
 
 use crate::line_reading::LineReader;
 
@@ -36,4 +37,10 @@ pub fn line_reading_law<R: LineReader>()
 /// with blanks about each.
 pub fn equations_law()
     ensures { (line : List ℕ) (cut : EquationCut) → (cut_of line ≡ cut) ↔ IsEquationCut line cut }
+{}
+
+/// A word is read as a number exactly where it is that number as it is printed, and the number is below 2^64.
+pub fn decimals_law()
+    ensures { (word : List ℕ) (n : ℕ)
+        → (number_in word ≡ Some n) ↔ ((word ≡ decimal n) × (n < 2 ^ 64)) }
 {}

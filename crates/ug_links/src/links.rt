@@ -9,7 +9,7 @@ use crate::waiter::LinkId;
 use std::alloc::Global;
 use ug_types::Principal;
 
-#[derive(Clone, Copy, PartialEq, Eq)]
+#[derive(Clone, Copy)]
 pub enum Listening {
     /// The listener has this number.
     Ready(u32),
@@ -17,7 +17,7 @@ pub enum Listening {
     Memory,
 }
 
-#[derive(Clone, Copy, PartialEq, Eq)]
+#[derive(Clone, Copy)]
 pub enum Accepted {
     Session(LinkId),
     NotYet,

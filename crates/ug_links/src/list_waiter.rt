@@ -72,7 +72,7 @@ impl Waiter for ListWaiter {
     fn wait(&mut self, into: &mut [Ready]) -> Woken {
         let woken = carry_out(planned_at(self.planned.as_slice(), self.calls), into);
         self.calls = self.calls.saturating_add(1);
-        if woken == Woken::Failed {
+        if matches!(woken, Woken::Failed) {
             self.faults = self.faults.saturating_add(1);
         }
         woken

@@ -71,7 +71,7 @@ impl Links for MemLinks {
         let answer = self.scripts.listen();
         match self.calls.push(LinkStep::Listened(*principal, answer)) {
             Ok(()) => {
-                if answer == Listening::Failed {
+                if matches!(answer, Listening::Failed) {
                     self.faults = self.faults.saturating_add(1);
                 }
                 answer
@@ -99,7 +99,7 @@ impl Links for MemLinks {
         };
         match self.calls.push(LinkStep::AcceptedAt(listener, answer)) {
             Ok(()) => {
-                if answer == Accepted::Failed {
+                if matches!(answer, Accepted::Failed) {
                     self.faults = self.faults.saturating_add(1);
                 }
                 answer
@@ -121,7 +121,7 @@ impl Links for MemLinks {
         let answer = self.scripts.read(id, into);
         match keep_read(self.alloc, &mut self.calls, id, room, answer, into) {
             Ok(()) => {
-                if answer == LinkRead::Failed {
+                if matches!(answer, LinkRead::Failed) {
                     self.faults = self.faults.saturating_add(1);
                 }
                 answer
@@ -142,7 +142,7 @@ impl Links for MemLinks {
         let answer = self.scripts.write(id, bytes);
         match keep_write(self.alloc, &mut self.calls, id, bytes, answer) {
             Ok(()) => {
-                if answer == LinkWrote::Failed {
+                if matches!(answer, LinkWrote::Failed) {
                     self.faults = self.faults.saturating_add(1);
                 }
                 answer

@@ -171,7 +171,7 @@ impl Link for MemLink {
         let taken = self.coming.take(into);
         let call = receive_call(self.alloc, taken, into);
         keep(&mut self.calls, &mut self.untold, call);
-        if taken == Taken::Failed {
+        if matches!(taken, Taken::Failed) {
             self.faults = self.faults.saturating_add(1);
         }
         taken

@@ -16,7 +16,7 @@ pub enum Ready {
     Session(LinkId),
 }
 
-#[derive(Clone, Copy, PartialEq, Eq)]
+#[derive(Clone, Copy)]
 pub enum Woken {
     /// So many tokens came.
     Got(usize),

@@ -1,7 +1,7 @@
 -- A rule that some line reads as has no empty set of values.
 use Rattle.std.proofs.Common.{ℕ, suc, ◌<◌, List, [], ◌∷◌, length, Option, Some, None, arith, sym, subst, inl, inr}
 use Rattle.std.proofs.Common.{All}
-use Rattle.ug_lex.specs.declared.token.Token.{Token}
+use Rattle.ug_words.specs.declared.token.Token.{Token}
 use Rattle.ug_types.specs.Elements.{Has}
 use Rattle.ug_types.specs.declared.rule.Conds.{Conds}
 use Rattle.ug_types.specs.declared.rule.Query.{Query}

@@ -8,3 +8,4 @@ pub mod Settled
 pub mod FilledRules
 pub mod AllFound
 pub mod ReadRules
+pub mod Tested

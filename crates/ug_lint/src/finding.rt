@@ -24,7 +24,12 @@ fn covers_rule(earlier: &Rule, rule: &Rule) -> bool
 fn covering_place(before: &[Rule], rule: &Rule) -> Option<usize>
     ensures { result ≡ position (rules.covers_rule rule.now) before.now }
 {
-    before.iter().position(|earlier| covers_rule(earlier, rule))
+    for place in 0..before.len() {
+        if covers_rule(&before[place], rule) {
+            return Some(place);
+        }
+    }
+    None
 }
 
 /// What is found of a rule behind the rules before it. It takes no memory.

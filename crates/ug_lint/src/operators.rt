@@ -9,53 +9,92 @@ use ug_types::{Op, Values};
 fn covers_some<T: Covers>(value: &T, others: &[T]) -> bool
     ensures { result ≡ matches_some T.covers others.now value.now }
 {
-    others.iter().any(|other| value.covers(other))
+    for other in others {
+        if value.covers(other) {
+            return true;
+        }
+    }
+    false
 }
 
 fn covers_all<T: Covers>(value: &T, others: &[T]) -> bool
     ensures { result ≡ sets.covers_all T.covers others.now value.now }
 {
-    others.iter().all(|other| value.covers(other))
+    for other in others {
+        if !value.covers(other) {
+            return false;
+        }
+    }
+    true
 }
 
 fn is_covered<T: Covers>(values: &[T], other: &T) -> bool
     ensures { result ≡ is_matched T.covers values.now other.now }
 {
-    values.iter().any(|value| value.covers(other))
+    for value in values {
+        if value.covers(other) {
+            return true;
+        }
+    }
+    false
 }
 
 fn some_covers<T: Covers>(values: &[T], others: &[T]) -> bool
     ensures { result ≡ sets.some_covers T.covers values.now others.now }
 {
-    values.iter().any(|value| covers_some(value, others))
+    for value in values {
+        if covers_some(value, others) {
+            return true;
+        }
+    }
+    false
 }
 
 fn each_covers<T: Covers>(values: &[T], others: &[T]) -> bool
     ensures { result ≡ sets.each_covers T.covers values.now others.now }
 {
-    values.iter().all(|value| covers_some(value, others))
+    for value in values {
+        if !covers_some(value, others) {
+            return false;
+        }
+    }
+    true
 }
 
 fn each_covers_all<T: Covers>(values: &[T], others: &[T]) -> bool
     ensures { result ≡ sets.each_covers_all T.covers values.now others.now }
 {
-    values.iter().all(|value| covers_all(value, others))
+    for value in values {
+        if !covers_all(value, others) {
+            return false;
+        }
+    }
+    true
 }
 
 fn each_covered<T: Covers>(values: &[T], others: &[T]) -> bool
     ensures { result ≡ sets.each_covered T.covers values.now others.now }
 {
-    others.iter().all(|other| is_covered(values, other))
+    for other in others {
+        if !is_covered(values, other) {
+            return false;
+        }
+    }
+    true
 }
 
 fn covers_in_order<T: Covers>(values: &[T], others: &[T]) -> bool
     ensures { result ≡ in_order T.covers values.now others.now }
 {
-    values.len() == others.len()
-        && values
-            .iter()
-            .zip(others)
-            .all(|(value, other)| value.covers(other))
+    if values.len() != others.len() {
+        return false;
+    }
+    for place in 0..values.len() {
+        if !values[place].covers(&others[place]) {
+            return false;
+        }
+    }
+    true
 }
 
 fn all_of_implied<T: Covers>(values: &[T], op: Op, others: &[T]) -> bool

@@ -7,7 +7,7 @@ use Rattle.ug_types.specs.declared.verdict.Target.{Target}
 use Rattle.ug_policy.specs.declared.entry.RuleEntry.{RuleEntry}
 use Rattle.ug_policy.specs.Rules.{ids}
 use Rattle.ug_policy.specs.Edits.{has_id, followed, removed, aimed, retargeted}
-use Rattle.ug_policy.proofs.Places.{FirstAt, NonePasses}
+use Rattle.ug_policy.proofs.FirstPlaces.{FirstAt, NonePasses}
 
 pub lacks : (id : ℕ) (es : List RuleEntry) → NonePasses (has_id id) es → Has (ids es) id → ⊥
 lacks id [] h m = absurd m

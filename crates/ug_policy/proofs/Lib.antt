@@ -1,4 +1,4 @@
-pub mod Places
+pub mod FirstPlaces
 pub mod Changes
 pub mod Members
 pub mod Order
@@ -9,3 +9,8 @@ pub mod Lists
 pub mod Walking
 pub mod Indexing
 pub mod Unasked
+pub mod Shifts
+pub mod Exact
+pub mod Standing
+pub mod Kept
+pub mod Narrow

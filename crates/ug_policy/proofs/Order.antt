@@ -15,7 +15,7 @@ use Rattle.ug_policy.specs.declared.entry.Mark.TheVariants as mark
 use Rattle.ug_policy.specs.declared.entry.RuleEntry.{RuleEntry}
 use Rattle.ug_policy.proofs.Changes.{followed_first}
 use Rattle.ug_policy.proofs.Members.{has_ids}
-use Rattle.ug_policy.proofs.Places.{FirstAt}
+use Rattle.ug_policy.proofs.FirstPlaces.{FirstAt}
 use Rattle.ug_types.proofs.Elements.{has_right}
 
 marks_insert : (es : List RuleEntry) (i : ℕ) (y : RuleEntry) → marks (insert es i y) ≡ insert (marks es) i y.mark

@@ -10,8 +10,8 @@ use Rattle.ug_types.specs.Elements.{Has}
 use Rattle.ug_types.specs.declared.record.DeviceRecord.{DeviceRecord}
 use Rattle.ug_types.specs.declared.verdict.Cause.TheVariants as cause
 use Rattle.ug_types.specs.declared.verdict.Target.{Target}
-use Rattle.ug_index.specs.Candidates.{AreCandidates}
-use Rattle.ug_index.proofs.Standing.{can_as_matches}
+use Rattle.ug_policy.specs.Candidates.{AreCandidates}
+use Rattle.ug_policy.proofs.Standing.{can_as_matches}
 use Rattle.ug_cond.specs.declared.context.Context.{Context}
 use Rattle.ug_cond.specs.Words.{behind}
 use Rattle.ug_policy.specs.declared.entry.RuleEntry.{RuleEntry}

@@ -5,3 +5,7 @@ pub mod Matching
 pub mod Deciding
 pub mod Kept
 pub mod Asking
+pub mod Reaches
+pub mod Places
+pub mod Candidates
+pub mod Lists

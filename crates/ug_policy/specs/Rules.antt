@@ -3,7 +3,7 @@ use Rattle.std.specs.Prelude.{ℕ, ◌<◌, ◌≤◌, List, map, length}
 use Rattle.ug_types.specs.Elements.{Has, AllDistinct}
 use Rattle.ug_types.specs.declared.rule.Query.{Query}
 use Rattle.ug_types.specs.declared.rule.Rule.{Rule}
-use Rattle.ug_index.specs.Candidates as places
+use Rattle.ug_policy.specs.Candidates as places
 use Rattle.ug_policy.specs.Marks.{FolderFirst}
 use Rattle.ug_policy.specs.declared.entry.Mark.{Mark}
 use Rattle.ug_policy.specs.declared.entry.RuleEntry.{RuleEntry}

@@ -14,7 +14,12 @@ use ug_types::{After, Target};
 fn place_of(entries: &[RuleEntry], id: u64) -> Option<usize>
     ensures { result ≡ position (has_id id) entries.now }
 {
-    entries.iter().position(|e| e.id == id)
+    for place in 0..entries.len() {
+        if entries[place].id == id {
+            return Some(place);
+        }
+    }
+    None
 }
 
 // The place directly behind the last rule of the folder; 0 where there is none.
@@ -61,7 +66,12 @@ fn place_behind(entries: &[RuleEntry], id: u64) -> usize
 fn has_folder(entries: &[RuleEntry]) -> bool
     ensures { result ≡ list_any (λ e. is_folder e.mark) entries.now }
 {
-    entries.iter().any(|e| e.mark.is_folder())
+    for entry in entries {
+        if entry.mark.is_folder() {
+            return true;
+        }
+    }
+    false
 }
 
 /// Whether the folder has a rule behind the one with that id; None where no rule has it.

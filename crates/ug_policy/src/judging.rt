@@ -4,7 +4,7 @@ ghost use Rattle.ug_cond.specs.Words.{behind, words_of};
 ghost use Rattle.ug_policy.specs.Deciding as deciding;
 ghost use Rattle.ug_policy.specs.Matching as matching;
 ghost use Rattle.ug_policy.specs.Rules.{queries};
-ghost use Rattle.ug_index.specs.Candidates.{AreCandidates};
+ghost use Rattle.ug_policy.specs.Candidates.{AreCandidates};
 
 use crate::entry::RuleEntry;
 use rand_core::Rng;

@@ -1,5 +1,5 @@
 // What the definitions of changes and of deciding come to.
-ghost use Rattle.std.specs.Prelude.{◌≡◌, ◌⊎◌, ◌↔◌, ℕ, ◌+◌, List, ◌∷◌, ◌++◌, Some, None, IsTrue, false, filter, take};
+ghost use Rattle.std.specs.Prelude.{◌≡◌, ◌⊎◌, ◌↔◌, ℕ, ◌+◌, List, ◌∷◌, ◌++◌, Some, None, IsTrue, false, filter, take, map};
 ghost use Rattle.std.specs.List.{list_any};
 ghost use Rattle.ug_types.specs.Elements.{Has, AllDistinct};
 ghost use Rattle.ug_types.specs.declared.record.DeviceRecord.{DeviceRecord};
@@ -15,8 +15,14 @@ ghost use Rattle.ug_policy.specs.Asking.{rule_asks};
 ghost use Rattle.ug_policy.specs.Deciding.{HasNoDecider, IsDecider, RuleHolds, find_decider, judgement_found, reached, rule_holds};
 ghost use Rattle.ug_policy.specs.Kept.{StandsFor};
 ghost use Rattle.ug_policy.specs.Matching.{matched};
+ghost use Rattle.ug_types.specs.declared.rule.Query.{Query};
+ghost use Rattle.ug_match.specs.Queries.{query_matches};
+ghost use Rattle.ug_policy.specs.Candidates.{AreCandidates};
+ghost use Rattle.ug_policy.specs.Places.{places_of};
+ghost use Rattle.ug_policy.specs.Reaches.{IsNarrow, can_match, reach_of, remainder};
 
 use crate::entry::Mark;
+use crate::reach::Reach;
 use ug_types::After;
 
 /// Where ids are distinct, a change by an id is one at that rule alone, wherever it stands.
@@ -104,4 +110,19 @@ pub fn asking_law()
         (rules : List RuleEntry) (stream : Stream)
         → list_any (rule_asks dev) (reached (find_decider dev ctx records rules stream)) ≡ false
         → find_decider dev ctx others rules stream ≡ find_decider dev ctx records rules stream }
+{}
+
+/// A query is narrow where its id is one item with both numbers, under another operator than none-of, and nowhere else. One that
+/// matches a device can match its id. The places by a remainder are the candidates.
+pub fn index_law()
+    ensures narrow { (query : Query) (vendor product : ℕ) → IsNarrow query vendor product
+        → reach_of query ≡ Reach.Narrow (remainder vendor product) }
+    ensures only { (query : Query) (r : ℕ) → reach_of query ≡ Reach.Narrow r
+        → (vendor : ℕ) × (product : ℕ) × IsNarrow query vendor product
+        × (r ≡ remainder vendor product) }
+    ensures matches { (query : Query) (device : DeviceRecord) → IsTrue (query_matches query device)
+        → IsTrue (can_match query device.vendor device.product) }
+    ensures candidates { (queries : List Query) (vendor product : ℕ)
+        → AreCandidates queries vendor product
+        (places_of (remainder vendor product) (map reach_of queries)) }
 {}

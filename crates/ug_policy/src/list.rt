@@ -14,12 +14,12 @@ ghost use Rattle.ug_policy.specs.Kept.{StandsFor};
 
 use crate::edits::{has_folder_behind, place_after, put_rule, remove_rule, set_rule_target};
 use crate::entry::{Mark, NoRule, RuleEntry};
+use crate::index::Index;
 use crate::judging::judge_by;
 use rand_core::Rng;
 use std::alloc::Global;
 use std::marker::Model;
 use ug_cond::{Allowed, Context, History};
-use ug_index::Index;
 use ug_types::{After, Cause, DeviceRecord, NoMemory, Rule, Target};
 
 /// How many rules a list has at most.

@@ -1,8 +1,8 @@
 -- Decimal digits that are cut into tokens.
 use Rattle.std.proofs.Common.{◌≡◌, ℕ, ◌<◌, ◌≤◌, true, List, [], ◌∷◌, length, arith}
 use Rattle.std.specs.List.{AllByRecursion}
-use Rattle.ug_lex.specs.Lexing.{is_word_byte}
-use Rattle.ug_lex.specs.Grammar.{IsWordByte}
+use Rattle.ug_words.specs.Lexing.{is_word_byte}
+use Rattle.ug_words.specs.Grammar.{IsWordByte}
 use Rattle.ug_words.proofs.Decimals.{IsDigit}
 use Rattle.ug_print.proofs.Pieces.{IsWord}
 

@@ -2,7 +2,7 @@
 use Rattle.std.proofs.Common.{◌≡◌, ℕ, ◌/◌, ◌%◌, ◌<◌, Bool, true, false, nat_eq, List, [], ◌∷◌, ◌++◌, codes, Option, None, Some, refl, sym, ap, ◌∙◌, arith, if◌then◌else◌}
 use Rattle.std.specs.Cmp.Lexicographic.{pointwise, same_text}
 use Rattle.std.specs.List.{AllByRecursion}
-use Rattle.ug_lex.specs.Grammar.{IsWordByte}
+use Rattle.ug_words.specs.Grammar.{IsWordByte}
 use Rattle.ug_types.specs.declared.rule.Id.{Id}
 use Rattle.ug_types.specs.declared.rule.Iface.{Iface}
 use Rattle.ug_words.specs.Keywords.{operator_of}
@@ -10,7 +10,7 @@ use Rattle.ug_rule.specs.Values.{id_in, interface_in}
 use Rattle.ug_words.specs.WordGrammar.{IsId, Any, OfVendor, Exact, IsInterface, OfClass, OfSubclass, OfProtocol}
 use Rattle.ug_words.specs.Words.{id_of, interface_of, two_stars}
 use Rattle.ug_words.proofs.WordCuts.{id_cut, id_reads, interface_cut, interface_reads}
-use Rattle.ug_numerals.specs.Digits.{hex_two, hex_four}
+use Rattle.ug_lines.specs.Digits.{hex_two, hex_four}
 use Rattle.ug_print.specs.Items.{id_text, interface_text}
 use Rattle.ug_words.proofs.Hexadecimal.{four_again, four_below, two_again, two_below}
 use Rattle.ug_print.proofs.Hexadecimal.{digit_word}

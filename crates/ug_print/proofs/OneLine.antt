@@ -4,9 +4,9 @@ use Rattle.std.specs.List.{AllByRecursion}
 use Rattle.std.specs.Prelude.{IfOk}
 use Rattle.std.proofs.lemmas.List.{append-nil}
 use Rattle.ug_types.specs.declared.no_memory.NoMemory.{NoMemory}
-use Rattle.ug_lex.specs.declared.token.TokenKind.{TokenKind}
-use Rattle.ug_lex.specs.Lexing.{digit_of, is_blank, is_word_byte, mark_token}
-use Rattle.ug_lex.specs.Grammar.{AllStand, IsWordByte, LinePart, Spells, Empty, Itself, Escaped, Coded, StandsInLine, Blank, Mark, Word, String, parts_text}
+use Rattle.ug_words.specs.declared.token.TokenKind.{TokenKind}
+use Rattle.ug_words.specs.Lexing.{digit_of, is_blank, is_word_byte, mark_token}
+use Rattle.ug_words.specs.Grammar.{AllStand, IsWordByte, LinePart, Spells, Empty, Itself, Escaped, Coded, StandsInLine, Blank, Mark, Word, String, parts_text}
 use Rattle.ug_lines.specs.Splitting.{IsLine}
 use Rattle.ug_print.proofs.Pieces.{Piece, Cut}
 

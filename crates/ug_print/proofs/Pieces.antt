@@ -3,11 +3,11 @@ use Rattle.std.proofs.Common.{◌≡◌, ℕ, ◌+◌, ◌-◌, inl, false, List
 use Rattle.std.specs.List.{AllByRecursion}
 use Rattle.std.proofs.lemmas.List.{append-nil}
 use Rattle.std.proofs.Math.Seq.{drop-append_seam, take-append_seam}
-use Rattle.ug_lex.specs.declared.token.Token.{Token}
-use Rattle.ug_lex.specs.declared.token.TokenKind.{TokenKind}
-use Rattle.ug_lex.specs.declared.token.TokenKind.TheVariants as kind
-use Rattle.ug_lex.specs.Lexing.{mark_token}
-use Rattle.ug_lex.specs.Grammar.{AllStand, Good, IsWordByte, LinePart, Spells, StandsInLine, Blank, Mark, Word, String, goes_on, parts_text, tokens_placed, token_at}
+use Rattle.ug_words.specs.declared.token.Token.{Token}
+use Rattle.ug_words.specs.declared.token.TokenKind.{TokenKind}
+use Rattle.ug_words.specs.declared.token.TokenKind.TheVariants as kind
+use Rattle.ug_words.specs.Lexing.{mark_token}
+use Rattle.ug_words.specs.Grammar.{AllStand, Good, IsWordByte, LinePart, Spells, StandsInLine, Blank, Mark, Word, String, goes_on, parts_text, tokens_placed, token_at}
 use Rattle.ug_rule.specs.Tokens.{word_by, word_of}
 use Rattle.ug_print.specs.Words.{spaced}
 use Rattle.ug_print.specs.Words as words

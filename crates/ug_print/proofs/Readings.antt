@@ -1,10 +1,10 @@
 -- What pieces are read as, and sets in braces.
 use Rattle.std.proofs.Common.{◌≡◌, ℕ, Bool, true, false, ◌&&◌, List, [], ◌∷◌, ◌++◌, codes, Some, refl, ap, subst, ◌∙◌, append_assoc}
 use Rattle.std.specs.List.{AllByRecursion, list_all}
-use Rattle.ug_lex.specs.declared.token.Token.{Token}
-use Rattle.ug_lex.specs.declared.token.TokenKind.TheVariants as kind
-use Rattle.ug_lex.specs.Lexing.{is_word_byte}
-use Rattle.ug_lex.specs.Grammar.{IsWordByte}
+use Rattle.ug_words.specs.declared.token.Token.{Token}
+use Rattle.ug_words.specs.declared.token.TokenKind.TheVariants as kind
+use Rattle.ug_words.specs.Lexing.{is_word_byte}
+use Rattle.ug_words.specs.Grammar.{IsWordByte}
 use Rattle.ug_types.specs.declared.rule.Op.{Op}
 use Rattle.ug_words.specs.Keywords.{operator_of}
 use Rattle.ug_rule.specs.Queries.{has_colon}

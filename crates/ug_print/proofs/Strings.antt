@@ -3,13 +3,13 @@ use Rattle.std.proofs.Common.{◌≡◌, ℕ, ◌+◌, ◌*◌, ◌/◌, ◌%◌
 use Rattle.std.specs.Char.{digit_char}
 use Rattle.std.specs.List.{AllByRecursion}
 use Rattle.std.proofs.lemmas.List.Elements.{recursion_from_All}
-use Rattle.ug_lex.specs.declared.token.TokenKind.TheVariants as kind
-use Rattle.ug_lex.specs.Grammar.{Spells, Empty, Itself, Escaped, Coded}
+use Rattle.ug_words.specs.declared.token.TokenKind.TheVariants as kind
+use Rattle.ug_words.specs.Grammar.{Spells, Empty, Itself, Escaped, Coded}
 use Rattle.ug_words.specs.Keywords.{operator_of}
 use Rattle.ug_rule.specs.Tokens.{string_by}
 use Rattle.ug_rule.specs.Values.{string_in}
 use Rattle.ug_print.specs.Bytes.{AreBytes}
-use Rattle.ug_numerals.specs.Digits.{hex_two}
+use Rattle.ug_lines.specs.Digits.{hex_two}
 use Rattle.ug_print.specs.Items.{byte_text, string_text}
 use Rattle.ug_print.proofs.Hexadecimal.{digit_lexed}
 use Rattle.ug_print.proofs.Pieces.{one_string}

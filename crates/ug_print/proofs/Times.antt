@@ -5,7 +5,7 @@ use Rattle.std.specs.List.{AllByRecursion, position, prefix_len}
 use Rattle.std.proofs.Math.Bool.{and-false}
 use Rattle.std.proofs.Math.Seq.{take-append_seam}
 use Rattle.std.proofs.lemmas.Fmt.{decimal_digit, decimal_nonempty, decimal_step}
-use Rattle.ug_lex.specs.Grammar.{IsWordByte}
+use Rattle.ug_words.specs.Grammar.{IsWordByte}
 use Rattle.ug_words.specs.declared.words.Clock.{Clock}
 use Rattle.ug_words.specs.declared.words.Clock.TheVariants.{Minute, Second}
 use Rattle.ug_words.specs.declared.words.DaySpan.{DaySpan}

@@ -1,6 +1,6 @@
 -- How the values and conditions of a rule are written: usbguard-rules.conf(5).
 use Rattle.std.specs.Prelude.{ℕ, zero, suc, ◌+◌, ◌*◌, ◌/◌, ◌%◌, ◌||◌, ◌&&◌, nat_eq, nat_le, nat_lt, if◌then◌else◌, List, [], ◌∷◌, ◌++◌, Option, None, Some, decimal, flat_map}
-use Rattle.ug_numerals.specs.Digits.{hex_two, hex_four}
+use Rattle.ug_lines.specs.Digits.{hex_two, hex_four}
 use Rattle.ug_types.specs.declared.rule.Id.{Id}
 use Rattle.ug_types.specs.declared.rule.Iface.{Iface}
 

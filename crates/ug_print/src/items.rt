@@ -1,6 +1,6 @@
 // The values of rules as text.
 ghost use Rattle.std.specs.Prelude.{◌≡◌, ◌++◌, ◌∷◌, [], IfOk, OnOk, flat_map};
-ghost use Rattle.ug_numerals.specs.Digits.{hex_four, hex_two};
+ghost use Rattle.ug_lines.specs.Digits.{hex_four, hex_two};
 ghost use Rattle.ug_print.specs.Bytes.{AreBytes};
 ghost use Rattle.ug_print.specs.Items.{byte_text, id_text, interface_text, or_star, string_text};
 

@@ -81,11 +81,15 @@ fn is_interface(item: &Iface, triple: &Triple) -> bool
 fn are_interfaces(items: &[Iface], triples: &[Triple]) -> bool
     ensures { result ≡ made.are_interfaces items.now triples.now }
 {
-    items.len() == triples.len()
-        && items
-            .iter()
-            .zip(triples)
-            .all(|(item, triple)| is_interface(item, triple))
+    if items.len() != triples.len() {
+        return false;
+    }
+    for place in 0..items.len() {
+        if !is_interface(&items[place], &triples[place]) {
+            return false;
+        }
+    }
+    true
 }
 
 fn is_for_interfaces(values: &Option<Values<Iface>>, triples: &[Triple]) -> bool

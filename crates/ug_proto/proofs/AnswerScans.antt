@@ -3,7 +3,7 @@ use Rattle.std.proofs.Common.{◌≡◌, ◌≢◌, ℕ, zero, suc, ◌+◌, ◌
 use Rattle.std.specs.Prelude.{decimal, codes}
 use Rattle.std.proofs.lemmas.List.{append-nil, take-append-drop}
 use Rattle.ug_types.specs.Elements.{Has}
-use Rattle.ug_refusal.specs.declared.refusal.Refusal.{Refusal}
+use Rattle.ug_types.specs.declared.refusal.Refusal.{Refusal}
 use Rattle.ug_proto.specs.declared.reply.Reply.{Reply}
 use Rattle.ug_proto.specs.declared.reply.Reply.TheVariants.{Lines, Refused}
 use Rattle.ug_proto.specs.declared.reply.ReplyFault.{ReplyFault}
@@ -13,7 +13,7 @@ use Rattle.ug_proto.specs.declared.scan.Stop.TheVariants as stop
 use Rattle.ug_proto.specs.AnswerParts.{IsUnended, AreCountedLines, answer_text, IsAnswer}
 use Rattle.ug_proto.specs.RefusalParts.{number_then, IsNumberIn, refusal_line}
 use Rattle.ug_proto.specs.Replies.{ended_lines, reply_text, AreWholeLines, IsReply}
-use Rattle.ug_refusal.specs.Refusals.{IsRefusal}
+use Rattle.ug_types.specs.Refusals.{IsRefusal}
 use Rattle.ug_proto.specs.ReplyReading.{BeginsWithReply, IsReplyBegun, IsNoReply, ReadsReply}
 use Rattle.ug_proto.specs.Scanning.{IsTextBegun, NeverBecomes, IsTextThen, IsStop}
 use Rattle.ug_proto.proofs.OneReply.{one_reply, refused_first}

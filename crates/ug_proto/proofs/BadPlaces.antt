@@ -11,12 +11,12 @@ use Rattle.ug_types.specs.declared.verdict.Target.TheVariants as target
 use Rattle.ug_proto.specs.declared.request.Request.{Request}
 use Rattle.ug_proto.specs.declared.request.Request.TheVariants as request
 use Rattle.ug_proto.specs.BadRequests.{BeginsRequest, FitsBefore, HasWrongWord, IsBadRequest}
-use Rattle.ug_numerals.specs.Numbers.{number_in}
+use Rattle.ug_lines.specs.Numbers.{number_in}
 use Rattle.ug_proto.specs.Requests.{then_take, or_wrong, behind_next, next_place, next_read, unless_empty, nothing_behind, after_in, rule_kind_in, permanence_in, get_read, set_read, permanence_read, device_read, rule_at_end, append_read, remove_read, rule_request_read, named_read, request_read}
 use Rattle.ug_proto.specs.Splitting.{word_in_front, behind_word, IsRest}
 use Rattle.ug_proto.specs.Texts.{request_text, IsRequest}
 use Rattle.ug_proto.proofs.Again.{next_again, reads}
-use Rattle.ug_numerals.proofs.Numerals.{is_number}
+use Rattle.ug_lines.proofs.Numerals.{is_number}
 use Rattle.ug_proto.proofs.Numerals.{zero_text}
 use Rattle.ug_proto.proofs.Reading.{read_written}
 use Rattle.ug_proto.proofs.Words.{whole, no_space, is_rest, first_plain, behind_plain}

@@ -1,6 +1,6 @@
 -- A refusal with one number is taken.
 use Rattle.std.proofs.Common.{◌≡◌, ℕ, ◌<◌, ◌^◌, List, ◌++◌, sym, ap, subst, ◌∙◌, append_assoc, arith}
-use Rattle.ug_refusal.specs.declared.refusal.Refusal.{Refusal}
+use Rattle.ug_types.specs.declared.refusal.Refusal.{Refusal}
 use Rattle.ug_proto.specs.NamedNumbers.{renumbered, IsNamedThen}
 use Rattle.ug_proto.specs.RefusalParts.{IsNumberIn, named_number, refusal_rest, HasRefusalNumber}
 use Rattle.ug_proto.specs.Scanning.{IsTextThen}

@@ -2,10 +2,10 @@
 use Rattle.std.proofs.Common.{◌≡◌, ℕ, List, [], ◌∷◌, ◌++◌, length, drop, get_or, refl, sym, ap, ◌∙◌, append_assoc, arith}
 use Rattle.std.specs.Prelude.{decimal}
 use Rattle.std.proofs.lemmas.Fmt.{decimal_injective}
-use Rattle.ug_refusal.proofs.RefusalRead.{one_refusal, refusal_on_line}
+use Rattle.ug_types.proofs.RefusalRead.{one_refusal, refusal_on_line}
 use Rattle.ug_types.proofs.SpacedWords.{line_no_newline}
-use Rattle.ug_refusal.specs.Refusals.{refusal_words}
-use Rattle.ug_refusal.specs.declared.refusal.Refusal.{Refusal}
+use Rattle.ug_types.specs.Refusals.{refusal_words}
+use Rattle.ug_types.specs.declared.refusal.Refusal.{Refusal}
 use Rattle.ug_proto.specs.declared.reply.Reply.{Reply}
 use Rattle.ug_proto.specs.declared.reply.Reply.TheVariants.{Lines, Refused}
 use Rattle.ug_proto.specs.Replies.{ended_lines, reply_text, AreWholeLines, IsReply}

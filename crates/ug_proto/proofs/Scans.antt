@@ -13,11 +13,11 @@ use Rattle.std.specs.Str.Parse.{AllDigits, digits_value}
 use Rattle.ug_types.specs.Elements.{Has}
 use Rattle.ug_proto.specs.declared.scan.Stop.{Stop}
 use Rattle.ug_proto.specs.declared.scan.Stop.TheVariants as stop
-use Rattle.ug_numerals.specs.Numbers.{number_in}
+use Rattle.ug_lines.specs.Numbers.{number_in}
 use Rattle.std.proofs.lemmas.Option.{none-some, same_Some}
 use Rattle.ug_proto.specs.RefusalParts.{number_then, IsNumberIn}
 use Rattle.ug_proto.specs.Scanning.{IsTextBegun, NeverBecomes, IsStop}
-use Rattle.ug_numerals.proofs.Numerals.{text_itself, is_number}
+use Rattle.ug_lines.proofs.Numerals.{text_itself, is_number}
 use Rattle.ug_proto.proofs.Numerals.{decimal_digits, zero_text}
 
 -- texts that go on behind their first such byte

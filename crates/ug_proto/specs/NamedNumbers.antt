@@ -1,7 +1,7 @@
 -- Refusals with one number, which stands behind a name.
 use Rattle.std.specs.Prelude.{◌≡◌, ℕ, nat_eq, List}
-use Rattle.ug_refusal.specs.declared.refusal.Refusal.{Refusal}
-use Rattle.ug_refusal.specs.declared.refusal.Refusal.TheVariants as refusal
+use Rattle.ug_types.specs.declared.refusal.Refusal.{Refusal}
+use Rattle.ug_types.specs.declared.refusal.Refusal.TheVariants as refusal
 use Rattle.ug_proto.specs.RefusalParts.{named_number, IsNumberIn}
 use Rattle.ug_proto.specs.Scanning.{IsTextThen}
 

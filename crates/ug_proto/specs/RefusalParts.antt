@@ -3,9 +3,9 @@ use Rattle.std.specs.Prelude.{◌≡◌, ℕ, ◌≤◌, Bool, true, false, List
 use Rattle.ug_types.specs.Access.{section_word, privilege_word}
 use Rattle.ug_types.specs.declared.access.Section.{Section}
 use Rattle.ug_types.specs.declared.access.Privilege.{Privilege}
-use Rattle.ug_refusal.specs.declared.refusal.Refusal.{Refusal}
-use Rattle.ug_refusal.specs.declared.refusal.Refusal.TheVariants as refusal
-use Rattle.ug_refusal.specs.Refusals.{refusal_words, IsRefusal}
+use Rattle.ug_types.specs.declared.refusal.Refusal.{Refusal}
+use Rattle.ug_types.specs.declared.refusal.Refusal.TheVariants as refusal
+use Rattle.ug_types.specs.Refusals.{refusal_words, IsRefusal}
 
 -- a number, and the byte that ends it
 abbrev pub number_then : ℕ → ℕ → List ℕ

@@ -1,7 +1,7 @@
 -- Replies as they are written.
 use Rattle.std.specs.Prelude.{ℕ, ◌<◌, ◌^◌, List, [], ◌∷◌, ◌++◌, length, codes, decimal}
 use Rattle.ug_types.specs.Elements.{Has}
-use Rattle.ug_refusal.specs.Refusals.{refusal_words, IsRefusal}
+use Rattle.ug_types.specs.Refusals.{refusal_words, IsRefusal}
 use Rattle.ug_proto.specs.declared.reply.Reply.{Reply}
 use Rattle.ug_proto.specs.declared.reply.Reply.TheVariants.{Lines, Refused}
 

@@ -9,7 +9,7 @@ use Rattle.ug_proto.specs.declared.request.Request.{Request}
 use Rattle.ug_proto.specs.declared.request.Request.TheVariants as request
 use Rattle.ug_proto.specs.declared.request.RequestFault.{RequestFault}
 use Rattle.ug_proto.specs.declared.request.RequestFault.TheVariants.{Bad, Memory}
-use Rattle.ug_numerals.specs.Numbers.{number_in}
+use Rattle.ug_lines.specs.Numbers.{number_in}
 use Rattle.ug_proto.specs.Splitting.{word_in_front, behind_word}
 
 abbrev pub then_take : {X Y : Type 0} → Result X ℕ → (X → Result Y ℕ) → Result Y ℕ

@@ -22,5 +22,4 @@ pub use print::{print_reply, print_request};
 pub use read::parse_request;
 pub use reply::{Reply, ReplyFault};
 pub use request::{Request, RequestFault};
-pub use ug_refusal::Refusal;
-pub use ug_types::After;
+pub use ug_types::{After, Refusal};

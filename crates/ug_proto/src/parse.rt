@@ -7,15 +7,14 @@ ghost use Rattle.ug_proto.specs.NamedNumbers.{IsNamedThen};
 ghost use Rattle.ug_proto.specs.RefusalParts.{IsNumberIn, named_number, named_numbers, IsPairIn, denial_text, refusal_rest, refusal_line, HasRefusalNumber, Anything};
 ghost use Rattle.ug_proto.specs.AnswerParts.{IsUnended, AreCountedLines, answer_text, IsAnswer};
 ghost use Rattle.ug_proto.specs.Replies.{ended_lines, reply_text, IsReply};
-ghost use Rattle.ug_refusal.specs.Refusals.{IsRefusal};
+ghost use Rattle.ug_types.specs.Refusals.{IsRefusal};
 ghost use Rattle.ug_proto.specs.ReplyReading.{ReadsReply};
 
 use crate::reply::{Reply, ReplyFault};
 use crate::scan::{Stop, split_at, take_number, take_word};
 use crate::spelled::take_spelled;
 use std::alloc::Global;
-use ug_refusal::Refusal;
-use ug_types::{List, Privilege, Section, Text};
+use ug_types::{List, Privilege, Refusal, Section, Text};
 
 const MAX: u64 = 18446744073709551615;
 

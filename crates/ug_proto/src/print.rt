@@ -1,6 +1,6 @@
 // Requests and replies as they are written.
 ghost use Rattle.std.specs.Prelude.{◌≡◌, ◌++◌, ◌∷◌, [], IfOk, decimal, true};
-ghost use Rattle.ug_refusal.specs.Refusals.{refusal_words};
+ghost use Rattle.ug_types.specs.Refusals.{refusal_words};
 ghost use Rattle.ug_proto.specs.Texts as texts;
 ghost use Rattle.ug_proto.specs.Texts.{device_word, permanence_words, after_word, request_text};
 ghost use Rattle.ug_proto.specs.Replies.{ended_lines, reply_text};
@@ -9,8 +9,7 @@ use crate::reply::Reply;
 use crate::request::Request;
 use itoa::Buffer;
 use std::alloc::Global;
-use ug_refusal::{Refusal, words_of};
-use ug_types::{After, NoMemory, Target, Text};
+use ug_types::{After, NoMemory, Refusal, Target, Text, words_of};
 
 // Appends the bytes, and tells whether there was memory for them.
 fn put(out: &mut Vec<u8>, bytes: &[u8]) -> bool

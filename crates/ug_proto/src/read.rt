@@ -2,12 +2,12 @@
 ghost use Rattle.std.specs.Prelude.{◌≡◌, ◌≤◌, ◌<◌, IfOk, IfErr, Ok, length};
 ghost use Rattle.ug_proto.specs.Requests as requests;
 ghost use Rattle.ug_proto.specs.Requests.{unless_empty, after_in, rule_kind_in, permanence_in, get_read, set_read, permanence_read, device_read, rule_at_end, append_read, remove_read, rule_request_read, named_read, request_read, IsWrongAt};
-ghost use Rattle.ug_numerals.specs.Numbers.{number_in};
+ghost use Rattle.ug_lines.specs.Numbers.{number_in};
 
 use crate::request::{Request, RequestFault};
 use crate::split::{behind_word, first_word};
 use std::alloc::Global;
-use ug_numerals::parse_decimal;
+use ug_lines::parse_decimal;
 use ug_types::{After, Target, Text, is_word};
 
 // The next word of a line of that length, of which the rest begins with a space where it isn't empty.

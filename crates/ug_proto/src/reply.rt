@@ -1,6 +1,5 @@
 // What a request is answered.
-use ug_refusal::Refusal;
-use ug_types::{List, Text};
+use ug_types::{List, Refusal, Text};
 
 /// A reply.
 #[derive(Drop)]

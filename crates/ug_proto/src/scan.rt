@@ -4,7 +4,7 @@ ghost use Rattle.ug_types.specs.Elements.{Has};
 ghost use Rattle.ug_proto.specs.Scanning.{IsTextThen, IsStop};
 ghost use Rattle.ug_proto.specs.RefusalParts.{number_then, IsNumberIn};
 
-use ug_numerals::parse_decimal;
+use ug_lines::parse_decimal;
 use ug_types::NoMemory;
 
 /// Why no part was taken.

@@ -2,10 +2,10 @@
 use Rattle.std.proofs.Common.{◌≡◌, ℕ, Bool, true, false, List, [], ◌∷◌, ◌++◌, Option, Some, None, Result, Ok, Err, refl, ap, ◌∙◌, arith, nat_eq, if◌then◌else◌}
 use Rattle.ug_types.specs.declared.record.Attrs.{Attrs}
 use Rattle.ug_types.specs.declared.record.Judged.TheVariants as judged
-use Rattle.ug_descr.specs.declared.descriptors.Descr.{Descr}
-use Rattle.ug_descr.specs.Reading.{PlacedFault, decoded}
-use Rattle.ug_descr.specs.Grammar.{IsWellFormed, IsMalformed}
-use Rattle.ug_descr.proofs.Meaning.{good_read, bad_read}
+use Rattle.ug_record.specs.declared.descriptors.Descr.{Descr}
+use Rattle.ug_record.specs.Reading.{PlacedFault, decoded}
+use Rattle.ug_record.specs.Grammar.{IsWellFormed, IsMalformed}
+use Rattle.ug_record.proofs.Meaning.{good_read, bad_read}
 use Rattle.ug_record.specs.Records.{without_newline, judged_of, judged_under, judged_by, parent_hash_of, child_hash_of, hash_or_empty, hash_under, record_with}
 
 pub newline_goes : (text : List ℕ) → without_newline (text ++ 10 ∷ []) ≡ text

@@ -1,1 +1,4 @@
 pub mod Records
+pub mod Hash
+pub mod Grammar
+pub mod Reading

@@ -5,9 +5,9 @@ use Rattle.ug_types.specs.declared.record.Attrs.{Attrs}
 use Rattle.ug_types.specs.declared.record.DeviceRecord.{DeviceRecord}
 use Rattle.ug_types.specs.declared.record.Judged.{Judged}
 use Rattle.ug_types.specs.declared.record.Judged.TheVariants.{Good, Malformed}
-use Rattle.ug_descr.specs.declared.descriptors.Descr.{Descr}
-use Rattle.ug_descr.specs.Reading.{PlacedFault, decoded, triples_of}
-use Rattle.ug_hash.specs.Hash.{hash_of}
+use Rattle.ug_record.specs.declared.descriptors.Descr.{Descr}
+use Rattle.ug_record.specs.Reading.{PlacedFault, decoded, triples_of}
+use Rattle.ug_record.specs.Hash.{hash_of}
 
 -- the file without one newline at its end
 abbrev pub without_newline : List ℕ → List ℕ

@@ -1,9 +1,10 @@
 // Laws of texts and records.
-ghost use Rattle.std.specs.Prelude.{◌≡◌, ℕ, List, [], ◌∷◌, ◌++◌, Bool, true, false, Option, Some, None};
+ghost use Rattle.std.specs.Prelude.{◌≡◌, ℕ, List, [], ◌∷◌, ◌++◌, Bool, true, false, Option, Some, None, ◌↔◌, ◌⊎◌};
 ghost use Rattle.ug_types.specs.declared.record.Attrs.{Attrs};
-ghost use Rattle.ug_descr.specs.declared.descriptors.Descr.{Descr};
-ghost use Rattle.ug_descr.specs.Grammar.{IsWellFormed as WellFormed, IsMalformed};
+ghost use Rattle.ug_record.specs.declared.descriptors.Descr.{Descr};
+ghost use Rattle.ug_record.specs.Grammar.{IsWellFormed, IsMalformed};
 ghost use Rattle.ug_record.specs.Records.{without_newline as file_text, judged_of, judged_under, parent_hash_of, child_hash_of, hash_under, record_with};
+ghost use Rattle.ug_record.specs.Reading.{decoded};
 
 use ug_types::Judged;
 
@@ -20,7 +21,7 @@ pub fn judged_by_descriptors()
     ensures too_long { (name : List ℕ) (attrs : Attrs) (parent : Option Attrs)
         → attrs.too_long ≡ true → judged_of name attrs parent ≡ Judged.Malformed 8 0 }
     ensures good { (name : List ℕ) (attrs : Attrs) (parent : Option Attrs) (descr : Descr)
-        → attrs.too_long ≡ false → WellFormed attrs.descriptors descr
+        → attrs.too_long ≡ false → IsWellFormed attrs.descriptors descr
         → judged_of name attrs parent
         ≡ Judged.Good (record_with name attrs (parent_hash_of parent) descr) }
     ensures bad { (name : List ℕ) (attrs : Attrs) (parent : Option Attrs) (kind place : ℕ)
@@ -32,7 +33,7 @@ pub fn judged_by_descriptors()
 /// that it is made of was too long.
 pub fn child_hash_by_descriptors()
     ensures too_long { (attrs : Attrs) → child_hash_of attrs true ≡ [] }
-    ensures good { (attrs : Attrs) (descr : Descr) → WellFormed attrs.descriptors descr
+    ensures good { (attrs : Attrs) (descr : Descr) → IsWellFormed attrs.descriptors descr
         → child_hash_of attrs false ≡ hash_under attrs descr }
     ensures bad { (attrs : Attrs) (kind place : ℕ) → IsMalformed attrs.descriptors kind place
         → child_hash_of attrs false ≡ [] }
@@ -48,4 +49,27 @@ pub fn judged_under_child_hash()
         → own.serial ≡ parent.serial
         → judged_under name attrs (child_hash_of own parent.too_long)
         ≡ judged_of name attrs (Some parent) }
+{}
+
+/// The reading from the front gives what the cut into descriptors says.
+pub fn reading_is_grammar()
+    ensures good { (bytes : List ℕ) (descr : Descr)
+        → (decoded bytes ≡ Ok descr) ↔ IsWellFormed bytes descr }
+    ensures bad { (bytes : List ℕ) (kind place : ℕ)
+        → (decoded bytes ≡ Err (record { kind = kind; place = place }))
+        ↔ IsMalformed bytes kind place }
+{}
+
+/// Bytes say one thing, or have one first fault, and never both.
+pub fn one_meaning()
+    ensures some { (bytes : List ℕ)
+        → ((descr : Descr) × IsWellFormed bytes descr)
+        ⊎ ((kind : ℕ) × (place : ℕ) × IsMalformed bytes kind place) }
+    ensures one_descr { (bytes : List ℕ) (a b : Descr) → IsWellFormed bytes a → IsWellFormed bytes b
+        → a ≡ b }
+    ensures one_fault { (bytes : List ℕ) (kind place other_kind other_place : ℕ)
+        → IsMalformed bytes kind place → IsMalformed bytes other_kind other_place
+        → (kind ≡ other_kind) × (place ≡ other_place) }
+    ensures not_both { (bytes : List ℕ) (descr : Descr) (kind place : ℕ) → IsWellFormed bytes descr
+        → IsMalformed bytes kind place → ⊥ }
 {}

@@ -4,10 +4,13 @@ ghost use Rattle.ug_types.specs.declared.record.DeviceRecord.{DeviceRecord};
 ghost use Rattle.ug_types.specs.declared.record.Judged.TheVariants.{Good};
 ghost use Rattle.ug_record.specs.Records.{child_hash_of, hash_under, judged_of, judged_under, parent_hash_of, record_with};
 
+use crate::descriptors::Descr;
+use crate::device::device_hash;
+use crate::fault::DescrFault;
 use crate::files::{text_of, without_newline};
+use crate::interfaces::ifaces;
+use crate::reading::decode;
 use std::alloc::Global;
-use ug_descr::{Descr, DescrFault, decode, ifaces};
-use ug_hash::device_hash;
 use ug_types::{Attrs, DeviceRecord, Judged, NoMemory, NodeName, Text};
 
 /// What is known of a device by its node name, from its files and those of its parent. A parent that is malformed or

@@ -1,6 +1,6 @@
 -- Attributes are read as the grammar cuts them.
 use Rattle.std.proofs.Common.{◌≡◌, ℕ, zero, suc, ◌<◌, ◌≤◌, inl, inr, false, List, [], ◌∷◌, length, length-append, Option, Some, None, Ok, Err, refl, sym, ap, subst, ◌∙◌, arith}
-use Rattle.ug_lex.specs.declared.token.Token.{Token}
+use Rattle.ug_words.specs.declared.token.Token.{Token}
 use Rattle.ug_types.specs.declared.rule.Query.{Query}
 use Rattle.ug_types.specs.declared.rule.Values.{Values}
 use Rattle.ug_rule.specs.declared.fault.Ending.{Ending}

@@ -1,6 +1,6 @@
 -- One more attribute of a query.
 use Rattle.std.proofs.Common.{◌≡◌, ℕ, zero, suc, ◌<◌, ◌≤◌, List, [], ◌∷◌, length, Option, Some, None, Result, Ok, Err, refl, sym, ap, ◌∙◌, arith}
-use Rattle.ug_lex.specs.declared.token.Token.{Token}
+use Rattle.ug_words.specs.declared.token.Token.{Token}
 use Rattle.ug_types.specs.declared.rule.Query.{Query}
 use Rattle.ug_rule.specs.declared.fault.Ending.{Ending}
 use Rattle.ug_rule.specs.declared.fault.Fault.{Fault}

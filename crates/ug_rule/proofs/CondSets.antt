@@ -1,6 +1,6 @@
 -- One more condition of a set.
 use Rattle.std.proofs.Common.{◌≡◌, ℕ, zero, suc, ◌≤◌, Bool, true, false, List, [], ◌∷◌, ◌++◌, length, Result, Ok, Err, refl, sym, ap, ◌∙◌, arith, if◌then◌else◌}
-use Rattle.ug_lex.specs.declared.token.Token.{Token}
+use Rattle.ug_words.specs.declared.token.Token.{Token}
 use Rattle.ug_types.specs.declared.rule.Cond.{Cond}
 use Rattle.ug_rule.specs.declared.fault.Ending.{Ending}
 use Rattle.ug_rule.specs.declared.fault.Fault.{Fault}

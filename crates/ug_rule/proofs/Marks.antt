@@ -1,9 +1,9 @@
 -- Which tokens and words begin what.
 use Rattle.std.proofs.Common.{◌≡◌, ℕ, inl, inr, true, List, codes, Option, Some, None, refl, sym, subst, if◌then◌else◌, nat_eq, Bool, false, [], ap, is_some}
 use Rattle.std.specs.Cmp.Lexicographic.{pointwise, same_text}
-use Rattle.ug_lex.specs.declared.token.Token.{Token}
-use Rattle.ug_lex.specs.declared.token.TokenKind.{TokenKind}
-use Rattle.ug_lex.specs.declared.token.TokenKind.TheVariants.{Word, Str, Open, Close, ParenOpen, ParenClose, Bang}
+use Rattle.ug_words.specs.declared.token.Token.{Token}
+use Rattle.ug_words.specs.declared.token.TokenKind.{TokenKind}
+use Rattle.ug_words.specs.declared.token.TokenKind.TheVariants.{Word, Str, Open, Close, ParenOpen, ParenClose, Bang}
 use Rattle.ug_types.specs.declared.rule.Op.{Op}
 use Rattle.ug_words.specs.declared.keywords.CondName.{CondName}
 use Rattle.ug_words.specs.Keywords.{operator_of, attribute_of, condition_of, is_if}

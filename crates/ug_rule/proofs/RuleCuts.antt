@@ -1,9 +1,9 @@
 -- Rules are read as the grammar cuts them.
 use Rattle.std.proofs.Common.{◌≡◌, ℕ, ◌⊎◌, inl, inr, false, List, [], ◌∷◌, Option, Some, None, Ok, Err, refl, sym, ap, subst, ◌∙◌}
-use Rattle.ug_lex.specs.declared.token.Token.{Token}
-use Rattle.ug_lex.specs.Lexing.{Lexed, tokens_of}
-use Rattle.ug_lex.specs.Lexing as lexing
-use Rattle.ug_lex.proofs.Meaning.{read_good, good_read}
+use Rattle.ug_words.specs.declared.token.Token.{Token}
+use Rattle.ug_words.specs.Lexing.{Lexed, tokens_of}
+use Rattle.ug_words.specs.Lexing as lexing
+use Rattle.ug_words.proofs.Meaning.{read_good, good_read}
 use Rattle.ug_types.specs.declared.rule.Conds.{Conds}
 use Rattle.ug_types.specs.declared.rule.Query.{Query}
 use Rattle.ug_types.specs.declared.rule.Rule.{Rule}

@@ -1,10 +1,10 @@
 -- A line of a text is blank or a comment, or a rule.
 use Rattle.std.proofs.Common.{◌≡◌, ℕ, List, [], ◌∷◌, Option, Some, None, Result, Ok, Err, refl, sym, ap, ◌∙◌}
-use Rattle.ug_lex.proofs.Meaning.{good_read, read_good}
-use Rattle.ug_lex.specs.Grammar.{Good}
-use Rattle.ug_lex.specs.Lexing as lexing
-use Rattle.ug_lex.specs.Lexing.{Lexed, tokens_of}
-use Rattle.ug_lex.specs.declared.token.Token.{Token}
+use Rattle.ug_words.proofs.Meaning.{good_read, read_good}
+use Rattle.ug_words.specs.Grammar.{Good}
+use Rattle.ug_words.specs.Lexing as lexing
+use Rattle.ug_words.specs.Lexing.{Lexed, tokens_of}
+use Rattle.ug_words.specs.declared.token.Token.{Token}
 use Rattle.ug_types.specs.declared.rule.Rule.{Rule}
 use Rattle.ug_rule.specs.declared.fault.Fault.{Fault}
 use Rattle.ug_rule.specs.Faults.{on_ok}

@@ -1,6 +1,6 @@
 -- The rules of a text: those of its lines that are neither blank nor comments.
 use Rattle.std.specs.Prelude.{◌≡◌, ℕ, Bool, true, false, ◌+◌, length, List, [], ◌∷◌, ◌++◌, Option, Some, None, Result, Ok, Err}
-use Rattle.ug_lex.specs.declared.token.Token.{Token}
+use Rattle.ug_words.specs.declared.token.Token.{Token}
 use Rattle.ug_types.specs.declared.rule.Rule.{Rule}
 use Rattle.ug_lines.specs.LineReading.{text_read}
 use Rattle.ug_types.specs.declared.text_fault.TextFault.{TextFault}

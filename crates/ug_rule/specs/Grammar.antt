@@ -1,7 +1,7 @@
 -- Values and rules as cuts of their tokens: usbguard-rules.conf(5).
 use Rattle.std.specs.Prelude.{◌≡◌, ℕ, ◌<◌, ◌⊎◌, true, false, List, [], ◌∷◌, ◌++◌, length, Option, Some, None}
-use Rattle.ug_lex.specs.declared.token.Token.{Token}
-use Rattle.ug_lex.specs.Grammar.{Good}
+use Rattle.ug_words.specs.declared.token.Token.{Token}
+use Rattle.ug_words.specs.Grammar.{Good}
 use Rattle.ug_types.specs.declared.rule.Cond.{Cond}
 use Rattle.ug_types.specs.declared.rule.CondKind.{CondKind}
 use Rattle.ug_types.specs.declared.rule.CondKind.TheVariants as condition

@@ -1,7 +1,7 @@
 -- Texts of rules as relations: the rules of their lines, and what a fault of a line's tokens is.
 use Rattle.std.specs.Prelude.{ℕ, List, [], ◌∷◌}
-use Rattle.ug_lex.specs.Grammar.{Good}
-use Rattle.ug_lex.specs.Lexing as lexing
+use Rattle.ug_words.specs.Grammar.{Good}
+use Rattle.ug_words.specs.Lexing as lexing
 use Rattle.ug_types.specs.declared.rule.Rule.{Rule}
 use Rattle.ug_rule.specs.declared.fault.Fault.{Fault}
 use Rattle.ug_rule.specs.declared.fault.FaultKind.TheVariants.{BadEscape, OpenString, BadByte}

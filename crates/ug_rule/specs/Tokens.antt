@@ -1,10 +1,10 @@
 -- The tokens of a line, and those that are still to be read.
 use Rattle.std.specs.Prelude.{◌≡◌, ℕ, ◌-◌, Bool, true, false, List, [], ◌∷◌, take, drop, Option, Some, None, Result, Ok, Err}
-use Rattle.ug_lex.specs.Lexing.{Lexed, tokens_of}
-use Rattle.ug_lex.specs.Lexing as lexing
-use Rattle.ug_lex.specs.declared.token.Token.{Token}
-use Rattle.ug_lex.specs.declared.token.TokenKind.{TokenKind}
-use Rattle.ug_lex.specs.declared.token.TokenKind.TheVariants.{Word, Str, Open, Close, ParenOpen, ParenClose, Bang}
+use Rattle.ug_words.specs.Lexing.{Lexed, tokens_of}
+use Rattle.ug_words.specs.Lexing as lexing
+use Rattle.ug_words.specs.declared.token.Token.{Token}
+use Rattle.ug_words.specs.declared.token.TokenKind.{TokenKind}
+use Rattle.ug_words.specs.declared.token.TokenKind.TheVariants.{Word, Str, Open, Close, ParenOpen, ParenClose, Bang}
 use Rattle.ug_rule.specs.declared.fault.Fault.{Fault}
 use Rattle.ug_rule.specs.declared.fault.FaultKind.TheVariants.{BadEscape, OpenString, BadByte}
 use Rattle.ug_rule.specs.declared.fault.Stop.{Stop}

@@ -11,9 +11,8 @@ use crate::queries::{is_blank, query, stray};
 use crate::tokens_left::{Tokens, closes, opens, word};
 use crate::values::{brace, filled, list_of};
 use std::alloc::Global;
-use ug_lex::{Token, TokenKind};
 use ug_types::{Cond, CondKind, Conds, List, Op, Query};
-use ug_words::{CondName, chance, condition, operator, past, span};
+use ug_words::{CondName, Token, TokenKind, chance, condition, operator, past, span};
 
 // The token that must come next.
 fn next(tokens: &mut Tokens, ending: Ending) -> Result<Token, Stop>

@@ -1,6 +1,6 @@
 // Laws of the meaning of a rule's text.
 ghost use Rattle.std.specs.Prelude.{◌≡◌, ◌↔◌, ◌⊎◌, ℕ, List, Some, None, Ok, Err};
-ghost use Rattle.ug_lex.specs.declared.token.Token.{Token};
+ghost use Rattle.ug_words.specs.declared.token.Token.{Token};
 ghost use Rattle.ug_lines.specs.Lines.{lines_of};
 ghost use Rattle.ug_lines.specs.Splitting.{AreLinesOf};
 ghost use Rattle.ug_rule.specs.declared.fault.Ending.{Ending};

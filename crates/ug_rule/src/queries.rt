@@ -10,9 +10,8 @@ use crate::tokens_left::{Tokens, word};
 use crate::values::{FromToken, single, text, value};
 use std::alloc::Global;
 use std::mem::replace;
-use ug_lex::{Token, TokenKind};
 use ug_types::{Id, Query, Text, Values};
-use ug_words::{Attr, attribute, is_if};
+use ug_words::{Attr, Token, TokenKind, attribute, is_if};
 
 /// An attribute whose name was read, and where it stands.
 #[derive(Clone, Copy)]

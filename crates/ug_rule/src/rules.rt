@@ -13,9 +13,8 @@ use crate::queries::{add_attributes, query, query_ends, stray};
 use crate::tokens_left::{Tokens, read, word};
 use std::alloc::Global;
 use std::mem::replace;
-use ug_lex::Token;
 use ug_types::{Conds, List, Query, Rule, Target};
-use ug_words::is_if;
+use ug_words::{Token, is_if};
 
 fn end_of(line: &[u8]) -> Ending
     ensures { result ≡ rules.end_of line.now }

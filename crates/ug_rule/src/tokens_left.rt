@@ -7,8 +7,8 @@ use crate::fault::{FaultKind, Stop};
 use std::alloc::Global;
 use std::collections::VecDeque;
 use std::marker::Model;
-use ug_lex::{LexFault, Token, TokenKind, tokens};
 use ug_types::List;
+use ug_words::{LexFault, Token, TokenKind, tokens};
 
 /// Tokens in a line's order, seen as their list.
 #[derive(Drop)]
@@ -18,7 +18,7 @@ pub struct Tokens {
 
 impl Model for Tokens {
     ghost use Rattle.std.specs.Prelude.{List};
-    ghost use Rattle.ug_lex.specs.declared.token.Token.{Token};
+    ghost use Rattle.ug_words.specs.declared.token.Token.{Token};
 
     ghost Value = { List Token };
 

@@ -7,14 +7,13 @@ ghost use Rattle.ug_rule.specs.Values as values;
 use crate::fault::{Ending, FaultKind, Stop, required};
 use crate::tokens_left::{Tokens, closes, opens, word};
 use std::alloc::Global;
-use ug_lex::{Token, TokenKind};
 use ug_types::{Id, Iface, List, NoMemory, Op, Text, Values};
-use ug_words::{id, interface, operator};
+use ug_words::{Token, TokenKind, id, interface, operator};
 
 /// What one token says.
 pub trait FromToken: Sized + Drop {
     ghost use Rattle.std.specs.Prelude.{ℕ, List, Option};
-    ghost use Rattle.ug_lex.specs.declared.token.Token.{Token};
+    ghost use Rattle.ug_words.specs.declared.token.Token.{Token};
 
     ghost in_token: { List ℕ → Token → Option Self };
 

@@ -1,8 +1,8 @@
 -- A line of a text that is neither blank nor a rule has a first fault.
 use Rattle.std.proofs.Common.{◌≡◌, ℕ, List, [], ◌∷◌, Option, Some, None, Result, Ok, Err, refl, sym, ap, ◌∙◌}
-use Rattle.ug_lex.proofs.Meaning.{read_good}
-use Rattle.ug_lex.specs.Lexing as lexing
-use Rattle.ug_lex.specs.Lexing.{Lexed, tokens_of}
+use Rattle.ug_words.proofs.Meaning.{read_good}
+use Rattle.ug_words.specs.Lexing as lexing
+use Rattle.ug_words.specs.Lexing.{Lexed, tokens_of}
 use Rattle.ug_types.specs.declared.rule.Rule.{Rule}
 use Rattle.ug_rule.specs.declared.fault.Fault.{Fault}
 use Rattle.ug_rule.specs.Faults.{on_ok}

@@ -1,9 +1,9 @@
 -- Each state has an ending: tokens that lead to where a line may end.
 use Rattle.std.proofs.Common.{◌≡◌, ℕ, Bool, true, false, List, [], ◌∷◌, codes, None, Ok, refl, ap, ◌∙◌, arith}
 use Rattle.hex.specs.Hex.{decode_pairs}
-use Rattle.ug_lex.specs.declared.token.Token.{Token}
-use Rattle.ug_lex.specs.declared.token.TokenKind.{TokenKind}
-use Rattle.ug_lex.specs.declared.token.TokenKind.TheVariants as kind
+use Rattle.ug_words.specs.declared.token.Token.{Token}
+use Rattle.ug_words.specs.declared.token.TokenKind.{TokenKind}
+use Rattle.ug_words.specs.declared.token.TokenKind.TheVariants as kind
 use Rattle.ug_words.specs.declared.keywords.Attr.TheVariants as attr
 use Rattle.ug_words.specs.Keywords.{operator_of, attribute_of, condition_of}
 use Rattle.ug_types.specs.Targets.{target_of}

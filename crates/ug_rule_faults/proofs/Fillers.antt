@@ -2,10 +2,10 @@
 use Rattle.std.proofs.Common.{◌≡◌, ℕ, ◌+◌, ◌-◌, ◌≤◌, inl, false, List, [], ◌∷◌, ◌++◌, codes, length, length-append, take, drop, Option, Some, None, refl, sym, ap, subst, ◌∙◌, append_assoc, arith}
 use Rattle.std.proofs.Math.Seq.{drop-append-add, take-append_seam}
 use Rattle.std.proofs.lemmas.List.{take-append-le}
-use Rattle.ug_lex.specs.Grammar.{Empty, goes_on, StandsInLine, Blank, Mark, Word, String, LinePart, parts_text, AllStand, token_at, tokens_placed, width, Good}
-use Rattle.ug_lex.specs.declared.token.Token.{Token}
-use Rattle.ug_lex.specs.declared.token.TokenKind.{TokenKind}
-use Rattle.ug_lex.specs.declared.token.TokenKind.TheVariants as kind
+use Rattle.ug_words.specs.Grammar.{Empty, goes_on, StandsInLine, Blank, Mark, Word, String, LinePart, parts_text, AllStand, token_at, tokens_placed, width, Good}
+use Rattle.ug_words.specs.declared.token.Token.{Token}
+use Rattle.ug_words.specs.declared.token.TokenKind.{TokenKind}
+use Rattle.ug_words.specs.declared.token.TokenKind.TheVariants as kind
 use Rattle.ug_rule_faults.specs.FirstFault.{end_behind}
 use Rattle.ug_rule.specs.Tokens.{word_by}
 use Rattle.ug_rule_faults.proofs.Completions as fill

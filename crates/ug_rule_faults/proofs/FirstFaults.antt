@@ -2,10 +2,10 @@
 use Rattle.std.proofs.Common.{◌≡◌, ℕ, ◌≤◌, inl, inr, List, [], ◌∷◌, ◌++◌, length, take, Some, None, Result, Ok, Err, refl, sym, ap, subst, ◌∙◌, append_assoc, arith}
 use Rattle.std.proofs.Math.Seq.{take-take}
 use Rattle.std.proofs.lemmas.List.{append-nil}
-use Rattle.ug_lex.proofs.Meaning.{good_read, read_good, bad_read, read_bad, in_order, same_list, not_both}
-use Rattle.ug_lex.specs.Grammar.{Good, InOrder}
-use Rattle.ug_lex.specs.Lexing.{Lexed, tokens_of}
-use Rattle.ug_lex.specs.declared.token.Token.{Token}
+use Rattle.ug_words.proofs.Meaning.{good_read, read_good, bad_read, read_bad, in_order, same_list, not_both}
+use Rattle.ug_words.specs.Grammar.{Good, InOrder}
+use Rattle.ug_words.specs.Lexing.{Lexed, tokens_of}
+use Rattle.ug_words.specs.declared.token.Token.{Token}
 use Rattle.ug_rule.specs.declared.fault.Fault.{Fault}
 use Rattle.ug_rule.specs.declared.fault.FaultKind.{FaultKind}
 use Rattle.ug_rule.specs.Faults.{fault_at, on_ok}

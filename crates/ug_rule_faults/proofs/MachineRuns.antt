@@ -3,10 +3,10 @@ use Rattle.std.proofs.Common.{◌≡◌, ℕ, inl, inr, ◌⊎◌, ◌+◌, ◌-
 use Rattle.std.proofs.Math.Seq.{take-take}
 use Rattle.std.proofs.lemmas.List.{drop-take}
 use Rattle.std.specs.List.{AllByRecursion}
-use Rattle.ug_lex.specs.Grammar.{InOrder}
-use Rattle.ug_lex.specs.declared.token.Token.{Token}
-use Rattle.ug_lex.specs.declared.token.TokenKind.{TokenKind}
-use Rattle.ug_lex.specs.declared.token.TokenKind.TheVariants.{Word, Str, Open, Close, ParenOpen, ParenClose, Bang}
+use Rattle.ug_words.specs.Grammar.{InOrder}
+use Rattle.ug_words.specs.declared.token.Token.{Token}
+use Rattle.ug_words.specs.declared.token.TokenKind.{TokenKind}
+use Rattle.ug_words.specs.declared.token.TokenKind.TheVariants.{Word, Str, Open, Close, ParenOpen, ParenClose, Bang}
 use Rattle.ug_rule.specs.declared.fault.Fault.{Fault}
 use Rattle.ug_rule.specs.declared.fault.FaultKind.{FaultKind}
 use Rattle.ug_rule.specs.Faults.{fault_at}

@@ -1,6 +1,6 @@
 -- A value takes the machine through its tokens.
 use Rattle.std.proofs.Common.{◌≡◌, ℕ, Bool, true, false, List, [], ◌∷◌, ◌++◌, Option, Some, None, Result, Ok, Err, is_some, refl, sym, ap, ◌∙◌}
-use Rattle.ug_lex.specs.declared.token.Token.{Token}
+use Rattle.ug_words.specs.declared.token.Token.{Token}
 use Rattle.ug_types.specs.declared.rule.Op.{Op}
 use Rattle.ug_types.specs.declared.rule.Op.TheVariants.{Equals}
 use Rattle.ug_rule.specs.declared.fault.Fault.{Fault}

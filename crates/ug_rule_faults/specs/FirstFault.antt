@@ -1,10 +1,10 @@
 -- The first fault of a line from the left, by what its tokens can go on to: usbguard-rules.conf(5).
 use Rattle.std.specs.Prelude.{◌≡◌, ℕ, ◌+◌, List, [], ◌∷◌, ◌++◌, length, take}
-use Rattle.ug_lex.specs.Grammar.{Good, Bad}
-use Rattle.ug_lex.specs.Lexing as lexing
-use Rattle.ug_lex.specs.declared.token.Token.{Token}
-use Rattle.ug_lex.specs.declared.token.TokenKind.{TokenKind}
-use Rattle.ug_lex.specs.declared.token.TokenKind.TheVariants.{Word, Str, Open, Close, ParenOpen, ParenClose, Bang}
+use Rattle.ug_words.specs.Grammar.{Good, Bad}
+use Rattle.ug_words.specs.Lexing as lexing
+use Rattle.ug_words.specs.declared.token.Token.{Token}
+use Rattle.ug_words.specs.declared.token.TokenKind.{TokenKind}
+use Rattle.ug_words.specs.declared.token.TokenKind.TheVariants.{Word, Str, Open, Close, ParenOpen, ParenClose, Bang}
 use Rattle.ug_types.specs.declared.rule.Query.{Query}
 use Rattle.ug_types.specs.declared.rule.Rule.{Rule}
 use Rattle.ug_rule.specs.declared.fault.Fault.{Fault}

@@ -1,7 +1,7 @@
 -- What orders change of a list of rules.
 use Rattle.std.specs.Prelude.{◌≡◌, ◌<◌, ℕ, ◌+◌, Bool, true, false, cond, List, [], ◌++◌, length, flat_map, Option, Some, None}
 use Rattle.ug_types.specs.Elements.{Has}
-use Rattle.ug_refusal.specs.declared.refusal.Refusal.{Refusal}
+use Rattle.ug_types.specs.declared.refusal.Refusal.{Refusal}
 use Rattle.ug_types.specs.declared.rule.After.TheVariants as after
 use Rattle.ug_types.specs.declared.rule.Rule.{Rule}
 use Rattle.ug_policy.specs.Edits.{IsThere, KeepsMarkOrder, has_id, inserted, new_entry, removed, retargeted}

@@ -22,8 +22,7 @@ use std::marker::Model;
 use ug_cond::{Allowed, Context};
 use ug_policy::{MAX_RULES, Mark, RuleEntry, RuleList};
 use ug_print::{RulesTextFault, is_made_of};
-use ug_refusal::Refusal;
-use ug_types::{After, Cause, DeviceRecord, List, NoMemory, Query, Rule, Target, Text};
+use ug_types::{After, Cause, DeviceRecord, List, NoMemory, Query, Refusal, Rule, Target, Text};
 
 /// Rules, each of which reads again from its canonical text. A rule file has room for the permanent ones.
 #[derive(Drop)]
@@ -46,12 +45,12 @@ impl Model for KeptRules {
 fn find_made(rules: &[RuleEntry], device: &DeviceRecord, with_port: bool) -> Option<u64>
     ensures { result ≡ made_rule device.now with_port rules.now }
 {
-    match rules.iter().find(|entry| entry.mark.is_permanent()
-        && is_made_of(&entry.rule, device, with_port))
-    {
-        Some(entry) => Some(entry.id),
-        None => None,
+    for entry in rules {
+        if entry.mark.is_permanent() && is_made_of(&entry.rule, device, with_port) {
+            return Some(entry.id);
+        }
     }
+    None
 }
 
 impl KeptRules {
@@ -93,7 +92,12 @@ impl KeptRules {
         ensures { result ≡ has_rule id self.now.entries }
     {
         let rules = self.list.as_slice();
-        rules.iter().any(|entry| entry.id == id)
+        for entry in rules {
+            if entry.id == id {
+                return true;
+            }
+        }
+        false
     }
 
     // Whether a permanent rule has the id.
@@ -101,9 +105,12 @@ impl KeptRules {
         ensures { result ≡ has_permanent id self.now.entries }
     {
         let rules = self.list.as_slice();
-        rules
-            .iter()
-            .any(|entry| entry.id == id && entry.mark.is_permanent())
+        for entry in rules {
+            if entry.id == id && entry.mark.is_permanent() {
+                return true;
+            }
+        }
+        false
     }
 
     // Whether the rule of that id is one of the folder.
@@ -111,9 +118,12 @@ impl KeptRules {
         ensures { result ≡ has_folder_rule id self.now.entries }
     {
         let rules = self.list.as_slice();
-        rules
-            .iter()
-            .any(|entry| entry.id == id && entry.mark.is_folder())
+        for entry in rules {
+            if entry.id == id && entry.mark.is_folder() {
+                return true;
+            }
+        }
+        false
     }
 
     // Why no rule is put behind that of the id.

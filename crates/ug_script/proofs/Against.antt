@@ -3,7 +3,7 @@ use Rattle.std.proofs.Common.{◌≡◌, ℕ, Bool, true, false, cond, nat_eq, L
 use Rattle.std.proofs.lemmas.Bool.{both_ways}
 use Rattle.std.proofs.lemmas.Option.{same_Some}
 use Rattle.std.specs.Cmp.Lexicographic.{pointwise, same_text}
-use Rattle.ug_numerals.proofs.Numerals.{text_itself}
+use Rattle.ug_lines.proofs.Numerals.{text_itself}
 use Rattle.ug_sysfs.specs.World.{World, carried}
 use Rattle.ug_command_io.specs.Fold.{LineRefusal, BadLine, InputTooLong, Writes, Refused, Stage, Going, Halted, of_first, plays}
 use Rattle.ug_command_io.specs.Refusals.{AtEnd, AtLine, RefusesLines, fault_in}

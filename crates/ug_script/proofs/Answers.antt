@@ -2,10 +2,10 @@
 use Rattle.std.proofs.Common.{◌≡◌, ℕ, ◌+◌, ◌≤◌, nat_lt, length, Bool, true, false, not, ◌&&◌, ◌||◌, cond, List, [], ◌∷◌, ◌++◌, Option, Some, None, Result, Ok, Err, refl, sym, ◌∙◌, ap, subst, append_assoc, append-nil, arith}
 use Rattle.std.specs.List.{list_any}
 use Rattle.ug_types.specs.Principals.{Named}
-use Rattle.ug_refusal.specs.declared.refusal.Refusal.{Refusal}
-use Rattle.ug_parameter.specs.Parameters.{parameter_of, parameter_with, value_word}
-use Rattle.ug_parameter.specs.declared.parameter.Parameter.{Parameter}
-use Rattle.ug_parameter.specs.declared.parameter.ParameterName.{ParameterName}
+use Rattle.ug_types.specs.declared.refusal.Refusal.{Refusal}
+use Rattle.ug_types.specs.Parameters.{parameter_of, parameter_with, value_word}
+use Rattle.ug_types.specs.declared.parameter.Parameter.{Parameter}
+use Rattle.ug_types.specs.declared.parameter.ParameterName.{ParameterName}
 use Rattle.ug_types.specs.declared.rule.After.{After}
 use Rattle.ug_types.specs.declared.rule.After.TheVariants as after
 use Rattle.ug_types.specs.declared.rule.Rule.{Rule}
@@ -39,10 +39,10 @@ use Rattle.ug_table.specs.declared.standing.Settled.TheVariants as settled
 use Rattle.ug_table.specs.declared.standing.Standing.{Standing}
 use Rattle.ug_table.proofs.Ordered.{EndsOrder, ordering_ways}
 use Rattle.ug_table.proofs.PartCalls.{has_want, are_short}
-use Rattle.ug_simulation.specs.Play.{entry_tells_memory, is_short_reply, names_somebody, tells_memory, NameNobody}
-use Rattle.ug_simulation.proofs.Plays.{refused}
-use Rattle.ug_simulation.proofs.Sweeps.{Sums, settling_sums, sweeping_sums, nobody_told, nobody_more}
-use Rattle.ug_simulation.proofs.Wants.{memory_more}
+use Rattle.ug_script.specs.Play.{entry_tells_memory, is_short_reply, names_somebody, tells_memory, NameNobody}
+use Rattle.ug_script.proofs.Plays.{refused}
+use Rattle.ug_script.proofs.Sweeps.{Sums, settling_sums, sweeping_sums, nobody_told, nobody_more}
+use Rattle.ug_script.proofs.Wants.{memory_more}
 use Rattle.ug_core.specs.Answering.{acting, answer_of, answered_with, asking, asking_of, by_edit, by_name, by_permanent, by_probe, by_record, by_request, by_rule, by_setting, by_standing, by_value, changing as choosing, deed_after, if_granted, if_read, if_reply_room, if_rule_made, if_rule_read, reply_to, telling, unless}
 use Rattle.ug_core.specs.Storing.{stored_with, with_changes}
 use Rattle.ug_core.specs.declared.storing.Stored.{Stored}

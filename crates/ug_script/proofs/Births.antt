@@ -28,8 +28,8 @@ use Rattle.ug_sysfs.specs.Find.{find_none, find_some, live_held_some}
 use Rattle.ug_sysfs.specs.Sound.{sound_happen}
 use Rattle.ug_sysfs.specs.World.{World, answer_from, scripted_answer, event_begun, due, effect, entered, fate_of, happen, happen_all, live_held, moved, opened_at, over, put_at, switched, switched_to, with_file}
 use Rattle.ug_kernel.specs.Calls.{Answer, raised}
-use Rattle.ug_simulation.specs.Play.{play}
-use Rattle.ug_simulation.proofs.Plays.{unless_cases}
+use Rattle.ug_script.specs.Play.{play}
+use Rattle.ug_script.proofs.Plays.{unless_cases}
 use Rattle.ug_store.specs.PlayDisk.{play_disk}
 use Rattle.ug_store.specs.Scripted.{DiskWorld}
 use Rattle.ug_command_io.specs.Fold.{LineRefusal, BadLine, Going, Halted, InputTooLong, LineOutcome, Refused, Stage, Writes, is_within, plays, stage_after}

@@ -15,8 +15,8 @@ use Rattle.ug_iface.specs.Calls.{IfaceCall}
 use Rattle.ug_iface.specs.Order.{in_iface_order}
 use Rattle.ug_iface.specs.Settle.{Aim, beginning, walking}
 use Rattle.ug_iface.specs.Tree as iface
-use Rattle.ug_simulation.specs.Play.{play}
-use Rattle.ug_simulation.proofs.Plays.{told_unless}
+use Rattle.ug_script.specs.Play.{play}
+use Rattle.ug_script.proofs.Plays.{told_unless}
 use Rattle.ug_store.specs.Scripted.{DiskWorld}
 use Rattle.ug_core.specs.Event.{DaemonState}
 use Rattle.ug_script.specs.Passes.{aims_in, device_pass, pass_behind, pass_over, play_ifaces, walk_from}

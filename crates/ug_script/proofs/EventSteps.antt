@@ -13,9 +13,9 @@ use Rattle.ug_kernel.specs.Tree.{Runs}
 use Rattle.ug_audit.specs.declared.entry.Entry.{Entry}
 use Rattle.ug_audit.specs.declared.entry.Entry.TheVariants as entry
 use Rattle.ug_audit.specs.declared.entry.Fault.TheVariants as fault
-use Rattle.ug_simulation.specs.Play.{play, tells_memory, IsPlayed}
-use Rattle.ug_simulation.proofs.Plays.{TellsWant, played, refused, runs_out}
-use Rattle.ug_simulation.proofs.Wants.{memory_more}
+use Rattle.ug_script.specs.Play.{play, tells_memory, IsPlayed}
+use Rattle.ug_script.proofs.Plays.{TellsWant, played, refused, runs_out}
+use Rattle.ug_script.proofs.Wants.{memory_more}
 use Rattle.ug_kernel.proofs.Ways.{Went, ways_more, ways_run}
 use Rattle.ug_ruleset.specs.RuleFile.{CanSave, permanent_text}
 use Rattle.ug_store.specs.PlayDisk.{play_disk}

@@ -19,9 +19,9 @@ use Rattle.ug_sysfs.specs.declared.script.Move.TheVariants.{Plug, Unplug, Iface}
 use Rattle.ug_sysfs.specs.declared.script.NewDevice.{NewDevice}
 use Rattle.ug_sysfs.specs.declared.script.Scheduled.{Scheduled}
 use Rattle.ug_sysfs.specs.World.{World, answer_from, carried, due, effect, entered, failure_counted, fate_of, halting, happen, happen_all, moved, over, scripted_answer, shift, with_kernel}
-use Rattle.ug_simulation.specs.Play.{play}
-use Rattle.ug_simulation.proofs.Plays.{unless_cases}
-use Rattle.ug_simulation.proofs.Still.{length_effect}
+use Rattle.ug_script.specs.Play.{play}
+use Rattle.ug_script.proofs.Plays.{unless_cases}
+use Rattle.ug_script.proofs.Still.{length_effect}
 use Rattle.ug_store.specs.Scripted.{DiskWorld}
 use Rattle.ug_table.specs.Laws.{Stand}
 use Rattle.ug_table.specs.Sweep.{names_of}

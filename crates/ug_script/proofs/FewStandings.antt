@@ -1,7 +1,7 @@
 -- A table never has more standings than there are devices, with those that may still come when an event begins.
 use Rattle.std.proofs.Common.{◌≤◌, length, arith}
 use Rattle.ug_sysfs.specs.World.{World, event_begun}
-use Rattle.ug_simulation.specs.Play.{play}
+use Rattle.ug_script.specs.Play.{play}
 use Rattle.ug_store.specs.PlayDisk.{play_disk}
 use Rattle.ug_store.specs.Scripted.{DiskWorld}
 use Rattle.ug_core.specs.Answering.{acting, asking, deed_after}

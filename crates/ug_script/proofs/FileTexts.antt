@@ -3,7 +3,7 @@ use Rattle.std.proofs.Common.{◌≡◌, ℕ, Bool, true, false, List, [], ◌�
 use Rattle.std.proofs.lemmas.Option.{same_Some}
 use Rattle.ug_types.specs.Elements.{Has}
 use Rattle.ug_types.proofs.Elements.{has_cases}
-use Rattle.ug_refusal.specs.declared.refusal.Refusal.TheVariants as refusal
+use Rattle.ug_types.specs.declared.refusal.Refusal.TheVariants as refusal
 use Rattle.ug_types.specs.declared.rule.Rule.{Rule}
 use Rattle.ug_types.specs.declared.saved.Saved.{Saved}
 use Rattle.ug_types.specs.declared.saved.Saved.TheVariants as saved
@@ -11,8 +11,8 @@ use Rattle.ug_rule.proofs.Cases.{one_outcome}
 use Rattle.ug_rule.specs.Files.{file_read}
 use Rattle.ug_sysfs.specs.World.{World, Gives, event_begun}
 use Rattle.ug_audit.specs.declared.entry.Entry.TheVariants as entry
-use Rattle.ug_simulation.specs.Play.{play}
-use Rattle.ug_simulation.proofs.Plays.{play_runs}
+use Rattle.ug_script.specs.Play.{play}
+use Rattle.ug_script.proofs.Plays.{play_runs}
 use Rattle.ug_policy.specs.declared.entry.RuleEntry.{RuleEntry}
 use Rattle.ug_ruleset.specs.RuleFile.{IsRuleFile, IsSaveable, permanent_rules, permanent_text}
 use Rattle.ug_ruleset.proofs.Readable.{saved_file}

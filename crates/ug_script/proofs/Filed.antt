@@ -8,7 +8,7 @@ use Rattle.ug_types.specs.declared.saved.Saved.{Saved}
 use Rattle.ug_types.specs.declared.saved.Saved.TheVariants as saved
 use Rattle.ug_lines.specs.LineReading.{lines_read}
 use Rattle.ug_lines.specs.Lines.{whole_from, rest_from}
-use Rattle.ug_lex.specs.Lexing.{tokens_of, tokens_from, front_of}
+use Rattle.ug_words.specs.Lexing.{tokens_of, tokens_from, front_of}
 use Rattle.ug_store.specs.Disk.{Disk, Images, Texts, Anything, IsImage}
 use Rattle.ug_store.specs.Scripted.{DiskWorld, MemKeeps, coming_up, disk_told}
 use Rattle.ug_conf.specs.declared.folder_file.FolderFile.{FolderFile}

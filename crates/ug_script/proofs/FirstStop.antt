@@ -2,7 +2,7 @@
 use Rattle.std.proofs.Common.{◌≡◌, ℕ, zero, suc, ◌-◌, ◌+◌, ◌^◌, ◌<◌, ◌≤◌, ◌||◌, Bool, true, false, cond, nat_le, nat_lt, List, None, refl, sym, ◌∙◌, ap, subst, arith}
 use Rattle.std.proofs.lemmas.Bool.{both_ways, cond_both}
 use Rattle.std.proofs.lemmas.Bool.Decides.{nat_tests}
-use Rattle.ug_simulation.specs.Play.{play}
+use Rattle.ug_script.specs.Play.{play}
 use Rattle.ug_store.specs.DiskCalls.{DiskCall, DiskTold, Load, Write_new, Sync_new, Swap}
 use Rattle.ug_store.specs.PlayDisk.{play_disk}
 use Rattle.ug_store.specs.Scripted.{DiskWorld, disk_answer, one_up, plan_at, stops_by}

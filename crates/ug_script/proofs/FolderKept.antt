@@ -11,9 +11,9 @@ use Rattle.ug_types.specs.declared.rule.After.TheVariants as after
 use Rattle.ug_types.specs.declared.rule.Rule as types
 use Rattle.ug_types.specs.declared.verdict.Moment.{Moment}
 use Rattle.ug_types.specs.declared.verdict.Target.{Target}
-use Rattle.ug_parameter.specs.Parameters.{parameter_of, parameter_with}
-use Rattle.ug_parameter.specs.declared.parameter.Parameter.{Parameter}
-use Rattle.ug_parameter.specs.declared.parameter.ParameterName.{ParameterName}
+use Rattle.ug_types.specs.Parameters.{parameter_of, parameter_with}
+use Rattle.ug_types.specs.declared.parameter.Parameter.{Parameter}
+use Rattle.ug_types.specs.declared.parameter.ParameterName.{ParameterName}
 use Rattle.ug_kernel.specs.Calls.{Call, Answer, ToldAnswer}
 use Rattle.ug_kernel.specs.declared.calls.Probe.{Probe}
 use Rattle.ug_kernel.specs.Tree.{Runs}

@@ -8,7 +8,7 @@ use Rattle.ug_core.specs.Event.{DaemonState}
 use Rattle.ug_core.specs.Storing.{storing}
 use Rattle.ug_types.specs.declared.event.Event.{Event}
 use Rattle.ug_types.specs.declared.event.Event.TheVariants.{Sweep, Order, Hint}
-use Rattle.ug_simulation.specs.Play.{play}
+use Rattle.ug_script.specs.Play.{play}
 use Rattle.ug_script.specs.Replay.{order_played_by, halted}
 
 -- what halting leaves as it was

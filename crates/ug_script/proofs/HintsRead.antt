@@ -27,7 +27,7 @@ use Rattle.ug_uevent.proofs.Paths.{named, no_slash, unnamed}
 use Rattle.ug_uevent.proofs.Steps.{pair_at}
 use Rattle.ug_uevent.proofs.Strings.{first_of, behind_first}
 use Rattle.ug_table.specs.Laws.{AreInOrder, swept_before}
-use Rattle.ug_simulation.specs.Play.{NameNobody, tells_memory}
+use Rattle.ug_script.specs.Play.{NameNobody, tells_memory}
 use Rattle.ug_core.specs.Due.{AreDueInOrder, standings_due}
 use Rattle.ug_core.specs.Event.{DaemonState}
 use Rattle.ug_types.specs.Events.{longest_piece}

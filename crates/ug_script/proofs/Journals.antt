@@ -16,8 +16,8 @@ use Rattle.ug_audit.specs.declared.entry.Entry.{Entry}
 use Rattle.ug_audit.specs.declared.entry.Entry.TheVariants as entry
 use Rattle.ug_table.specs.State.{State}
 use Rattle.ug_table.specs.Laws.{IsAsJudged}
-use Rattle.ug_simulation.specs.Play.{play, names_somebody, NameNobody}
-use Rattle.ug_simulation.proofs.Still.{lived_in_play, play_still}
+use Rattle.ug_script.specs.Play.{play, names_somebody, NameNobody}
+use Rattle.ug_script.proofs.Still.{lived_in_play, play_still}
 use Rattle.ug_conf.specs.Draft.{draft_of}
 use Rattle.ug_conf.specs.Settings.{defaults}
 use Rattle.ug_conf.specs.Texts.{setting_line, settled}

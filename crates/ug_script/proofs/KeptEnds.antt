@@ -6,8 +6,8 @@ use Rattle.ug_kernel.proofs.Stayed.{unmoving}
 use Rattle.ug_sysfs.specs.World.{World, over}
 use Rattle.ug_sysfs.specs.Begins.{happened_moves}
 use Rattle.ug_audit.specs.declared.entry.Entry.{Entry}
-use Rattle.ug_simulation.specs.Play.{NameNobody}
-use Rattle.ug_simulation.proofs.Sweeps.{nobody_more}
+use Rattle.ug_script.specs.Play.{NameNobody}
+use Rattle.ug_script.proofs.Sweeps.{nobody_more}
 use Rattle.ug_types.specs.declared.event.Event as events
 use Rattle.ug_core.specs.Policy.{Judging}
 use Rattle.ug_core.specs.Durable.{IsKept}

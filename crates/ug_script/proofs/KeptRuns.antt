@@ -7,8 +7,8 @@ use Rattle.ug_kernel.specs.Kernel.{Kernel, Moves}
 use Rattle.ug_kernel.proofs.Stayed.{unmoving}
 use Rattle.ug_sysfs.specs.World.{IsUnfailing, World, event_begun}
 use Rattle.ug_audit.specs.declared.entry.Entry.{Entry}
-use Rattle.ug_simulation.specs.Play.{play, NameNobody}
-use Rattle.ug_simulation.proofs.Sweeps.{nobody_more}
+use Rattle.ug_script.specs.Play.{play, NameNobody}
+use Rattle.ug_script.proofs.Sweeps.{nobody_more}
 use Rattle.ug_types.specs.declared.event.Event as events
 use Rattle.ug_types.specs.declared.event.Event.TheVariants.{Sweep, Order, Hint}
 use Rattle.ug_core.specs.Policy.{Judging}
@@ -25,7 +25,7 @@ use Rattle.ug_store.proofs.PlayedDisk.{play_runs_disk, play_stays_possible, play
 use Rattle.ug_ruleset.specs.RuleFile.{IsRuleFile, permanent_rules}
 use Rattle.ug_store.specs.Scripted.{DiskWorld, MemKeeps, disk_told, forgetting}
 use Rattle.ug_sysfs.specs.World.{Gives}
-use Rattle.ug_simulation.proofs.Plays.{play_runs}
+use Rattle.ug_script.proofs.Plays.{play_runs}
 use Rattle.ug_core.specs.Chain.{IsEvent, StaysOnDisk}
 use Rattle.ug_core.proofs.Kept.{stays_there}
 use Rattle.ug_core.proofs.Plain.{event_keeps_pending}

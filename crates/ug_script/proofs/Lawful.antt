@@ -22,9 +22,9 @@ use Rattle.ug_table.proofs.Swept.{told_swept}
 use Rattle.ug_table.proofs.Faults.{sweeping_tells}
 use Rattle.ug_table.proofs.Once.{told_once}
 use Rattle.ug_table.proofs.Several.{names_part, told_names}
-use Rattle.ug_simulation.specs.Play.{play, tells_memory}
-use Rattle.ug_simulation.proofs.Wants.{memory_more}
-use Rattle.ug_simulation.proofs.Plays.{Fixed, fails_stay, play_runs, play_told, play_then, play_way}
+use Rattle.ug_script.specs.Play.{play, tells_memory}
+use Rattle.ug_script.proofs.Wants.{memory_more}
+use Rattle.ug_script.proofs.Plays.{Fixed, fails_stay, play_runs, play_told, play_then, play_way}
 use Rattle.ug_uevent.specs.Streams.{Stream}
 use Rattle.ug_core.specs.Event as event
 use Rattle.ug_core.specs.Policy.{Judging, policy_answer, policy_later}
@@ -36,8 +36,8 @@ use Rattle.ug_types.specs.declared.saved.Saved.TheVariants as saved
 use Rattle.ug_store.specs.PlayDisk.{play_disk}
 use Rattle.ug_store.specs.Scripted.{IsUnplanned, DiskWorld, MemKeeps}
 use Rattle.ug_store.proofs.PlayedDisk.{play_keeps_unplanned, play_runs_disk, play_stays_told}
-use Rattle.ug_simulation.specs.Play.{NameNobody}
-use Rattle.ug_simulation.proofs.Sweeps.{nobody_more}
+use Rattle.ug_script.specs.Play.{NameNobody}
+use Rattle.ug_script.proofs.Sweeps.{nobody_more}
 use Rattle.ug_core.specs.Due.{AreDueInOrder, SettlesDueIn, TellsDue}
 use Rattle.ug_core.specs.Laws.{AnswersEvent, Handled, RunsAnswer, SettlesDue, TellsSweep, TellsEvent}
 use Rattle.ug_core.specs.Storing.{stored_with, storing}

@@ -46,3 +46,7 @@ mod BusSound
 mod PassFaults
 mod FewStandings
 mod PassFits
+pub mod Plays
+pub mod Wants
+pub mod Sweeps
+pub mod Still

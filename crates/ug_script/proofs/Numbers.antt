@@ -13,8 +13,8 @@ use Rattle.ug_sysfs.specs.World.{World, Gives, event_begun, live_names, effect, 
 use Rattle.ug_sysfs.specs.Count.{counts_each}
 use Rattle.ug_sysfs.specs.Sound.{sound_happen}
 use Rattle.ug_table.specs.State.{State}
-use Rattle.ug_simulation.specs.Play.{play}
-use Rattle.ug_simulation.proofs.Plays.{play_runs}
+use Rattle.ug_script.specs.Play.{play}
+use Rattle.ug_script.proofs.Plays.{play_runs}
 use Rattle.ug_core.specs.Starting.{Marked}
 use Rattle.ug_core.specs.Event as event
 use Rattle.ug_core.specs.Due.{standings_due}

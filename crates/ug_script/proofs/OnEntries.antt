@@ -10,8 +10,8 @@ use Rattle.ug_kernel.proofs.Defaults.{called_on_entries, moves_on_entries}
 use Rattle.ug_sysfs.specs.World.{World, scripted_answer, event_begun, over}
 use Rattle.ug_sysfs.specs.Law.{does_what_it_may}
 use Rattle.ug_sysfs.specs.Begins.{happened_moves}
-use Rattle.ug_simulation.specs.Play.{play}
-use Rattle.ug_simulation.proofs.Plays.{told_unless}
+use Rattle.ug_script.specs.Play.{play}
+use Rattle.ug_script.proofs.Plays.{told_unless}
 use Rattle.ug_store.specs.PlayDisk.{play_disk}
 use Rattle.ug_store.specs.Scripted.{DiskWorld}
 use Rattle.ug_core.specs.Answering.{acting, asking, deed_after}

@@ -6,10 +6,10 @@ use Rattle.ug_types.specs.declared.saved.Saved.{Saved}
 use Rattle.ug_types.specs.declared.saved.Saved.TheVariants as saved
 use Rattle.ug_sysfs.specs.World.{World}
 use Rattle.ug_audit.specs.declared.entry.Entry.{Entry}
-use Rattle.ug_simulation.specs.Play.{NameNobody, play, tells_memory}
-use Rattle.ug_simulation.proofs.Plays.{Fixed, play_way, refused}
-use Rattle.ug_simulation.proofs.Sweeps.{nobody_more}
-use Rattle.ug_simulation.proofs.Wants.{memory_more}
+use Rattle.ug_script.specs.Play.{NameNobody, play, tells_memory}
+use Rattle.ug_script.proofs.Plays.{Fixed, play_way, refused}
+use Rattle.ug_script.proofs.Sweeps.{nobody_more}
+use Rattle.ug_script.proofs.Wants.{memory_more}
 use Rattle.ug_ruleset.specs.RuleFile.{permanent_text}
 use Rattle.ug_uevent.specs.Faults.{SaidFault}
 use Rattle.ug_uevent.specs.Streams.{Stream, stream_with_piece}

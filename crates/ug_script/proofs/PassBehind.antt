@@ -20,7 +20,7 @@ use Rattle.ug_iface.specs.Calls.{IfaceCall, Names_of, Open, Read, Ask_device, As
 use Rattle.ug_iface.specs.Order.{in_iface_order}
 use Rattle.ug_iface.specs.Settle.{Aim, beginning, walking}
 use Rattle.ug_iface.specs.Tree.{IfaceProg, Return, Make, Room}
-use Rattle.ug_simulation.proofs.Plays.{play_told}
+use Rattle.ug_script.proofs.Plays.{play_told}
 use Rattle.ug_types.specs.declared.event.Event.{Event}
 use Rattle.ug_core.specs.Event.{DaemonState, handling}
 use Rattle.ug_store.specs.Scripted.{DiskWorld}

@@ -4,8 +4,8 @@ use Rattle.ug_kernel.proofs.Ways.{ways_run}
 use Rattle.ug_sysfs.specs.World.{World, Gives, event_begun}
 use Rattle.ug_table.specs.State.{State}
 use Rattle.ug_iface.specs.declared.rules.IfaceRule.{IfaceRule}
-use Rattle.ug_simulation.specs.Play.{play}
-use Rattle.ug_simulation.proofs.Plays.{play_runs, play_told}
+use Rattle.ug_script.specs.Play.{play}
+use Rattle.ug_script.proofs.Plays.{play_runs, play_told}
 use Rattle.ug_core.specs.Answering.{acting, asking, deed_after}
 use Rattle.ug_core.specs.Event.{DaemonState, handling, most_standings, ready, settling_due, trying}
 use Rattle.ug_types.specs.Events.{FitsEvent}

@@ -9,11 +9,11 @@ use Rattle.ug_types.specs.declared.record.Judged.{Judged}
 use Rattle.ug_types.specs.declared.record.Judged.TheVariants.{Good, Malformed}
 use Rattle.ug_types.specs.declared.verdict.Target.{Target}
 use Rattle.ug_types.specs.declared.verdict.Target.TheVariants as target
-use Rattle.ug_descr.specs.declared.descriptors.Descr.{Descr}
-use Rattle.ug_descr.specs.Reading.{PlacedFault, decoded}
+use Rattle.ug_record.specs.declared.descriptors.Descr.{Descr}
+use Rattle.ug_record.specs.Reading.{PlacedFault, decoded}
 use Rattle.ug_record.specs.Records.{judged_by, judged_of, parent_hash_of, record_with}
 use Rattle.ug_kernel.specs.Kernel.{Kernel}
-use Rattle.ug_node.specs.Bound.{attrs_of}
+use Rattle.ug_kernel.specs.Bound.{attrs_of}
 use Rattle.ug_table.specs.Allowed.{allowed_of}
 use Rattle.ug_table.specs.Laws.{Stand}
 use Rattle.ug_table.specs.declared.standing.Standing.{Standing}

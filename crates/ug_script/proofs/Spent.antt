@@ -11,8 +11,8 @@ use Rattle.ug_types.proofs.Sorting.{length-sweep_order}
 use Rattle.ug_kernel.specs.Calls.{Call, Names, Open, Read, Ask_alive, Put, Close, Answer}
 use Rattle.ug_kernel.specs.Along.{Made, count_calls}
 use Rattle.ug_kernel.proofs.Ways.{Ways, ways_more}
-use Rattle.ug_node.specs.declared.identity.Bound.{Bound}
-use Rattle.ug_node.proofs.BindShapes.{count_more}
+use Rattle.ug_kernel.specs.declared.identity.Bound.{Bound}
+use Rattle.ug_kernel.proofs.BindShapes.{count_more}
 use Rattle.ug_audit.specs.declared.entry.Entry.{Entry}
 use Rattle.ug_table.specs.Allowed.{allowed_records}
 use Rattle.ug_table.specs.Parent.{judged_bound}

@@ -6,7 +6,7 @@ use Rattle.ug_kernel.specs.Calls.{Call, Names, Open, Read, Ask_alive, Put, Close
 use Rattle.ug_kernel.specs.Kernel.{Kernel}
 use Rattle.ug_kernel.specs.Tree.{Prog, Return, Ask, Room}
 use Rattle.ug_sysfs.specs.World.{World, answer_from, scripted_answer, event_begun, effect, entered, fate, halting, refusing_memory}
-use Rattle.ug_simulation.specs.Play.{play}
+use Rattle.ug_script.specs.Play.{play}
 use Rattle.ug_types.specs.declared.saved.Saved.{Saved}
 use Rattle.ug_types.specs.declared.saved.Saved.TheVariants as saved
 use Rattle.ug_ruleset.specs.RuleFile.{permanent_text}

@@ -8,7 +8,7 @@ use Rattle.ug_kernel.specs.declared.device.Device.{Device}
 use Rattle.ug_kernel.specs.Kernel.{Kernel, Live}
 use Rattle.ug_sysfs.specs.World.{IsUnfailing, World}
 use Rattle.ug_audit.specs.declared.entry.Entry.{Entry}
-use Rattle.ug_simulation.specs.Play.{NameNobody}
+use Rattle.ug_script.specs.Play.{NameNobody}
 use Rattle.ug_conf.specs.Texts.{conf_read}
 use Rattle.ug_core.specs.Chain.{Happened, Chain, journal, IsRun, IsJudgedOnce, unsure_of}
 use Rattle.ug_core.specs.Event.{DaemonState, has_numbers}

@@ -10,7 +10,7 @@ use Rattle.ug_sysfs.specs.Serving.{bus_in}
 use Rattle.ug_sysfs.specs.World.{World, Gives, scripted_answer, event_begun, over}
 use Rattle.ug_table.specs.Laws.{Stand}
 use Rattle.ug_table.specs.Parts.{unsettled_names}
-use Rattle.ug_simulation.specs.Play.{play, tells_memory}
+use Rattle.ug_script.specs.Play.{play, tells_memory}
 use Rattle.ug_core.specs.Answering.{acting, asking, deed_after}
 use Rattle.ug_core.specs.Event.{DaemonState, handling, has_numbers, ready}
 use Rattle.ug_core.specs.Laws.{AnswersEvent, Handled, TellsEvent}

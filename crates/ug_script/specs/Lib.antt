@@ -19,3 +19,4 @@ pub mod Against
 pub mod Roomless
 pub mod PassLines
 pub mod Passes
+pub mod Play

@@ -12,7 +12,7 @@ use Rattle.ug_audit.specs.Lines.{entry_line}
 use Rattle.ug_lines.specs.Lines.{lines_of}
 use Rattle.ug_proto.specs.declared.reply.Reply.{Reply}
 use Rattle.ug_proto.specs.Replies.{reply_text}
-use Rattle.ug_simulation.specs.Play.{play, tells_memory}
+use Rattle.ug_script.specs.Play.{play, tells_memory}
 use Rattle.ug_store.specs.PlayDisk.{play_disk}
 use Rattle.ug_store.specs.Scripted.{DiskWorld, begun_on, coming_up, forgetting, plan_at, stops_by}
 use Rattle.ug_store.specs.declared.mishap.Planned.{Planned}

@@ -3,7 +3,7 @@ ghost use Rattle.std.specs.Prelude.{◌≡◌, ◌++◌, ◌∷◌, [], true, fa
 ghost use Rattle.ug_core.specs.Event.{daemon_of, has_numbers};
 ghost use Rattle.ug_types.specs.Events.{FitsEvent};
 ghost use Rattle.ug_core.specs.Stops.{IsReadable};
-ghost use Rattle.ug_simulation.specs.Play.{tells_memory};
+ghost use Rattle.ug_script.specs.Play.{tells_memory};
 ghost use Rattle.ug_iface.specs.declared.rules.IfaceRule.{IfaceRule};
 ghost use Rattle.ug_script.specs.Journal.{happened_from};
 ghost use Rattle.ug_script.specs.Passes.{pass_behind};

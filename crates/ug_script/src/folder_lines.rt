@@ -81,6 +81,15 @@ fn put_line(alloc: Global, files: &mut Vec<FileText>, line: &FolderLine) -> Resu
     }
 }
 
+// A file with that name and text.
+fn copy_file(alloc: Global, file: &FileText) -> Result<FolderFile, NoMemory>
+    ensures { IfOk result (λ copy. copy ≡ file_of file.now) }
+{
+    let name = Text::of(alloc, file.name.bytes())?;
+    let text = Text::of(alloc, file.text.as_slice())?;
+    Ok(FolderFile { name, text })
+}
+
 impl FolderLines {
     /// No lines. It takes no memory.
     pub fn new(alloc: Global) -> FolderLines
@@ -121,10 +130,7 @@ impl FolderLines {
     {
         let mut files = List::new(alloc);
         for file in &self.files {
-            files.push(FolderFile {
-                name: Text::of(alloc, file.name.bytes())?,
-                text: Text::of(alloc, file.text.as_slice())?,
-            })?;
+            files.push(copy_file(alloc, file)?)?;
         }
         Ok(files)
     }

@@ -1,5 +1,5 @@
 // What a script's words come to.
-ghost use Rattle.std.specs.Prelude.{◌≡◌, ℕ, false, List, [], ◌∷◌, codes};
+ghost use Rattle.std.specs.Prelude.{◌≡◌, ℕ, false, List, [], ◌∷◌, codes, true, ◌⊎◌, ◌++◌};
 ghost use Rattle.ug_types.specs.declared.verdict.Target.TheVariants as target;
 ghost use Rattle.ug_types.specs.declared.verdict.Cause.TheVariants as cause;
 ghost use Rattle.ug_kernel.specs.declared.control.Write.TheVariants as write;
@@ -7,10 +7,10 @@ ghost use Rattle.ug_kernel.specs.declared.calls.Wrote.TheVariants as wrote;
 ghost use Rattle.ug_kernel.specs.Along.{Along, Made};
 ghost use Rattle.ug_kernel.specs.Defaults.{HasOnEntries};
 ghost use Rattle.ug_kernel.specs.Kernel.{IsKernel, IsSound, Kernel, Moves};
-ghost use Rattle.ug_kernel.specs.Tree.{calls};
+ghost use Rattle.ug_kernel.specs.Tree.{calls, Prog, Runs};
 ghost use Rattle.ug_iface.specs.Bus.{IsSoundBus};
 ghost use Rattle.ug_sysfs.specs.Serving.{bus_in};
-ghost use Rattle.ug_sysfs.specs.World.{World, carried};
+ghost use Rattle.ug_sysfs.specs.World.{World, carried, Gives, IsUnfailing};
 ghost use Rattle.ug_audit.specs.declared.entry.Entry.TheVariants as entry;
 ghost use Rattle.ug_audit.specs.declared.entry.Fault.TheVariants as fault;
 ghost use Rattle.ug_script.specs.Against.{AreRefused};
@@ -25,6 +25,12 @@ ghost use Rattle.ug_script.specs.Journal.{StaysRecorded};
 ghost use Rattle.ug_script.specs.Laws.{StaysLawful};
 ghost use Rattle.ug_script.specs.Schedules.{DoesAtOnce, DoesIfaces, StaysScheduled};
 ghost use Rattle.ug_script.specs.Script.{Script};
+ghost use Rattle.ug_audit.specs.declared.entry.Entry.{Entry};
+ghost use Rattle.ug_table.specs.State.{State};
+ghost use Rattle.ug_table.specs.Sweep.{sweeping};
+ghost use Rattle.ug_script.specs.Play.{play, tells_memory, NameNobody};
+
+use ug_table::Judge;
 
 /// A line of a move does it at once.
 pub fn moves_law()
@@ -138,4 +144,37 @@ pub fn default_law()
         ∷ entry.Intent 2 (codes "1-1") write.Off
         ∷ entry.Wrote 2 (codes "1-1") write.Off wrote.Done
         ∷ entry.End 2 ∷ [] }
+{}
+
+/// What a script fixes is one of the program's runs over its kernel, and a kernel that has not run out is told at its
+/// end too.
+#[tactic(auto, using(crate::proofs::Plays::play_runs, crate::proofs::Plays::play_told))]
+pub fn play_law<R>()
+    ensures runs { (p : Prog R) (s : World) → Runs Gives s p (play p s).0 (play p s).1 }
+    ensures told { (p : Prog R) (s : World) → s.ran_out ≡ false → (play p s).1.ran_out ≡ false }
+{}
+
+/// A sweep ends as the script fixes it, or one of its entries tells want of memory, or the kernel has run out.
+#[tactic(auto, using(crate::proofs::Sweeps::sweeping_played))]
+pub fn sweep_law<A: Judge>()
+    ensures { (w : State A.Meaning) (s : World) (v : State A.Meaning) (t : World)
+        → Runs Gives s (sweeping A.answer A.later w) v t
+        → ((v ≡ (play (sweeping A.answer A.later w) s).0)
+        × (t ≡ (play (sweeping A.answer A.later w) s).1))
+        ⊎ (((rest : List Entry) × (v.entries ≡ w.entries ++ rest) × (tells_memory rest ≡ true))
+        ⊎ (t.ran_out ≡ true)) }
+{}
+
+/// A sweep that a script fixes tells no want of memory, whatever moves and whichever calls fail.
+#[tactic(auto, using(crate::proofs::Sweeps::sure_sweep))]
+pub fn room_law<A: Judge>()
+    ensures { (w : State A.Meaning) (s : World) → tells_memory w.entries ≡ false
+        → tells_memory (play (sweeping A.answer A.later w) s).0.entries ≡ false }
+{}
+
+/// Where no call is to fail, a sweep that the script fixes names nobody as unsettled.
+#[tactic(auto, using(crate::proofs::Sweeps::quiet_sweep))]
+pub fn quiet_law<A: Judge>()
+    ensures { (w : State A.Meaning) (s : World) → s.ran_out ≡ false → IsUnfailing s
+        → NameNobody w.entries → NameNobody (play (sweeping A.answer A.later w) s).0.entries }
 {}

@@ -31,7 +31,7 @@ fn ends_by_memory(end: Passed) -> bool
 fn any_tells_memory(entries: &[IfaceEntry]) -> bool
     ensures { result ≡ list_any passes.iface_tells_memory entries.now }
 {
-    entries.iter().any(|entry| iface_tells_memory(entry))
+    entries.iter().any(iface_tells_memory)
 }
 
 fn tells_memory(end: Passed, entries: &[IfaceEntry]) -> bool

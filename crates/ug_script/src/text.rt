@@ -2,7 +2,7 @@
 ghost use Rattle.std.specs.Prelude.{◌≡◌, ◌≤◌, ◌++◌, Some, IfOk, OnOk};
 ghost use Rattle.ug_types.specs.Ends.{Rose};
 ghost use Rattle.ug_command_io.specs.Runs.{Closes};
-ghost use Rattle.ug_simulation.specs.Play as play;
+ghost use Rattle.ug_script.specs.Play as play;
 ghost use Rattle.ug_script.specs.Replay as replay;
 ghost use Rattle.ug_script.specs.Replay.{terminated, lines_text};
 
@@ -11,8 +11,7 @@ use std::alloc::Global;
 use ug_audit::line_of;
 use ug_command_io::Ran;
 use ug_core::{Entry, Fault, Report};
-use ug_refusal::Refusal;
-use ug_types::{Line, NoMemory, Put, Saved, Sink};
+use ug_types::{Line, NoMemory, Put, Refusal, Saved, Sink};
 
 fn push_line(text: &mut Vec<u8>, entry: &Entry) -> Result<(), NoMemory>
     ensures { OnOk result (text.new.items ≡ text.old.items ++ terminated entry.now) }
@@ -100,7 +99,7 @@ fn entry_tells_memory(entry: &Entry) -> bool
 pub fn tells_memory(entries: &[Entry]) -> bool
     ensures { result ≡ play.tells_memory entries.now }
 {
-    entries.iter().any(|entry| entry_tells_memory(entry))
+    entries.iter().any(entry_tells_memory)
 }
 
 /// Writes a text.

@@ -1,7 +1,7 @@
 -- Who may do what stays over an event.
 use Rattle.std.proofs.Common.{◌≡◌, ℕ, List, Option, Some, None, inl, inr, ◌∙◌, ap}
 use Rattle.ug_types.specs.Principals.{Named}
-use Rattle.ug_refusal.specs.declared.refusal.Refusal.{Refusal}
+use Rattle.ug_types.specs.declared.refusal.Refusal.{Refusal}
 use Rattle.ug_kernel.specs.Calls.{Call, Answer}
 use Rattle.ug_kernel.specs.Tree.{Prog, Return, Ask, Room, Runs, then}
 use Rattle.ug_kernel.specs.declared.sysfs.Sysfs

@@ -2,7 +2,7 @@
 use std::io;
 
 /// What became of the connection that was dialled last.
-#[derive(Clone, Copy, PartialEq, Eq)]
+#[derive(Clone, Copy)]
 pub enum Reached {
     /// None was dialled.
     Nowhere,

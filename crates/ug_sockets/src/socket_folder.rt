@@ -1,15 +1,16 @@
 // The daemon's sockets in a folder of this machine.
-ghost use Rattle.std.specs.Prelude.{◌≡◌, ◌<◌, ◌≤◌, ◌+◌, ◌-◌, ◌^◌, ◌++◌, ◌∷◌, [], length, map, position, true, None, IfOk, IfSome};
+ghost use Rattle.std.specs.Prelude.{◌≡◌, ◌<◌, ◌≤◌, ◌+◌, ◌-◌, ◌^◌, ◌++◌, ◌∷◌, [], length, map, position, true, None, IfOk, IfSome, vec_capacity};
 ghost use Rattle.ug_types.specs.Ends.{IsCounted, Rose};
 ghost use Rattle.ug_links.specs.Steps.{FitsRead, FitsWrite};
 ghost use Rattle.ug_sockets.specs.Sockets.{is_session_open};
 ghost use Rattle.ug_files.specs.Untold.{untold};
 
-use crate::listener::{Listener, find_listener, listen_told, path_of, watch_full};
+use crate::listener::{Arrival, Listener, find_listener, listen_told, path_of, watch_full};
 use crate::peer::Peer;
 use crate::socket_waiter::SocketWaiter;
 use crate::tokens::FIRST_SESSION;
 use mio::Registry;
+use mio::net::UnixListener;
 use std::alloc::Global;
 use std::io;
 use std::net::Net;
@@ -88,7 +89,26 @@ impl<R: Files + Net> SocketFolder<R> {
         }
     }
 
+    // Begins a listener at a socket, and keeps it where there is room.
     #[tactic(auto, using(crate::proofs::Looked::one_more_principal))]
+    fn begin_listener(
+        &mut self,
+        number: u32,
+        principal: &Principal,
+        socket: UnixListener,
+    ) -> Result<u32, FileFault>
+        requires { length self.old.listeners.items < vec_capacity self.old.listeners }
+        ensures number { IfOk result (λ n. n ≡ number) }
+        ensures listener { IfOk result (λ n.
+            map (λ l. l.principal) self.new.listeners.items
+            ≡ map (λ l. l.principal) self.old.listeners.items ++ principal.now ∷ []) }
+        ensures faults { self.new.faults ≡ self.old.faults }
+    {
+        let listener = Listener::begin(number, principal, socket, &self.registry)?;
+        self.listeners.push_reserved(listener);
+        Ok(number)
+    }
+
     fn listen_for(&mut self, alloc: Global, principal: &Principal) -> Result<u32, FileFault>
         ensures number { IfOk result (λ number. number ≡ length self.old.listeners.items) }
         ensures listener { IfOk result (λ number.
@@ -103,9 +123,7 @@ impl<R: Files + Net> SocketFolder<R> {
         let path = path_of(alloc, folder, principal)?;
         self.listeners.reserve(1)?;
         let socket = listen_told(&self.rt, alloc, folder, path, &mut self.last)?;
-        let listener = Listener::begin(number, principal, socket, &self.registry)?;
-        self.listeners.push_reserved(listener);
-        Ok(number)
+        self.begin_listener(number, principal, socket)
     }
 
     // Has the next wait tell whether another session has come.
@@ -121,14 +139,24 @@ impl<R: Files + Net> SocketFolder<R> {
 
     // How many sessions a listener has.
     fn count_of(&self, listener: u32) -> usize {
-        let peers = self.peers.iter();
-        peers.filter(|peer| peer.listener == listener).count()
+        let mut count = 0usize;
+        for peer in self.peers.as_slice() {
+            if peer.listener == listener {
+                count = count.saturating_add(1);
+            }
+        }
+        count
     }
 
     // How many sessions all listeners but root's have.
     fn count_of_others(&self) -> usize {
-        let peers = self.peers.iter();
-        peers.filter(|peer| !self.is_roots(peer.listener)).count()
+        let mut count = 0usize;
+        for peer in self.peers.as_slice() {
+            if !self.is_roots(peer.listener) {
+                count = count.saturating_add(1);
+            }
+        }
+        count
     }
 
     fn is_roots(&self, listener: u32) -> bool {
@@ -175,25 +203,19 @@ impl<R: Files + Net> SocketFolder<R> {
         }
     }
 
-    fn accept_at(&mut self, listener: u32) -> Result<Option<LinkId>, FileFault>
-        ensures above { IfOk result (λ found. IfSome found (λ id. id.0 ≡ self.old.next)) }
-        ensures next { IfOk result (λ found. IfSome found (λ id. self.new.next ≡ id.0 + 1)) }
-        ensures grows { self.old.next ≤ self.new.next }
+    // Keeps the session of a client that came to the listener, as there is room for it.
+    fn begin_session(
+        &mut self,
+        listener: u32,
+        arrival: Arrival,
+        next: u64,
+    ) -> Result<Option<LinkId>, FileFault>
+        requires { length self.old.peers.items < vec_capacity self.old.peers }
+        ensures id { IfOk result (λ found. IfSome found (λ id. id.0 ≡ self.old.next)) }
+        ensures next { self.new.next ≡ next }
         ensures faults { self.new.faults ≡ self.old.faults }
     {
-        if !self.finds_place(listener) {
-            self.note_full(listener);
-            return Ok(None);
-        }
-        let Some(at) = find_listener(self.listeners.as_slice(), listener) else {
-            return Err(FileFault::Failed);
-        };
-        self.peers.reserve(1)?;
         let id = LinkId(self.next);
-        let next = self.next.checked_add(1).ok_or(FileFault::Failed)?;
-        let Some(arrival) = at.accept()? else {
-            return Ok(None);
-        };
         self.next = next;
         let mut peer = Peer::new(id, arrival);
         let begun = peer.begin(&self.registry);
@@ -201,6 +223,40 @@ impl<R: Files + Net> SocketFolder<R> {
         begun?;
         self.watch_again(listener);
         Ok(Some(id))
+    }
+
+    // Accepts the next client that waits at the listener.
+    fn accept_next(&mut self, listener: u32) -> Result<Option<LinkId>, FileFault>
+        ensures above { IfOk result (λ found. IfSome found (λ id. id.0 ≡ self.old.next)) }
+        ensures next { IfOk result (λ found. IfSome found (λ id. self.new.next ≡ id.0 + 1)) }
+        ensures grows { self.old.next ≤ self.new.next }
+        ensures faults { self.new.faults ≡ self.old.faults }
+    {
+        let Some(at) = find_listener(self.listeners.as_slice(), listener) else {
+            return Err(FileFault::Failed);
+        };
+        self.peers.reserve(1)?;
+        let Some(next) = self.next.checked_add(1) else {
+            return Err(FileFault::Failed);
+        };
+        match at.accept() {
+            Ok(Some(arrival)) => self.begin_session(listener, arrival, next),
+            Ok(None) => Ok(None),
+            Err(fault) => Err(fault),
+        }
+    }
+
+    fn accept_at(&mut self, listener: u32) -> Result<Option<LinkId>, FileFault>
+        ensures above { IfOk result (λ found. IfSome found (λ id. id.0 ≡ self.old.next)) }
+        ensures next { IfOk result (λ found. IfSome found (λ id. self.new.next ≡ id.0 + 1)) }
+        ensures grows { self.old.next ≤ self.new.next }
+        ensures faults { self.new.faults ≡ self.old.faults }
+    {
+        if self.finds_place(listener) {
+            return self.accept_next(listener);
+        }
+        self.note_full(listener);
+        Ok(None)
     }
 }
 
@@ -237,7 +293,7 @@ impl<R: Files + Net> Links for SocketFolder<R> {
             Err(FileFault::Memory) => Listening::Memory,
             Err(_) => Listening::Failed,
         };
-        self.count(answer == Listening::Failed);
+        self.count(matches!(answer, Listening::Failed));
         answer
     }
 
@@ -251,7 +307,7 @@ impl<R: Files + Net> Links for SocketFolder<R> {
         if matches!(answer, Accepted::Memory | Accepted::Failed) {
             self.note_full(listener);
         }
-        self.count(answer == Accepted::Failed);
+        self.count(matches!(answer, Accepted::Failed));
         answer
     }
 
@@ -260,7 +316,7 @@ impl<R: Files + Net> Links for SocketFolder<R> {
             Some(peer) => peer.read(&self.rt, self.alloc, &self.registry, into),
             None => LinkRead::Failed,
         };
-        self.count(answer == LinkRead::Failed);
+        self.count(matches!(answer, LinkRead::Failed));
         answer
     }
 
@@ -269,7 +325,7 @@ impl<R: Files + Net> Links for SocketFolder<R> {
             Some(peer) => peer.write(&self.registry, bytes),
             None => LinkWrote::Failed,
         };
-        self.count(answer == LinkWrote::Failed);
+        self.count(matches!(answer, LinkWrote::Failed));
         answer
     }
 

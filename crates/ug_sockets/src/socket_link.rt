@@ -133,8 +133,8 @@ impl<R: Net> Link for SocketLink<R> {
             Some(stream) => receive_from(stream, into),
             None => Taken::Failed,
         };
-        self.note_break(taken == Taken::Failed);
-        self.count(taken == Taken::Failed);
+        self.note_break(matches!(taken, Taken::Failed));
+        self.count(matches!(taken, Taken::Failed));
         taken
     }
 

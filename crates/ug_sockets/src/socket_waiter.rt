@@ -138,7 +138,7 @@ impl<R: Files> Waiter for SocketWaiter<R> {
         } else {
             self.wait_first(into)
         };
-        if woken == Woken::Failed {
+        if matches!(woken, Woken::Failed) {
             self.faults = self.faults.saturating_add(1);
         }
         woken

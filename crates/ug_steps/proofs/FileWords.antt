@@ -6,12 +6,12 @@ use Rattle.std.proofs.lemmas.List.{drop_at, take-append-drop, take_all}
 use Rattle.std.proofs.lemmas.Option.{none-some, same_Some}
 use Rattle.std.proofs.Math.Seq.{drop-cons, drop-drop, get_or-append_seam, take-append_seam}
 use Rattle.ug_types.specs.Elements.{Has}
-use Rattle.ug_lex.specs.declared.token.Token.{Token}
-use Rattle.ug_lex.specs.declared.token.TokenKind.{TokenKind}
-use Rattle.ug_lex.specs.declared.token.TokenKind.TheVariants as kind
-use Rattle.ug_lex.specs.Grammar.{AllStand, Blank, Good, InOrder, Mark, LinePart, Spells, StandsInLine, String, Word, goes_on, parts_text, tokens_placed, token_at}
-use Rattle.ug_lex.specs.Lexing.{Lexed, mark_token, tokens_of}
-use Rattle.ug_lex.proofs.Meaning.{good_read, in_order, read_good}
+use Rattle.ug_words.specs.declared.token.Token.{Token}
+use Rattle.ug_words.specs.declared.token.TokenKind.{TokenKind}
+use Rattle.ug_words.specs.declared.token.TokenKind.TheVariants as kind
+use Rattle.ug_words.specs.Grammar.{AllStand, Blank, Good, InOrder, Mark, LinePart, Spells, StandsInLine, String, Word, goes_on, parts_text, tokens_placed, token_at}
+use Rattle.ug_words.specs.Lexing.{Lexed, mark_token, tokens_of}
+use Rattle.ug_words.proofs.Meaning.{good_read, in_order, read_good}
 use Rattle.ug_steps.specs.declared.plugs.Files.{Files}
 use Rattle.ug_steps.specs.LineGrammar.{AreFileWords, IsFileWord}
 use Rattle.ug_steps.specs.Plugs.{file_by, plugged_file, files_by, files_in, plugged_files, fill, no_file, one_space, with_connect, with_product, with_serial}

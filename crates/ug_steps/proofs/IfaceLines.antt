@@ -9,8 +9,8 @@ use Rattle.ug_types.specs.Elements.{Has}
 use Rattle.ug_types.specs.declared.record.Triple.{Triple}
 use Rattle.ug_types.specs.declared.rule.Iface.{Iface}
 use Rattle.ug_types.proofs.NameWords.{node_graphic}
-use Rattle.ug_numerals.specs.Numbers.{number_in}
-use Rattle.ug_numerals.proofs.Numerals.{is_number, number_found}
+use Rattle.ug_lines.specs.Numbers.{number_in}
+use Rattle.ug_lines.proofs.Numerals.{is_number, number_found}
 use Rattle.ug_words.specs.WordGrammar.{IsInterface, IsTwo, OfClass, OfSubclass, OfProtocol}
 use Rattle.ug_words.specs.Words.{interface_of}
 use Rattle.ug_words.proofs.WordCuts.{interface_cut, interface_reads}

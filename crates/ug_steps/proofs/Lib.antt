@@ -1,4 +1,5 @@
 pub mod AccessLines
+pub mod SpaceCuts
 pub mod FileWords
 pub mod FolderReads
 pub mod HexWords

@@ -3,8 +3,8 @@ use Rattle.std.proofs.Common.{◌≡◌, ℕ, ◌^◌, ◌<◌, ◌≤◌, Bool,
 use Rattle.std.specs.Fmt.{decimal}
 use Rattle.std.proofs.lemmas.Bool.{leb-true, le-leb}
 use Rattle.std.proofs.lemmas.Option.{same_Some, none-some}
-use Rattle.ug_numerals.proofs.Numerals.{is_number, number_found}
-use Rattle.ug_numerals.specs.Numbers.{number_in}
+use Rattle.ug_lines.proofs.Numerals.{is_number, number_found}
+use Rattle.ug_lines.specs.Numbers.{number_in}
 use Rattle.ug_steps.specs.Words.{moment_in, moment_word}
 
 fits : (m n : ℕ) → moment_in (Some m) ≡ Some n → (m ≡ n) × (n ≤ 250000000000)

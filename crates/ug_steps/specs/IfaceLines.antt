@@ -2,7 +2,7 @@
 use Rattle.std.specs.Prelude.{ℕ, Bool, nat_le, if◌then◌else◌, List, Option, Some, None, option_and_then, option_map}
 use Rattle.ug_types.specs.declared.record.Triple.{Triple}
 use Rattle.ug_types.specs.declared.rule.Iface.{Iface}
-use Rattle.ug_numerals.specs.Numbers.{number_in}
+use Rattle.ug_lines.specs.Numbers.{number_in}
 use Rattle.ug_words.specs.Words.{interface_of}
 use Rattle.ug_iface.specs.declared.name.IfaceName.{IfaceName}
 use Rattle.ug_sysfs.specs.declared.script.NewIface.{NewIface}

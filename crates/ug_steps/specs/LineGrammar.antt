@@ -7,7 +7,7 @@ use Rattle.ug_types.specs.declared.rule.Rule as types
 use Rattle.ug_types.specs.declared.verdict.Moment.{Moment}
 use Rattle.ug_types.specs.declared.record.Triple.{Triple}
 use Rattle.ug_types.specs.declared.rule.Iface.{Iface}
-use Rattle.ug_lex.specs.Grammar.{Spells}
+use Rattle.ug_words.specs.Grammar.{Spells}
 use Rattle.ug_words.specs.WordGrammar.{IsInterface}
 use Rattle.ug_iface.specs.declared.name.IfaceName.{IfaceName}
 use Rattle.ug_iface.specs.declared.rules.IfaceRule.{IfaceRule}

@@ -1,10 +1,10 @@
 -- The device that a `plug` line plugs in.
 use Rattle.std.specs.Prelude.{ℕ, ◌-◌, Bool, true, false, ◌&&◌, nat_eq, if◌then◌else◌, List, [], ◌∷◌, ◌++◌, length, get_or, Option, Some, None, option_and_then, option_map, Ok, Err, codes}
 use Rattle.std.specs.Cmp.Lexicographic.{pointwise}
-use Rattle.ug_lex.specs.declared.token.Token.{Token}
-use Rattle.ug_lex.specs.declared.token.TokenKind.{TokenKind}
-use Rattle.ug_lex.specs.declared.token.TokenKind.TheVariants.{Word, Str, Open, Close, ParenOpen, ParenClose, Bang}
-use Rattle.ug_lex.specs.Lexing.{Lexed, tokens_of}
+use Rattle.ug_words.specs.declared.token.Token.{Token}
+use Rattle.ug_words.specs.declared.token.TokenKind.{TokenKind}
+use Rattle.ug_words.specs.declared.token.TokenKind.TheVariants.{Word, Str, Open, Close, ParenOpen, ParenClose, Bang}
+use Rattle.ug_words.specs.Lexing.{Lexed, tokens_of}
 use Rattle.ug_sysfs.specs.declared.script.NewDevice.{NewDevice}
 use Rattle.ug_steps.specs.declared.plugs.Files.{Files}
 use Rattle.ug_steps.specs.Words.{bytes_of, cut_by_space, name_of}

@@ -3,7 +3,7 @@ use Rattle.std.specs.Prelude.{◌≡◌, ℕ, ◌+◌, ◌-◌, ◌*◌, ℤ, po
 use Rattle.std.specs.List.{fold, list_any, position}
 use Rattle.hex.specs.Hex.{decode_of, decode_sized}
 use Rattle.hex.specs.declared.error.FromHexError.{FromHexError}
-use Rattle.ug_numerals.specs.Numbers.{number_in}
+use Rattle.ug_lines.specs.Numbers.{number_in}
 use Rattle.ug_types.specs.Reading.{after, ends_name}
 use Rattle.ug_types.specs.declared.reading.Reading.{Reading}
 use Rattle.ug_types.specs.declared.reading.Reading.TheVariants.{Start}

@@ -6,7 +6,7 @@ ghost use Rattle.ug_steps.specs.IfaceLines.{byte_word, iface_name_of, new_iface_
 use crate::plugs::start;
 use crate::words::{dot, name, space};
 use ug_iface::IfaceName;
-use ug_numerals::parse_decimal;
+use ug_lines::parse_decimal;
 use ug_sysfs::NewIface;
 use ug_types::{Iface, NodeName, Triple};
 use ug_words::interface;

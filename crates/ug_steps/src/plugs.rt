@@ -7,9 +7,9 @@ ghost use Rattle.ug_steps.specs.Words.{Parses};
 use crate::step::StepFault;
 use crate::words::{bytes, name, space};
 use std::alloc::Global;
-use ug_lex::{LexFault, Token, TokenKind, tokens};
 use ug_sysfs::NewDevice;
 use ug_types::{NoMemory, NodeName, Text, is_word};
+use ug_words::{LexFault, Token, TokenKind, tokens};
 
 /// The texts of a device's files, each with its newline, where it has them.
 #[derive(Drop)]

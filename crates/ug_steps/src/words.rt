@@ -6,7 +6,7 @@ ghost use Rattle.ug_steps.specs.Words.{name_of, moment_word, bytes_of, Parses};
 
 use crate::step::StepFault;
 use std::alloc::Global;
-use ug_numerals::parse_decimal;
+use ug_lines::parse_decimal;
 use ug_types::{NodeName, Text};
 
 /// A node name of at most 31 bytes.
@@ -36,25 +36,42 @@ pub fn moment(text: &[u8]) -> Option<u64>
     }
 }
 
+// Where the byte first is.
+fn place_of(text: &[u8], byte: u8) -> Option<usize>
+    ensures { result ≡ position (nat_eq byte) text.now }
+{
+    for place in 0..text.len() {
+        if byte == text[place] {
+            return Some(place);
+        }
+    }
+    None
+}
+
 /// Where the first space is.
 pub fn space(text: &[u8]) -> Option<usize>
     ensures { result ≡ position (nat_eq 32) text.now }
 {
-    text.iter().position(|b| b' ' == *b)
+    place_of(text, b' ')
 }
 
 /// Where the first dot is.
 pub fn dot(text: &[u8]) -> Option<usize>
     ensures { result ≡ position (nat_eq 46) text.now }
 {
-    text.iter().position(|b| b'.' == *b)
+    place_of(text, b'.')
 }
 
 /// The first byte that is neither a space nor a tab.
 fn first_byte(text: &[u8]) -> Option<u8>
     ensures { result ≡ find (λ b. not (nat_eq b 32 || nat_eq b 9)) text.now }
 {
-    text.iter().copied().find(|b| *b != b' ' && *b != b'\t')
+    for byte in text {
+        if *byte != b' ' && *byte != b'\t' {
+            return Some(*byte);
+        }
+    }
+    None
 }
 
 /// Whether a line of settings or of access is neither blank nor a comment.
@@ -70,7 +87,12 @@ pub fn is_entry(text: &[u8]) -> bool
 fn has_newline(text: &[u8]) -> bool
     ensures { result ≡ list_any (λ b. nat_eq b 10) text.now }
 {
-    text.iter().any(|b| *b == b'\n')
+    for byte in text {
+        if *byte == b'\n' {
+            return true;
+        }
+    }
+    false
 }
 
 /// Whether no newline ends it.

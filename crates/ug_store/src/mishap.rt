@@ -1,7 +1,7 @@
 // Which calls of a disk in memory fail.
 
 /// How a call fails.
-#[derive(Clone, Copy, PartialEq, Eq)]
+#[derive(Clone, Copy)]
 pub enum Mishap {
     /// It fails and does nothing.
     NoEffect,

@@ -10,7 +10,7 @@ use std::marker::Model;
 use ug_types::{Saved, Text};
 
 /// Why the rule file wasn't read.
-#[derive(Clone, Copy, PartialEq, Eq)]
+#[derive(Clone, Copy)]
 pub enum RecoverFault {
     /// The call failed; the disk's count of faults after it.
     Failed(u64),

@@ -10,3 +10,5 @@ pub mod Links
 pub mod Lives
 pub mod Lists
 pub mod Gets
+pub mod Giving
+pub mod IfaceGiving

@@ -53,9 +53,13 @@ impl Interfaces {
     pub fn find(&self, device: usize, config: u8, number: u8) -> Option<usize>
         ensures { result ≡ iface_place device config number self.now.interfaces }
     {
-        self.all
-            .iter()
-            .position(|x| is_iface(x, device, config, number))
+        let interfaces = self.all.as_slice();
+        for place in 0..interfaces.len() {
+            if is_iface(&interfaces[place], device, config, number) {
+                return Some(place);
+            }
+        }
+        None
     }
 
     /// The names of the interfaces of a device that aren't gone, where that is its name.

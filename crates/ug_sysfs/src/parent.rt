@@ -1,10 +1,11 @@
 // A device is born below its parent.
-ghost use Rattle.std.specs.Prelude.{◌≡◌, ◌+◌, ◌<◌, ◌≤◌};
+ghost use Rattle.std.specs.Prelude.{◌≡◌, ◌+◌, ◌<◌, ◌≤◌, ℕ, Some, None, MatchOption};
 ghost use Rattle.ug_types.specs.Names.{parent_of};
-ghost use Rattle.ug_kernel.specs.Kernel.{live_count};
+ghost use Rattle.ug_kernel.specs.declared.device.Device.{Device};
+ghost use Rattle.ug_kernel.specs.Kernel.{live_count, Live};
 ghost use Rattle.std.specs.List.{slice_get};
 ghost use Rattle.ug_kernel.specs.Kernel.{is_off};
-ghost use Rattle.ug_sysfs.specs.Devices.{plugged, sought, hub_under, controller_under, controller_default, starts_on};
+ghost use Rattle.ug_sysfs.specs.Devices.{born, find, plugged, sought, hub_under, controller_under, controller_default, starts_on};
 
 use crate::census::Census;
 use crate::script::NewDevice;
@@ -86,26 +87,14 @@ fn is_off(default: Option<bool>) -> bool
     }
 }
 
-/// A device is born, if it can be. There is room for it.
-#[tactic(auto, using(ug_kernel::proofs::Sounds::live_count_push))]
-pub fn plug(census: &mut Census, device: NewDevice)
+/// A device is born below that parent. There is room for it, and its name isn't live.
+fn bear_under(census: &mut Census, device: NewDevice, parent: Option<usize>)
     requires room { 0 < census.old.room }
-    requires few { live_count census.old.devices ≤ 65536 }
-    ensures devices { census.new.devices ≡ plugged device census.old.devices }
-    ensures room { census.old.room ≤ census.new.room + 1 }
-    ensures few { live_count census.new.devices ≤ 65536 }
+    requires fresh { find device.name 0 census.old.devices ≡ None }
+    requires parent { (p : ℕ) → parent ≡ Some p → (e : Device) × Live census.old.devices p e }
+    ensures devices { census.new.devices ≡ born device parent census.old.devices }
+    ensures room { census.new.room + 1 ≡ census.old.room }
 {
-    if census.live_count() >= MAX_DEVICES {
-        return;
-    }
-    if census.find(&device.name).is_some() {
-        return;
-    }
-    let parent = match find_parent(census, &device.name) {
-        Parent::Nobody => None,
-        Parent::Live(i) => Some(i),
-        Parent::Missing => return,
-    };
     let controller = controller_under(census.devices(), parent);
     let default = controller_default(census.devices(), controller);
     census.push(Device {
@@ -121,4 +110,39 @@ pub fn plug(census: &mut Census, device: NewDevice)
         default: None,
         born_off: is_off(default),
     });
+}
+
+/// Whom a device is born under, if it can be born.
+fn place_for(census: &Census, device: &NewDevice) -> Option<Option<usize>>
+    ensures { MatchOption result (plugged device.now census.now.devices ≡ census.now.devices)
+        (λ parent. (plugged device.now census.now.devices
+        ≡ born device.now parent census.now.devices)
+        × (find device.now.name 0 census.now.devices ≡ None)
+        × (live_count census.now.devices < 65536)
+        × ((p : ℕ) → parent ≡ Some p → (e : Device) × Live census.now.devices p e)) }
+{
+    if census.live_count() >= MAX_DEVICES {
+        return None;
+    }
+    if census.find(&device.name).is_some() {
+        return None;
+    }
+    match find_parent(census, &device.name) {
+        Parent::Nobody => Some(None),
+        Parent::Live(i) => Some(Some(i)),
+        Parent::Missing => None,
+    }
+}
+
+/// A device is born, if it can be. There is room for it.
+pub fn plug(census: &mut Census, device: NewDevice)
+    requires room { 0 < census.old.room }
+    requires few { live_count census.old.devices ≤ 65536 }
+    ensures devices { census.new.devices ≡ plugged device census.old.devices }
+    ensures room { census.old.room ≤ census.new.room + 1 }
+    ensures few { live_count census.new.devices ≤ 65536 }
+{
+    if let Some(parent) = place_for(census, &device) {
+        bear_under(census, device, parent);
+    }
 }

@@ -2,13 +2,13 @@
 use Rattle.std.proofs.Common.{◌≡◌, ℕ, List, Option, Some, None, refl, sym, ◌∙◌, ap, subst, slice_get}
 use Rattle.ug_types.specs.declared.record.Attrs.{Attrs}
 use Rattle.ug_kernel.proofs.Ways.{sure_ways, ways_of}
-use Rattle.ug_node.specs.Bind.{binding_under}
-use Rattle.ug_node.specs.Bound.{attrs_of, parent_attrs_of, IsParentRead, IsBoundBy, IsBindingBy}
-use Rattle.ug_node.specs.Removal.{IsAuthorizedFile}
-use Rattle.ug_node.specs.Under.{IsParentKept}
-use Rattle.ug_node.proofs.BindShapes.{sure_binding}
-use Rattle.ug_node.proofs.Laws.{binding_law}
-use Rattle.ug_node.proofs.UnderShapes.{Under_by, under_by, under_law}
+use Rattle.ug_kernel.specs.Bind.{binding_under}
+use Rattle.ug_kernel.specs.Bound.{attrs_of, parent_attrs_of, IsParentRead, IsBoundBy, IsBindingBy}
+use Rattle.ug_kernel.specs.Removal.{IsAuthorizedFile}
+use Rattle.ug_kernel.specs.Under.{IsParentKept}
+use Rattle.ug_kernel.proofs.BindShapes.{sure_binding}
+use Rattle.ug_kernel.proofs.Laws.{binding_law}
+use Rattle.ug_kernel.proofs.UnderShapes.{Under_by, under_by, under_law}
 use Rattle.ug_record.specs.Records.{judged_under}
 use Rattle.ug_record.proofs.Judging.{judged_with_parent}
 use Rattle.ug_table.specs.Parent.{standing_above, judged_beside}

@@ -5,10 +5,10 @@ use Rattle.ug_kernel.specs.declared.calls.ReadOut.{ReadOut}
 use Rattle.ug_kernel.specs.declared.calls.Opened.{Opened}
 use Rattle.ug_kernel.specs.declared.control.Attr.{Attr}
 use Rattle.ug_types.specs.declared.record.Attrs.{Attrs}
-use Rattle.ug_node.specs.declared.files.OwnFiles.{OwnFiles}
-use Rattle.ug_node.proofs.BindShapes.{told, Reads, No_more, Then_read, Holds_by, Held_on, Died, Unasked, ReadsFirst, None_read, One_read, own_first, reads_own, count_more, way_binds, way_holds}
-use Rattle.ug_node.proofs.Laws.{binds_unwritten}
-use Rattle.ug_node.proofs.UnderShapes.{Under_by, Under_cut, Under_alive, Under_other, Probed_by, Found_alive, Found_gone, Found_none, Behind_by, Cut_behind, Read_behind, binds_behind}
+use Rattle.ug_kernel.specs.declared.files.OwnFiles.{OwnFiles}
+use Rattle.ug_kernel.proofs.BindShapes.{told, Reads, No_more, Then_read, Holds_by, Held_on, Died, Unasked, ReadsFirst, None_read, One_read, own_first, reads_own, count_more, way_binds, way_holds}
+use Rattle.ug_kernel.proofs.Laws.{binds_unwritten}
+use Rattle.ug_kernel.proofs.UnderShapes.{Under_by, Under_cut, Under_alive, Under_other, Probed_by, Found_alive, Found_gone, Found_none, Behind_by, Cut_behind, Read_behind, binds_behind}
 use Rattle.ug_table.specs.Parts.{IsDue}
 use Rattle.ug_table.proofs.Above.{OfParent, way_under}
 use Rattle.ug_table.proofs.Common.{WritesNothing, parent_of, Held, Control, Authorized, Open, Read, Ask_alive, Put, Close, Probe, ToldAnswer, Call, Closing, Made, made_with, failures, count_calls, failures_more, Bound, Binding, RemoveHold, Fault, FailedCall, Entry, Write, Known, Standing, Settled, OpenFile, open_file, files_after, AreAbout, EndsAtFailure, Behind, behind_more, AreDue, PutMade, puts_of, binding_by, held_of, Way, Unwritten, reads_last, probes, without_asking, ending_calls, control_of}

@@ -17,10 +17,10 @@ pub use Rattle.ug_kernel.specs.declared.calls.Listing.{Listing}
 pub use Rattle.ug_kernel.specs.declared.calls.Probe.{Probe}
 pub use Rattle.ug_kernel.specs.declared.calls.Wrote.{Wrote}
 pub use Rattle.ug_kernel.specs.declared.device.Device.{Device}
-pub use Rattle.ug_node.specs.Bind.{binding, binding_of}
-pub use Rattle.ug_node.specs.declared.identity.Binding.{Binding}
-pub use Rattle.ug_node.specs.declared.identity.Bound.{Bound}
-pub use Rattle.ug_node.specs.declared.removal.RemoveHold.{RemoveHold}
+pub use Rattle.ug_kernel.specs.Bind.{binding, binding_of}
+pub use Rattle.ug_kernel.specs.declared.identity.Binding.{Binding}
+pub use Rattle.ug_kernel.specs.declared.identity.Bound.{Bound}
+pub use Rattle.ug_kernel.specs.declared.removal.RemoveHold.{RemoveHold}
 pub use Rattle.ug_record.specs.Records.{judged_of}
 pub use Rattle.ug_table.specs.Bring.{CallsFor, NeedsMemory, after_default, by_default, default_due, default_write, defaulted_known, after_hold, after_value, after_write, close_gone, if_to_go, is_reject, is_to_go, to_value, wants, write_of}
 pub use Rattle.ug_table.specs.Done.{IsOnce, control_of, is_done}

@@ -2,7 +2,7 @@
 use Rattle.std.proofs.Common.{◌≡◌, ℕ, Bool, List, Option, Some, None, sym, ◌∙◌, ap, subst, slice_get}
 use Rattle.ug_types.specs.declared.record.Attrs.{Attrs}
 use Rattle.ug_table.proofs.Common.{Judged, Held, Device, Authorized, Kernel, Stays, Grows, IsRecordOf, IsDevice, IsGone, IsProbed, Stand, HasHash, Standing, Has, grows_trans, some_same, judged_of}
-use Rattle.ug_node.specs.Bound.{attrs_of, is_core_long, parent_attrs_of, IsParentRead}
+use Rattle.ug_kernel.specs.Bound.{attrs_of, is_core_long, parent_attrs_of, IsParentRead}
 use Rattle.ug_record.specs.Records.{child_hash_of}
 use Rattle.ug_table.proofs.Standings.{file_same, file_later}
 

@@ -11,7 +11,7 @@ use Rattle.ug_table.proofs.Accounts.{none_of, NoneDone, AreMarked, keeps_itself,
 use Rattle.ug_table.proofs.Steps.{did_same, default_marks, FairFrom, fair_trans, StepFrom, fair_by, fair_end, then_quiet, then_called, then_note, then_same, then_went, one_itself, without_less, tried_after, left_all, in_order, stand_by, stand_of, fair_refl, gone_device}
 use Rattle.ug_table.proofs.Shapes.{OnceMade, Brought, Treated, No_default, And_default, Cut_default, Gone_default, due_is, told_at, Piece, Opening, Fresh, Lost, Unbound_end, Failed_so, Short_so, Flat, Unprobed, Tried, Stopped, Unbound, No_place, Judged_so, IsGiven, next_after, judge_after, opening_none, opening_absent}
 use Rattle.ug_types.specs.declared.record.Attrs.{Attrs}
-use Rattle.ug_node.specs.Bound.{attrs_of, is_core_long, IsBoundBy, SaysBy}
+use Rattle.ug_kernel.specs.Bound.{attrs_of, is_core_long, IsBoundBy, SaysBy}
 use Rattle.ug_record.specs.Records.{child_hash_of}
 use Rattle.ug_table.proofs.Above.{ParentsBy, kept_at, for_law, bound_record}
 use Rattle.ug_table.proofs.Marks.{order_new, keeps_filter, sweep_in_order, AreIn, dropped_in, AreTried, sweep_tried, AreSplit, AreFresh, split_in, parted_split, parted_fresh, part_split, part_fresh, flat_part, order_distinct}

@@ -4,8 +4,8 @@ use Rattle.std.proofs.lemmas.Bool.{and_parts, and_cases, both_ways, not-true, no
 use Rattle.ug_table.proofs.Common.{Has, IsOpenable, AllDistinct, Terms, Target, Control, Authorized, Remove, Write, Wrote, Put, Close, ToldAnswer, Closing, Kernel, Moves, IsWritten, IsGoneAt, says_put, Called, Grows, calls, RemoveHold, Entry, State, Answers, Laters, known_of, Tries, IsDevice, MayHave, MayHaveNot, wrote_entries, HasDone, IsOnce, control_of, is_done, IsFirst, Account, Start, Had, Had_not, numbers_of, Standing, Settled, Made, made_with, Along, failure_of, FailedCall, has_right, distinct_one, write_of, is_reject, CallsFor, is_to_go, Way, way_runs, along_split, some_same, called_grows, quiet_grows}
 use Rattle.ug_kernel.specs.declared.device.HeldFile.{HeldFile}
 use Rattle.ug_kernel.specs.declared.device.Effect.{Effect}
-use Rattle.ug_node.specs.Removal.{holding, HoldSays}
-use Rattle.ug_node.proofs.Laws.{holding_law, gone_later}
+use Rattle.ug_kernel.specs.Removal.{holding, HoldSays}
+use Rattle.ug_kernel.proofs.Laws.{holding_law, gone_later}
 use Rattle.ug_table.proofs.Standings.{IsHeldAs, file_same, file_later}
 use Rattle.ug_table.proofs.OnePart.{value_twice}
 use Rattle.ug_table.proofs.Devices.{device_stays, stand_stays}

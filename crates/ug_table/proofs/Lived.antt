@@ -2,9 +2,9 @@
 use Rattle.std.proofs.Common.{◌≡◌, ℕ, Bool, List, [], ◌∷◌, ◌++◌, Option, Some, refl, sym, ◌∙◌, ap, subst, append_assoc, slice_get, false, ◌⊎◌, inl, inr, true, None, true≢false, cond, is_none, not, ◌&&◌}
 use Rattle.ug_table.proofs.Common.{Terms, did_default, defaulted_known, known_of, default_due, default_write, Default, Has, parent_of, Ask_alive, Put, Close, Closing, ToldAnswer, Names, Authorized, Remove, Kernel, IsKernel, IsOpenable, Quiet, Grows, Made, made_with, Along, Runs, calls, RemoveHold, Bound, Binding, Entry, State, Answers, Laters, standing_of, without, with_standing, place_for, same_name, lists, farewells, Standing, Known, Settled, Held, Target, Wrote, IsOnce, control_of, Device, Control, IsGoneAt, Called, Lived, IsNamed, HasStanding, Stand, IsAsJudged, IsSettled, FailedCall, in_sweep_order, Fault, unlisted_files, Probe, Write, Listing, names_of, sweeping, unsettled_by, tried_standings, has_right, has_left, has_new, cancel, filter_has, has_map, write_of, wants, is_reject, Way, way_runs, along_split, along_sound, along_grows, quiet_grows, called_grows, some_same, grows_refl, grows_trans, parent_standing, binding_for, called_quiet, quiet_refl, quiet_trans}
 use Rattle.ug_table.proofs.Shapes.{Piece, Valued, Same, Set, OnceMade, Not_held, Put_on, Carried, By_value, And_removal, Brought, Left_open, Let_go, Treated, No_default, And_default, Cut_default, Gone_default, due_is, due_open, due_once, treated_done, Opening, Fresh, Lost, Flat, Unprobed, Tried, Stopped, Unbound, No_place, Judged_so, told_at, Written, Done, Went, Broke, Unheld, Gone_by, Failed_by, Short_by, Unbound_end, Failed_so, Short_so, opening_absent, opening_less, flat_rest}
-use Rattle.ug_node.specs.Removal.{holding, HoldSays}
-use Rattle.ug_node.proofs.Laws.{holding_law}
-use Rattle.ug_node.specs.Bound.{SaysBy}
+use Rattle.ug_kernel.specs.Removal.{holding, HoldSays}
+use Rattle.ug_kernel.proofs.Laws.{holding_law}
+use Rattle.ug_kernel.specs.Bound.{SaysBy}
 use Rattle.ug_types.specs.declared.record.Attrs.{Attrs}
 use Rattle.ug_table.proofs.Above.{ParentsBy, kept_at, for_law}
 use Rattle.ug_table.proofs.NamedStandings.{found, same_is, is_same, missing}

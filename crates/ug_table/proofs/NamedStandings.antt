@@ -3,7 +3,7 @@ use Rattle.std.proofs.Common.{◌≡◌, ◌↔◌, ℕ, nat_eq, Option, option_
 use Rattle.std.proofs.lemmas.Bool.{or_right, or_cases, cases_Bool, cond_both, both_ways}
 use Rattle.std.specs.Cmp.Lexicographic.{bytes_decides}
 use Rattle.ug_table.proofs.Common.{Has, AllDistinct, same_name, known_of, standing_of, numbered, without, marked, lists, removed_of, Default, is_done, Standing, Known, Control, Authorized, Remove, ToldAnswer, FailedCall, Entry, farewells, names_of, filter_has, map_has, has_map, distinct_one, is_reject}
-use Rattle.ug_node.proofs.BindShapes.{told}
+use Rattle.ug_kernel.proofs.BindShapes.{told}
 
 -- what a call was answered, with its number and the count of failed calls after it
 abbrev pub told_at : {X : Type 0} → X → FailedCall → ToldAnswer X

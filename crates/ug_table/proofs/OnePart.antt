@@ -1,7 +1,7 @@
 -- One name's part of a sweep, from its shapes: one law on its calls, and one on its entries.
 use Rattle.std.proofs.Common.{◌≡◌, ℕ, ◌≤◌, Bool, true, false, not, ◌||◌, List, [], ◌∷◌, ◌++◌, map, length, Option, Some, None, ◌⊎◌, inl, inr, refl, sym, ◌∙◌, ap, subst, append-nil, arith}
 use Rattle.ug_table.proofs.Common.{Has, Held, Control, Default, Target, Authorized, Remove, IsOnce, has_cases, map_has, did_default, Write, FailedCall, Probe, Wrote, Open, Ask_alive, Put, Close, ToldAnswer, Made, made_with, failures, count_calls, Bound, Binding, RemoveHold, Entry, Fault, known_of, with_standing, standing_of, OpenFile, open_file, Behind, behind_more, IsWriteDue, PutMade, AtMostOneEach, call_told, failures_told, writes_in, TellsWrites, EndsUnsettled, IsBoundAnew, FoundNoRoom, LacksRoom, control_of, known_files, number_of, numbers_given, Part, Standing, Known, Settled, unsettled_by, tried_standings, has_right, wants, write_of, is_to_go, why_in, whys, why_of, AreAbout, EndsAtFailure, parent_standing, held_of, kept_file}
-use Rattle.ug_node.proofs.BindShapes.{Holds_by, way_holds}
+use Rattle.ug_kernel.proofs.BindShapes.{Holds_by, way_holds}
 use Rattle.ug_table.proofs.Above.{is_above}
 use Rattle.ug_table.proofs.Asked.{Passes, passes, treated_none, CallsBy, all_end, by_more, by_as, by_within, ending_is, for_calls, for_few, for_found}
 use Rattle.ug_table.specs.Bring.{NeedsMemory, default_due}

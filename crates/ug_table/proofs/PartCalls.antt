@@ -7,9 +7,9 @@ use Rattle.ug_kernel.specs.declared.control.Attr.{Attr}
 use Rattle.ug_types.specs.declared.record.Attrs.{Attrs}
 use Rattle.ug_kernel.specs.declared.calls.Opened.{Opened}
 use Rattle.ug_kernel.specs.declared.calls.ReadOut.{ReadOut}
-use Rattle.ug_node.specs.declared.files.OwnFiles.{OwnFiles}
-use Rattle.ug_node.specs.declared.files.Stop.{Stop}
-use Rattle.ug_node.proofs.BindShapes.{told, IsReadable, Came, Reads, No_more, Then_read, Stops, No_descriptors, Binds_by, Cut, Probed_gone, Probe_failed, Bound_by, Files, Alone, Below, Holds_by, No_memory, Held_on, Died, Unasked, count_more, first_few}
+use Rattle.ug_kernel.specs.declared.files.OwnFiles.{OwnFiles}
+use Rattle.ug_kernel.specs.declared.files.Stop.{Stop}
+use Rattle.ug_kernel.proofs.BindShapes.{told, IsReadable, Came, Reads, No_more, Then_read, Stops, No_descriptors, Binds_by, Cut, Probed_gone, Probe_failed, Bound_by, Files, Alone, Below, Holds_by, No_memory, Held_on, Died, Unasked, count_more, first_few}
 
 -- answers that are want of memory
 

@@ -5,14 +5,14 @@ use Rattle.ug_kernel.specs.declared.control.Attr.{Attr}
 use Rattle.ug_kernel.specs.Calls.{Closing}
 use Rattle.ug_kernel.specs.declared.calls.Opened.{Opened}
 use Rattle.ug_kernel.specs.declared.calls.ReadOut.{ReadOut}
-use Rattle.ug_node.proofs.BindShapes.{told, Holds_by, Not_there, Not_opened, No_memory, Held_on, Died, Unasked, way_binds, way_holds}
+use Rattle.ug_kernel.proofs.BindShapes.{told, Holds_by, Not_there, Not_opened, No_memory, Held_on, Died, Unasked, way_binds, way_holds}
 use Rattle.ug_table.specs.Done.{control_of}
 use Rattle.ug_types.specs.declared.record.Attrs.{Attrs}
-use Rattle.ug_node.specs.CallOrder.{Act, To_open, To_probe, To_write, To_close, act_of, leads_on, OnlyCloses, GoBy, GoByProbe, bind_acts, own_acts, parent_acts}
-use Rattle.ug_node.specs.declared.files.OwnFiles.{OwnFiles}
-use Rattle.ug_node.specs.declared.files.Stop.{Stop}
-use Rattle.ug_node.proofs.CallOrders.{Behind_bound, binds_order, reads_go, stops_end}
-use Rattle.ug_node.proofs.UnderShapes.{Under_by, Under_cut, Under_alive, Under_other, Probed_by, Found_alive, Found_gone, Found_none, Behind_by, Cut_behind, Read_behind, IsntAlive}
+use Rattle.ug_kernel.specs.CallOrder.{Act, To_open, To_probe, To_write, To_close, act_of, leads_on, OnlyCloses, GoBy, GoByProbe, bind_acts, own_acts, parent_acts}
+use Rattle.ug_kernel.specs.declared.files.OwnFiles.{OwnFiles}
+use Rattle.ug_kernel.specs.declared.files.Stop.{Stop}
+use Rattle.ug_kernel.proofs.CallOrders.{Behind_bound, binds_order, reads_go, stops_end}
+use Rattle.ug_kernel.proofs.UnderShapes.{Under_by, Under_cut, Under_alive, Under_other, Probed_by, Found_alive, Found_gone, Found_none, Behind_by, Cut_behind, Read_behind, IsntAlive}
 use Rattle.ug_table.proofs.Above.{OfParent, is_above, way_under}
 use Rattle.ug_table.specs.PartOrder.{once_acts, default_acts, value_acts, removal_acts, verdict_acts, write_acts, told_known, GoByVerdict, GoBehindParent, GoByParent, GoByFiles, GoAsNew, GoWhereBound, GoInOrder}
 use Rattle.ug_table.proofs.Shapes.{Written, Done, Valued, Same, Set, Unheld, Gone_by, Failed_by, Short_by, OnceMade, Not_held, Put_on, Carried, By_value, And_removal, Brought, Left_open, Let_go, Treated, No_default, And_default, Cut_default, Gone_default, Opening, Fresh, Lost, opening_kept, Unbound_end, Absent_so, Flat, Unprobed, Tried, Stopped, Unbound, No_place, Judged_so, told_at}

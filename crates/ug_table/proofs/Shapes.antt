@@ -2,8 +2,8 @@
 use Rattle.ug_kernel.specs.Tree.{Return}
 use Rattle.std.proofs.Common.{cond, ◌≡◌, ℕ, ◌+◌, Bool, true, false, ◌&&◌, not, is_none, List, [], ◌∷◌, ◌++◌, Option, Some, None, refl, sym, ◌∙◌, ap, subst, append_assoc, append-nil}
 use Rattle.ug_table.proofs.Common.{Control, IsOpenable, parent_of, Judged, Held, Target, Cause, Probe, Write, Wrote, Ask_alive, Put, Close, Closing, ToldAnswer, Made, made_with, failure_of, Bound, Binding, RemoveHold, Entry, State, Kept, with_kept, Answers, Laters, Has, known_of, standing_of, did_default, defaulted_known, default_due, default_write, IsOnce, Default, Terms, treating, after_default, by_default, same_name, without, with_standing, Standing, Known, Settled, FailedCall, Fault, names_of, unsettled_by, kept_standings, to_keep, no_room, standing_for, known_in, judged_entry, if_place, if_record, admitting, after_bind, entering, tried_standings, to_mark, after_known, from_standing, settling, to_keep_mark, after_again, again, resettling, filter_has, wants, write_of, after_write, to_value, valuing, after_hold, once, control_of, is_to_go, if_to_go, after_value, writing, close_gone, bringing, Ways, Sure, Way, ways_more, behind_sure, sure_last, parent_standing, held_of, binding_for, judged_bound, bound_hash, kept_file}
-use Rattle.ug_node.specs.Removal.{holding}
-use Rattle.ug_node.proofs.BindShapes.{sure_hold}
+use Rattle.ug_kernel.specs.Removal.{holding}
+use Rattle.ug_kernel.proofs.BindShapes.{sure_hold}
 use Rattle.ug_table.proofs.Above.{sure_for, is_above}
 use Rattle.ug_table.proofs.NamedStandings.{missing}
 use Rattle.ug_table.proofs.Standings.{known_as, did_without, did_with, without_none, without_own, without_with, with_own, kept_tried, tried_without}

@@ -12,9 +12,9 @@ use Rattle.ug_kernel.specs.declared.calls.Wrote.TheVariants as wrote
 use Rattle.ug_kernel.specs.Calls.{Put, Close}
 use Rattle.ug_kernel.specs.Tree.{Prog, Return, Ask, then}
 use Rattle.ug_kernel.specs.Along.{failure_of}
-use Rattle.ug_node.specs.Removal.{holding}
-use Rattle.ug_node.specs.declared.removal.RemoveHold.{RemoveHold}
-use Rattle.ug_node.specs.declared.removal.RemoveHold.TheVariants as hold
+use Rattle.ug_kernel.specs.Removal.{holding}
+use Rattle.ug_kernel.specs.declared.removal.RemoveHold.{RemoveHold}
+use Rattle.ug_kernel.specs.declared.removal.RemoveHold.TheVariants as hold
 use Rattle.ug_audit.specs.declared.entry.Entry.{Entry}
 use Rattle.ug_audit.specs.declared.entry.Entry.TheVariants as entry
 use Rattle.ug_table.specs.Done.{control_of}

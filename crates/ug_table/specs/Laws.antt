@@ -21,7 +21,7 @@ use Rattle.ug_kernel.specs.Called.{Lived}
 use Rattle.ug_kernel.specs.Quiet.{Grows}
 use Rattle.ug_kernel.specs.Defaults.{default_at, set_by}
 use Rattle.ug_record.specs.Records.{child_hash_of, judged_of}
-use Rattle.ug_node.specs.Bound.{attrs_of, is_core_long, IsParentRead, LivedUntilProbe}
+use Rattle.ug_kernel.specs.Bound.{attrs_of, is_core_long, IsParentRead, LivedUntilProbe}
 use Rattle.ug_audit.specs.declared.entry.Entry.{Entry}
 use Rattle.ug_audit.specs.declared.entry.Entry.TheVariants as entry
 use Rattle.ug_audit.specs.declared.entry.Fault.{Fault}

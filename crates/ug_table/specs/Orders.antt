@@ -18,7 +18,7 @@ use Rattle.ug_kernel.specs.Calls.{Call, Answer, Ask_alive, ToldAnswer}
 use Rattle.ug_kernel.specs.Kernel.{Kernel, IsKernel}
 use Rattle.ug_kernel.specs.Quiet.{Quiet}
 use Rattle.ug_kernel.specs.Tree.{Prog, Return, Ask, then}
-use Rattle.ug_node.specs.CallOrder.{OnlyCloses, GoBy}
+use Rattle.ug_kernel.specs.CallOrder.{OnlyCloses, GoBy}
 use Rattle.ug_audit.specs.declared.entry.Entry.{Entry}
 use Rattle.ug_audit.specs.declared.entry.Entry.TheVariants as entry
 use Rattle.ug_table.specs.Bring.{bringing}

@@ -6,9 +6,9 @@ use Rattle.ug_types.specs.declared.record.Attrs.{Attrs}
 use Rattle.ug_types.specs.declared.record.Judged.{Judged}
 use Rattle.ug_kernel.specs.Tree.{Prog}
 use Rattle.ug_record.specs.Records.{child_hash_of, judged_of, judged_under}
-use Rattle.ug_node.specs.Bind.{binding, binding_under}
-use Rattle.ug_node.specs.declared.identity.Bound.{Bound}
-use Rattle.ug_node.specs.declared.identity.Binding.{Binding}
+use Rattle.ug_kernel.specs.Bind.{binding, binding_under}
+use Rattle.ug_kernel.specs.declared.identity.Bound.{Bound}
+use Rattle.ug_kernel.specs.declared.identity.Binding.{Binding}
 use Rattle.ug_table.specs.Standings.{named}
 use Rattle.ug_table.specs.declared.standing.Standing.{Standing}
 

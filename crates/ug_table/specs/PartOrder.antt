@@ -9,7 +9,7 @@ use Rattle.ug_kernel.specs.Along.{Made}
 use Rattle.ug_kernel.specs.Calls.{Call, Names, Open, Read, Ask_alive, Put, Close, Answer}
 use Rattle.ug_kernel.specs.declared.calls.Probe.{Probe}
 use Rattle.ug_kernel.specs.declared.calls.Probe.TheVariants as probe
-use Rattle.ug_node.specs.CallOrder.{Act, To_open, To_probe, To_write, To_close, OnlyCloses, GoBy, GoByProbe, bind_acts, own_acts, parent_acts}
+use Rattle.ug_kernel.specs.CallOrder.{Act, To_open, To_probe, To_write, To_close, OnlyCloses, GoBy, GoByProbe, bind_acts, own_acts, parent_acts}
 use Rattle.ug_audit.specs.declared.entry.Entry.{Entry}
 use Rattle.ug_audit.specs.declared.entry.Entry.TheVariants as entry
 use Rattle.ug_audit.specs.declared.entry.Fault.TheVariants as fault

@@ -7,8 +7,8 @@ use Rattle.ug_types.specs.Names.{parent_of}
 use Rattle.ug_types.specs.Sweep.{in_sweep_order}
 use Rattle.ug_kernel.specs.declared.control.Control.{Control}
 use Rattle.ug_kernel.specs.declared.control.Control.TheVariants.{Authorized, Remove, Default}
-use Rattle.ug_refusal.specs.declared.refusal.Refusal.{Refusal}
-use Rattle.ug_refusal.specs.declared.refusal.Refusal.TheVariants as refusal
+use Rattle.ug_types.specs.declared.refusal.Refusal.{Refusal}
+use Rattle.ug_types.specs.declared.refusal.Refusal.TheVariants as refusal
 use Rattle.ug_kernel.specs.declared.control.Write.{Write}
 use Rattle.ug_kernel.specs.declared.control.Write.TheVariants as write
 use Rattle.ug_kernel.specs.declared.calls.Listing.{Listing}

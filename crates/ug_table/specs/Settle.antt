@@ -11,9 +11,9 @@ use Rattle.ug_kernel.specs.declared.calls.Probe.TheVariants as probe
 use Rattle.ug_kernel.specs.Calls.{Ask_alive, Close}
 use Rattle.ug_kernel.specs.Tree.{Prog, Return, Ask, Room, then}
 use Rattle.ug_kernel.specs.Along.{failure_of}
-use Rattle.ug_node.specs.declared.identity.Bound.{Bound}
-use Rattle.ug_node.specs.declared.identity.Binding.{Binding}
-use Rattle.ug_node.specs.declared.identity.Binding.TheVariants as bound
+use Rattle.ug_kernel.specs.declared.identity.Bound.{Bound}
+use Rattle.ug_kernel.specs.declared.identity.Binding.{Binding}
+use Rattle.ug_kernel.specs.declared.identity.Binding.TheVariants as bound
 use Rattle.ug_audit.specs.declared.entry.Entry.{Entry}
 use Rattle.ug_audit.specs.declared.entry.Entry.TheVariants as entry
 use Rattle.ug_audit.specs.declared.entry.Fault.{Fault}

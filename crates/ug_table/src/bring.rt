@@ -15,8 +15,9 @@ ghost use Rattle.ug_table.specs.Settle.{stands};
 use crate::standing::{Known, Settled};
 use std::alloc::Global;
 use ug_audit::{Auditor, Entry, Journal};
-use ug_kernel::{FailedCall, Held, Sysfs, Write, Wrote};
-use ug_node::{RemoveHold, failed_call, hold_default, hold_remove, put};
+use ug_kernel::{
+    FailedCall, Held, RemoveHold, Sysfs, Write, Wrote, failed_call, hold_default, hold_remove, put,
+};
 use ug_types::{NodeName, Target};
 
 /// Whether a verdict wants the device to be authorised.

@@ -19,8 +19,7 @@ use crate::standing::{Known, Settled};
 use crate::table::Table;
 use std::alloc::Global;
 use ug_audit::{Auditor, Entry, Journal};
-use ug_kernel::{Probe, Sysfs};
-use ug_node::reprobe;
+use ug_kernel::{Probe, Sysfs, reprobe};
 use ug_types::{Cause, Principal, Target};
 
 impl Table {

@@ -8,8 +8,7 @@ ghost use Rattle.ug_table.specs.declared.standing.Standing.{Standing};
 use crate::kept::Standings;
 use crate::standing::Standing;
 use std::alloc::Global;
-use ug_kernel::Sysfs;
-use ug_node::{Binding, Bound, bind, bind_under};
+use ug_kernel::{Binding, Bound, Sysfs, bind, bind_under};
 use ug_record::{parent_hash, record_and_hash};
 use ug_types::{Judged, NoMemory, NodeName, Text};
 

@@ -23,8 +23,7 @@ use crate::standing::{Known, Settled, Standing};
 use crate::table::{Table, known_of};
 use std::alloc::Global;
 use ug_audit::{Auditor, Entry, Fault, Journal};
-use ug_kernel::{Held, Probe, Sysfs, Write};
-use ug_node::{Binding, Bound, failed_call, reprobe};
+use ug_kernel::{Binding, Bound, Held, Probe, Sysfs, Write, failed_call, reprobe};
 use ug_types::{Judged, NoMemory, NodeName, Text};
 
 // Whether the name is a root hub's.

@@ -42,7 +42,7 @@ pub struct Known {
 }
 
 /// How the settling of a name ended.
-#[derive(Clone, Copy, PartialEq, Eq)]
+#[derive(Clone, Copy)]
 pub enum Settled {
     Stands,
     /// Nothing stands for the name.

@@ -22,8 +22,7 @@ use crate::standing::Standing;
 use crate::table::Table;
 use std::alloc::Global;
 use ug_audit::{Auditor, Entry, Fault, Journal};
-use ug_kernel::{Listing, Sysfs, Write};
-use ug_node::failed_call;
+use ug_kernel::{Listing, Sysfs, Write, failed_call};
 use ug_types::{List, NoMemory, NodeName, sort_names};
 
 // An entry for a standing whose name isn't listed.

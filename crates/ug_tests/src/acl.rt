@@ -54,14 +54,18 @@ fn allows_what_was_added(rt: HostRuntime) {
 
 #[test]
 fn finds_bad_lines(rt: HostRuntime) {
-    let place = TextFault {
-        line: 2,
-        kind: 3,
-        place: 16,
-    };
     match parse_access(rt.alloc(), b"\n Devices = list, ,modify") {
         Ok(_) => panic!(rt; "it was read"),
-        Err(fault) => assert!(rt; fault == FileFault::Bad(place)),
+        Err(fault) => assert!(rt;
+            matches!(
+                fault,
+                FileFault::Bad(TextFault {
+                    line: 2,
+                    kind: 3,
+                    place: 16,
+                })
+            )
+        ),
     }
     assert!(rt; parse_file_name(b"a b").is_err());
 }

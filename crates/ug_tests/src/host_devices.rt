@@ -77,15 +77,18 @@ fn reads(
 
 // It is switched on, and its file is closed.
 fn switches(sysfs: &mut Folder, held: Held) -> bool {
-    let off = sysfs.probe(held) == Probe::Alive(false);
+    let off = matches!(sysfs.probe(held), Probe::Alive(false));
     let done = sysfs.write(held, Write::On) == Wrote::Done;
-    let on = sysfs.probe(held) == Probe::Alive(true);
+    let on = matches!(sysfs.probe(held), Probe::Alive(true));
     sysfs.close(held);
-    off && done && on && sysfs.probe(held) == Probe::Failed
+    off && done && on && matches!(sysfs.probe(held), Probe::Failed)
 }
 
 fn is_missing(alloc: Global, sysfs: &mut Folder, name: &NodeName) -> bool {
-    sysfs.open_control(alloc, name, Control::Authorized) == Opened::Absent
+    matches!(
+        sysfs.open_control(alloc, name, Control::Authorized),
+        Opened::Absent
+    )
 }
 
 // The hub, the device at it, and one that isn't there.

@@ -128,7 +128,7 @@ fn files_of_settings(rt: HostRuntime) {
 fn waits(rt: &HostRuntime, waiter: &mut SocketWaiter<HostRuntime>) -> Option<u128> {
     let mut ready = [Ready::Listener(0); 256];
     let start = Instant::now(rt).ok()?;
-    if waiter.wait(&mut ready) != Woken::Got(0) {
+    if !matches!(waiter.wait(&mut ready), Woken::Got(0)) {
         return None;
     }
     Some(start.elapsed(rt).ok()?.as_millis())

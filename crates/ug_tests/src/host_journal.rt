@@ -4,9 +4,8 @@ use std::fs;
 use std::fs::{File, OpenOptions};
 use ug_audit::{Auditor, Noted};
 use ug_cond::Zone;
-use ug_host::{WriterAuditor, read_seed};
+use ug_host::{LocalZone, WriterAuditor, read_seed};
 use ug_types::Moment;
-use ug_zone::LocalZone;
 
 const JOURNAL: &str = "out/journal/lines";
 

@@ -90,7 +90,7 @@ fn is_accepted(rt: &HostRuntime, sockets: &mut Sockets) -> bool {
 }
 
 fn is_kept_waiting(rt: &HostRuntime, sockets: &mut Sockets) -> bool {
-    sockets.accept(rt.alloc(), 0) == Accepted::NotYet
+    matches!(sockets.accept(rt.alloc(), 0), Accepted::NotYet)
 }
 
 #[test]

@@ -34,11 +34,11 @@ fn listen(rt: &HostRuntime, sockets: &mut Sockets, name: &[u8]) -> Option<Listen
 
 /// Whether that principal is listened for, by that number.
 pub fn listens_for(rt: &HostRuntime, sockets: &mut Sockets, name: &[u8], number: u32) -> bool {
-    listen(rt, sockets, name) == Some(Listening::Ready(number))
+    matches!(listen(rt, sockets, name), Some(Listening::Ready(at)) if at == number)
 }
 
 fn fails_to_listen(rt: &HostRuntime, sockets: &mut Sockets, name: &[u8]) -> bool {
-    listen(rt, sockets, name) == Some(Listening::Failed)
+    matches!(listen(rt, sockets, name), Some(Listening::Failed))
 }
 
 // Whether the tokens of a wait are these, and it takes about so long.
@@ -48,7 +48,8 @@ fn waited(rt: &HostRuntime, waiter: &mut Wait, wanted: &[Ready], slow: bool) -> 
     let woken = waiter.wait(&mut ready);
     let millis = start.elapsed(rt).ok()?.as_millis();
     let in_time = if slow { millis >= 900 } else { millis < 500 };
-    Some(in_time && woken == Woken::Got(wanted.len()) && ready.starts_with(wanted))
+    let is_told = matches!(woken, Woken::Got(count) if count == wanted.len());
+    Some(in_time && is_told && ready.starts_with(wanted))
 }
 
 // Whether a wait tells of that at once.
@@ -113,7 +114,7 @@ fn accepted(rt: &HostRuntime, sockets: &mut Sockets) -> Option<LinkId> {
 }
 
 fn nobody_comes(rt: &HostRuntime, sockets: &mut Sockets) -> bool {
-    sockets.accept(rt.alloc(), 0) == Accepted::NotYet
+    matches!(sockets.accept(rt.alloc(), 0), Accepted::NotYet)
 }
 
 // Two principals are listened for, each at a file of its own.
@@ -254,7 +255,7 @@ fn fails_to_send(link: &mut Client) -> bool {
 }
 
 fn fails_to_receive(link: &mut Client) -> bool {
-    link.receive(&mut [0u8; 4]) == Taken::Failed && link.faults() == 2
+    matches!(link.receive(&mut [0u8; 4]), Taken::Failed) && link.faults() == 2
 }
 
 fn fails_to_dial(rt: &HostRuntime, link: &mut Client, path: &[u8]) -> bool {
@@ -262,7 +263,7 @@ fn fails_to_dial(rt: &HostRuntime, link: &mut Client, path: &[u8]) -> bool {
 }
 
 fn is_refused_at(link: &Client, path: &[u8]) -> bool {
-    link.reached() == Reached::Refused(2) && link.path() == Some(path)
+    matches!(link.reached(), Reached::Refused(2)) && link.path() == Some(path)
 }
 
 #[test]

@@ -1,6 +1,6 @@
 // The index of rules: few candidates among many rules, and places that move.
 use std::alloc::Global;
-use ug_index::Index;
+use ug_policy::Index;
 use ug_types::{Id, List, Op, Query, Values};
 
 fn query_of(alloc: Global, vendor: u16, product: u16) -> Option<Query> {

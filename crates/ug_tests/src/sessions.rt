@@ -48,7 +48,7 @@ fn acl(alloc: Global) -> Option<Acl> {
 // Whether the next request is that line of the first session.
 fn is_next(server: &mut Server, line: &[u8]) -> bool {
     match server.next_request() {
-        Some((id, _, text)) => id == LinkId(0) && text.bytes() == line,
+        Some((id, _, text)) => id.0 == 0 && text.bytes() == line,
         None => false,
     }
 }
@@ -81,7 +81,7 @@ fn serves_a_session(rt: HostRuntime) {
     let mut server = server(alloc).expect(&rt, "memory");
     let acl = acl(alloc).expect(&rt, "memory");
     let joe = Principal::parse(b"joe").expect(&rt, "a name");
-    assert!(rt; links.listen(alloc, &joe) == Listening::Ready(0));
+    assert!(rt; matches!(links.listen(alloc, &joe), Listening::Ready(0)));
 
     assert!(rt; server.turn(&[], &mut links).accepted == 1);
     assert!(rt; is_none_next(&mut server));

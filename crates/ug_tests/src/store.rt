@@ -13,7 +13,7 @@ fn saves(alloc: Global, disk: &mut MemDisk) -> bool {
     };
     disk.begin();
     let saved = store.save(alloc, disk, TEXT);
-    text.is_empty() && saved == Saved::Done && !store.pending() && disk.calls() == 3
+    text.is_empty() && matches!(saved, Saved::Done) && !store.pending() && disk.calls() == 3
 }
 
 fn is_read_back(alloc: Global, disk: &mut MemDisk) -> bool {
@@ -59,7 +59,7 @@ fn saves_as(
     text: &[u8],
 ) -> bool {
     store.save(alloc, disk, b"block\n") == saved
-        && store.pending() == (saved != Saved::Done)
+        && store.pending() == !matches!(saved, Saved::Done)
         && disk.text() == text
 }
 
@@ -88,7 +88,7 @@ fn is_too_long(alloc: Global, len: usize) -> Option<bool> {
     let mut disk = MemDisk::with_text(alloc, &text).ok()?;
     match Store::recover(alloc, &mut disk) {
         Ok(_) => Some(false),
-        Err(fault) => Some(fault == RecoverFault::TooLong),
+        Err(fault) => Some(matches!(fault, RecoverFault::TooLong)),
     }
 }
 

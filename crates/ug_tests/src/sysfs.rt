@@ -29,7 +29,8 @@ fn comes(alloc: Global, kernel: &mut SimKernel, key: &NodeName) -> bool {
         Listing::Names(names) => names.as_slice().len() == 2,
         _ => false,
     };
-    listed && kernel.open_control(alloc, key, Control::Authorized) == Opened::Token(Held(0))
+    let opened = kernel.open_control(alloc, key, Control::Authorized);
+    listed && matches!(opened, Opened::Token(Held(0)))
 }
 
 // One write fails without its effect, and one with it.
@@ -42,7 +43,7 @@ fn fails(kernel: &mut SimKernel) -> bool {
 
 // It is probed, read and written while the hub is there.
 fn answers(alloc: Global, kernel: &mut SimKernel, key: &NodeName) -> bool {
-    let alive = kernel.probe(Held(0)) == Probe::Alive(true);
+    let alive = matches!(kernel.probe(Held(0)), Probe::Alive(true));
     let read = matches!(
         kernel.read(alloc, key, Attr::Descriptors),
         ReadOut::Bytes(_)
@@ -52,7 +53,7 @@ fn answers(alloc: Global, kernel: &mut SimKernel, key: &NodeName) -> bool {
 
 // It is gone with its hub.
 fn goes(alloc: Global, kernel: &mut SimKernel, key: &NodeName) -> bool {
-    let gone = kernel.probe(Held(0)) == Probe::Gone;
+    let gone = matches!(kernel.probe(Held(0)), Probe::Gone);
     gone && matches!(kernel.read(alloc, key, Attr::Descriptors), ReadOut::Absent)
 }
 

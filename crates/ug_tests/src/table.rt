@@ -107,7 +107,7 @@ fn settles_a_standing_again(rt: HostRuntime) {
     ];
     assert!(rt; notes(&entries, &failed));
     let settled = again(alloc, &mut table, &mut kernel, 2, &mut entries);
-    assert!(rt; settled == Some(Settled::Stands));
+    assert!(rt; matches!(settled, Some(Settled::Stands)));
     let removed: [&[u8]; 4] = [
         b"intent 2 1-1 off",
         b"wrote 2 1-1 off done",
@@ -130,7 +130,7 @@ fn drops_a_standing_whose_device_is_gone(rt: HostRuntime) {
     let name = NodeName::parse(b"1-1").ok().expect(&rt, "a name");
     kernel.unplug(&name);
     let settled = again(alloc, &mut table, &mut kernel, 2, &mut entries);
-    assert!(rt; settled == Some(Settled::Nobody));
+    assert!(rt; matches!(settled, Some(Settled::Nobody)));
     assert!(rt; notes(&entries, &[b"gone 2 1-1"]));
     assert!(rt; table.standing(1).is_some() && table.standing(2).is_none());
     assert!(rt; again(alloc, &mut table, &mut kernel, 3, &mut entries).is_none());

@@ -57,7 +57,7 @@ fn named(name: &[u8]) -> Option<Principal> {
 fn listens(alloc: Global, links: &mut MemLinks) -> Option<bool> {
     let first = links.listen(alloc, &named(b"root")?);
     let second = links.listen(alloc, &named(b"joe")?);
-    Some(first == Listening::Ready(0) && second == Listening::Ready(1))
+    Some(matches!(first, Listening::Ready(0)) && matches!(second, Listening::Ready(1)))
 }
 
 /// Links that listen for root and for joe, with these arrivals.

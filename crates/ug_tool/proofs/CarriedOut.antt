@@ -12,7 +12,7 @@ use Rattle.ug_script.specs.Summing.{no_totals, summary_end, summary_step}
 use Rattle.ug_commands.specs.Listing as listing
 use Rattle.ug_commands.specs.Checking as checking
 use Rattle.ug_commands.specs.Linting as linting
-use Rattle.ug_users.specs.Adding as adding
+use Rattle.ug_acl.specs.Adding as adding
 use Rattle.ug_proto.specs.declared.request.Request.TheVariants as request
 use Rattle.ug_client.specs.Asking.{request_line}
 use Rattle.ug_arguments.specs.declared.command.Command.{Command}

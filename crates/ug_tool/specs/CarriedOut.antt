@@ -18,8 +18,8 @@ use Rattle.ug_commands.specs.GeneratedScripts.{generated_script}
 use Rattle.ug_commands.specs.Listing.{AnswersListing}
 use Rattle.ug_commands.specs.Checking.{AnswersCheck, check_status}
 use Rattle.ug_commands.specs.Linting.{AnswersLint}
-use Rattle.ug_users.specs.Adding.{AnswersAdding}
-use Rattle.ug_users.specs.declared.asked.Asked.{Asked}
+use Rattle.ug_acl.specs.Adding.{AnswersAdding}
+use Rattle.ug_acl.specs.declared.asked.Asked.{Asked}
 use Rattle.ug_proto.specs.declared.request.Request.{Request}
 use Rattle.ug_proto.specs.declared.request.Request.TheVariants as request
 use Rattle.ug_client.specs.Asking.{request_line}

@@ -11,13 +11,13 @@ ghost use Rattle.ug_tool.specs.Tool.{asks_daemon};
 use crate::client::{ask_daemon, watch_daemon};
 use crate::replay::replay_over;
 use std::alloc::Global;
+use ug_acl::add_user;
 use ug_arguments::Command;
 use ug_commands::{check_rules, lint_rules, list_descriptors, make_script};
 use ug_links::Link;
 use ug_script::{generate_policy, summarize};
 use ug_sysfs::SimKernel;
 use ug_types::{Put, Sink, Source};
-use ug_users::add_user;
 
 /// Writes a script of random events.
 fn write_script<K: Sink>(events: u32, start: u32, out: &mut K) -> u8

@@ -1,32 +1,24 @@
 -- Numbers that are listed.
-use Rattle.std.proofs.Common.{◌≡◌, inl, inr, Bool, true, false, nat_eq, ℕ, List, [], ◌∷◌, refl, sym, ap, ◌∙◌, arith}
-use Rattle.std.specs.Prelude.{IsTrue, ◌||◌}
-use Rattle.std.specs.List.{list_any}
+use Rattle.std.proofs.Common.{◌≡◌, inl, inr, Bool, true, false, ℕ, ◌+◌, ◌<◌, ◌≤◌, List, length, get_or, drop, refl, sym, subst, ◌∙◌}
+use Rattle.std.specs.Prelude.{IsTrue, ◌↔◌}
 use Rattle.std.proofs.lemmas.Bool.{false≢true}
+use Rattle.std.proofs.lemmas.List.{drop_more, drop_all}
 use Rattle.ug_types.specs.Elements.{Has}
 
-same : (a b : ℕ) → nat_eq a b ≡ true → a ≡ b
-same a b e = grind arith
+pub listed_here : (xs : List ℕ) (i n : ℕ) → i < length xs → get_or xs i 0 ≡ n → (Has (drop i xs) n ↔ Has xs n) → IsTrue true ↔ Has xs n
+listed_here xs i n h e k = (λ _. k.0 (subst (λ l. Has l n) (sym (drop_more xs i 0 h)) (inl e)), λ _. refl)
 
-itself : (a b : ℕ) → a ≡ b → nat_eq a b ≡ true
-itself a b e = grind arith
+pub listed_behind : (xs : List ℕ) (i n : ℕ) → i < length xs → (get_or xs i 0 ≡ n → ⊥) → (Has (drop i xs) n ↔ Has xs n) → Has (drop (i + 1) xs) n ↔ Has xs n
+listed_behind xs i n h ne k = (
+  λ r. k.0 (subst (λ l. Has l n) (sym (drop_more xs i 0 h)) (inr r)),
+  λ a. elim (subst (λ l. Has l n) (drop_more xs i 0 h) (k.1 a)) [ inl e ↦ absurd (ne e) | inr r ↦ r ],
+)
 
-found : (xs : List ℕ) (n : ℕ) → list_any (λ x. nat_eq x n) xs ≡ true → Has xs n
-found [] n h = absurd (false≢true h)
-found (x ∷ xs) n h = by (nat_eq x n) refl (λ k. found xs n k) h
-  where
-    by : (v : Bool) → nat_eq x n ≡ v → (list_any (λ x. nat_eq x n) xs ≡ true → Has xs n) → v || list_any (λ x. nat_eq x n) xs ≡ true → Has (x ∷ xs) n
-    by true e r k = inl (same x n e)
-    by false e r k = inr (r k)
+pub listed_nowhere : (xs : List ℕ) (i n : ℕ) → length xs ≤ i → (Has (drop i xs) n ↔ Has xs n) → IsTrue false ↔ Has xs n
+listed_nowhere xs i n h k = (λ e. absurd (false≢true e), λ a. absurd (subst (λ l. Has l n) (drop_all i xs h) (k.1 a)))
 
-shown : (xs : List ℕ) (n : ℕ) → Has xs n → list_any (λ x. nat_eq x n) xs ≡ true
-shown [] n h = absurd h
-shown (x ∷ xs) n (inl e) = ap (λ (v : Bool). v || list_any (λ x. nat_eq x n) xs) (itself x n e)
-shown (x ∷ xs) n (inr h) = by (nat_eq x n) (shown xs n h)
-  where
-    by : (v : Bool) → list_any (λ x. nat_eq x n) xs ≡ true → v || list_any (λ x. nat_eq x n) xs ≡ true
-    by true k = refl
-    by false k = k
+pub has_same : {xs ys : List ℕ} {a b : ℕ} → xs ≡ ys → a ≡ b → Has xs a → Has ys b
+has_same {ys = ys} {a = a} e f h = subst (λ n. Has ys n) f (subst (λ l. Has l a) e h)
 
-pub listed : (xs : List ℕ) (n : ℕ) (test : Bool) → test ≡ list_any (λ x. nat_eq x n) xs → (IsTrue test → Has xs n) × (Has xs n → IsTrue test)
-listed xs n test e = (λ h. found xs n (sym e ∙ h), λ h. e ∙ shown xs n h)
+pub has_none : {xs ys : List ℕ} {a b : ℕ} {test : Bool} {X : Type 0} → xs ≡ ys → a ≡ b → (Has xs a → IsTrue test) → test ≡ false → Has ys b → X
+has_none e f h t k = absurd (false≢true (sym t ∙ h (has_same (sym e) (sym f) k)))

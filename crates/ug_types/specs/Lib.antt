@@ -14,3 +14,5 @@ pub mod Sweep
 pub mod Targets
 pub mod TextFaults
 pub mod Told
+pub mod Parameters
+pub mod Refusals

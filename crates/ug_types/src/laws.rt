@@ -5,6 +5,10 @@ ghost use Rattle.ug_types.specs.NodeNames.{IsBus, IsDeviceName, IsNodeName, IsPo
 ghost use Rattle.ug_types.specs.declared.verdict.Target.{Target};
 ghost use Rattle.ug_types.specs.Targets.{target_of, target_word};
 ghost use Rattle.ug_types.specs.Names.{depth_of, parent_of, sweep_cmp};
+ghost use Rattle.ug_types.specs.Parameters.{inserted_of, inserted_word, parameter_name, parameter_of, parameter_set, parameter_with, value_word};
+ghost use Rattle.ug_types.specs.declared.parameter.Inserted.{Inserted};
+ghost use Rattle.ug_types.specs.declared.parameter.Parameter.{Parameter};
+ghost use Rattle.ug_types.specs.declared.parameter.ParameterName.{ParameterName};
 
 /// A root hub alone has no parent. What hangs on a root hub has that hub, and what hangs on a device has that device.
 pub fn parents_law()
@@ -29,4 +33,15 @@ pub fn parents_law()
 pub fn targets_law()
     ensures { (target : Target) (word : List ℕ) → (target_of word ≡ Some target)
         ↔ (word ≡ target_word target) }
+{}
+
+/// A word names a setting exactly where it is the setting's own, and is a value of it exactly where it is that value's.
+pub fn parameters_law()
+    ensures name { (name : ParameterName) (word : List ℕ) → (parameter_of word ≡ Some name)
+        ↔ (word ≡ parameter_name name) }
+    ensures value { (name : ParameterName) (set : Parameter) (word : List ℕ)
+        → (parameter_with name word ≡ Some set)
+        ↔ ((parameter_set set ≡ name) × (word ≡ value_word set)) }
+    ensures inserted { (policy : Inserted) (word : List ℕ) → (inserted_of word ≡ Some policy)
+        ↔ (word ≡ inserted_word policy) }
 {}

@@ -2,6 +2,7 @@
 ghost use Rattle.std.specs.Prelude.{◌≡◌, ◌≤◌, IfSome, length, take};
 ghost use Rattle.std.specs.Option.{option_map};
 ghost use Rattle.ug_types.specs.Names.{before_dash, before_last_dot, depth_of};
+ghost use Rattle.ug_types.specs.Names as names;
 
 /// The place of the last dot.
 pub fn last_dot(text: &[u8]) -> Option<usize>
@@ -30,10 +31,21 @@ pub fn first_dash(text: &[u8]) -> Option<usize>
     None
 }
 
-#[tactic(auto, unfolding(crate::specs::Names::depth_of))]
+fn is_mark(byte: u8) -> bool
+    ensures { result ≡ names.is_mark byte }
+{
+    byte == b'-' || byte == b'.'
+}
+
 pub fn count_marks(text: &[u8]) -> u8
     requires { length text.now ≤ 31 }
     ensures { result ≡ depth_of text.now }
 {
-    text.iter().filter(|b| **b == b'-' || **b == b'.').count() as u8
+    let mut count: u8 = 0;
+    for byte in text {
+        if is_mark(*byte) {
+            count += 1;
+        }
+    }
+    count
 }

@@ -4,7 +4,7 @@ ghost use Rattle.ug_types.specs.declared.no_memory.NoMemory.{NoMemory};
 use std::alloc::{AllocError, AllocFailed};
 
 /// Memory was refused. What the call would have changed is as it was.
-#[derive(Clone, Copy, Debug, PartialEq, Eq)]
+#[derive(Clone, Copy, Debug)]
 pub struct NoMemory;
 
 impl From<AllocError> for NoMemory {

@@ -41,7 +41,12 @@ fn is_name_byte(byte: u8) -> bool
 fn are_name_bytes(text: &[u8]) -> bool
     ensures { result ≡ list_all principals.is_name_byte text.now }
 {
-    text.iter().all(|byte| is_name_byte(*byte))
+    for byte in text {
+        if !is_name_byte(*byte) {
+            return false;
+        }
+    }
+    true
 }
 
 fn is_name(text: &[u8]) -> bool

@@ -4,7 +4,7 @@ use crate::name::NodeName;
 use crate::text::Text;
 
 /// Class, subclass and protocol of a device or an interface: USB 2.0, 9.6.1 and 9.6.5.
-#[derive(Clone, Copy, PartialEq, Eq)]
+#[derive(Clone, Copy)]
 pub struct Triple {
     pub class: u8,
     pub subclass: u8,

@@ -6,7 +6,7 @@ use crate::no_memory::NoMemory;
 
 /// The first bad line of a text, counted from 1; what is wrong with it; and the byte where that stands, counted from 0 at
 /// the line's first.
-#[derive(Clone, Copy, PartialEq, Eq)]
+#[derive(Clone, Copy)]
 pub struct TextFault {
     pub line: u64,
     pub kind: u8,
@@ -14,7 +14,7 @@ pub struct TextFault {
 }
 
 /// Why a text wasn't read.
-#[derive(Clone, Copy, PartialEq, Eq)]
+#[derive(Clone, Copy)]
 pub enum FileFault {
     Bad(TextFault),
     Memory,
@@ -29,7 +29,7 @@ pub trait Numbered {
 }
 
 /// What is wrong with a line, and the number of bytes before it.
-#[derive(Clone, Copy, PartialEq, Eq)]
+#[derive(Clone, Copy)]
 pub struct Fault<K> {
     pub kind: K,
     pub place: u64,

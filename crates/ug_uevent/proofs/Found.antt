@@ -3,8 +3,8 @@ use Rattle.std.proofs.Common.{◌≡◌, ◌⊎◌, inl, inr, ℕ, ◌<◌, ◌^
 use Rattle.std.specs.Prelude.{decimal}
 use Rattle.std.proofs.lemmas.Option.{none-some, same_Some}
 use Rattle.ug_types.proofs.Elements.{has_left, has_right, has_cases}
-use Rattle.ug_numerals.specs.Numbers.{number_in}
-use Rattle.ug_numerals.proofs.Numerals.{is_number, number_found}
+use Rattle.ug_lines.specs.Numbers.{number_in}
+use Rattle.ug_lines.proofs.Numerals.{is_number, number_found}
 use Rattle.ug_uevent.specs.Grammar.{IsPair, IsKeyValue, key_word, SetsField, IsFieldSet, usb}
 use Rattle.ug_uevent.specs.Reading.{field_of, is_usb, nothing, is_field_set}
 use Rattle.ug_uevent.specs.declared.fields.Field.{Field}

@@ -2,7 +2,7 @@
 use Rattle.std.proofs.Common.{◌≡◌, ◌⊎◌, inl, inr, ℕ, Bool, true, false, cond, nat_eq, List, Some, None, refl, sym, ap, subst, ◌∙◌}
 use Rattle.std.specs.Prelude.{codes}
 use Rattle.std.specs.Cmp.Lexicographic.{pointwise, same_text}
-use Rattle.ug_numerals.proofs.Numerals.{text_itself}
+use Rattle.ug_lines.proofs.Numerals.{text_itself}
 use Rattle.ug_uevent.specs.Grammar.{key_word, action_word, usb, IsAction}
 use Rattle.ug_uevent.specs.Reading.{field_of, action_of, is_usb}
 use Rattle.ug_uevent.specs.declared.fields.Field.{Field}

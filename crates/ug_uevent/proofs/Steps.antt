@@ -5,8 +5,8 @@ use Rattle.std.specs.Cmp.Lexicographic.{pointwise}
 use Rattle.std.proofs.lemmas.Bool.Decides.{nat_tests}
 use Rattle.std.proofs.lemmas.List.{append-nil}
 use Rattle.ug_types.specs.TextFaults.{fault_of_kind}
-use Rattle.ug_numerals.specs.Numbers.{number_in}
-use Rattle.ug_numerals.proofs.Numerals.{is_number, number_found, no_number}
+use Rattle.ug_lines.specs.Numbers.{number_in}
+use Rattle.ug_lines.proofs.Numerals.{is_number, number_found, no_number}
 use Rattle.ug_uevent.specs.Cuts.{length_before}
 use Rattle.ug_uevent.specs.Grammar.{IsPair, IsKeyValue, key_word, IsFieldSet, IsNumber, IsGood, AreGood, Differs, IsFaulty, length_of}
 use Rattle.ug_uevent.specs.Reading.{field_of, is_usb, is_field_set, number_read, first_value, field_read, string_read, on_string, strings_read}

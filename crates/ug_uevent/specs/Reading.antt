@@ -4,7 +4,7 @@ use Rattle.std.specs.Prelude.{List, [], ◌∷◌, length, take, drop, codes, Op
 use Rattle.std.specs.Prelude.{Ok, Err}
 use Rattle.std.specs.Option.{is_some}
 use Rattle.std.specs.Cmp.Lexicographic.{pointwise}
-use Rattle.ug_numerals.specs.Numbers.{number_in}
+use Rattle.ug_lines.specs.Numbers.{number_in}
 use Rattle.ug_types.specs.TextFaults.{fault_of_kind}
 use Rattle.ug_uevent.specs.Cuts.{length_before}
 use Rattle.ug_uevent.specs.Faults.{SaidFault}

@@ -4,7 +4,7 @@ ghost use Rattle.ug_uevent.specs.Reading as reading;
 
 use crate::cut::length_before;
 use crate::fault::UeventKind;
-use ug_numerals::parse_decimal;
+use ug_lines::parse_decimal;
 use ug_types::is_word;
 
 /// A key whose value is read. Each is set once at most.

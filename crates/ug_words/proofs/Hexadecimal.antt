@@ -3,7 +3,7 @@ use Rattle.std.proofs.Common.{◌≡◌, ℕ, ◌/◌, ◌%◌, ◌<◌, List, S
 use Rattle.std.specs.Char.{digit_char}
 use Rattle.hex.specs.Hex.{hex_digit_value}
 use Rattle.ug_words.specs.WordGrammar.{IsTwo, IsFour}
-use Rattle.ug_numerals.specs.Digits.{hex_two, hex_four}
+use Rattle.ug_lines.specs.Digits.{hex_two, hex_four}
 
 digit_read : (n : ℕ) → n < 16 → hex_digit_value (digit_char n) ≡ Some n
 digit_read n h = grind arith

@@ -5,3 +5,8 @@ pub mod KeywordTables
 pub mod Tests
 pub mod TimeCuts
 pub mod WordCuts
+mod Begun
+mod Cutting
+pub mod Meaning
+mod Spelling
+pub mod Steps

@@ -1,8 +1,8 @@
 // What the words of rules mean.
-ghost use Rattle.std.specs.Prelude.{◌≡◌, ◌↔◌, ℕ, ◌<◌, ◌^◌, List, Some, codes, decimal, true};
+ghost use Rattle.std.specs.Prelude.{◌≡◌, ◌↔◌, ℕ, ◌<◌, ◌^◌, List, Some, codes, decimal, true, ◌⊎◌, Ok, Err, length};
 ghost use Rattle.ug_words.specs.declared.words.Clock.{Clock};
 ghost use Rattle.ug_words.specs.declared.words.DaySpan.{DaySpan};
-ghost use Rattle.ug_numerals.specs.Digits.{hex_four, hex_two};
+ghost use Rattle.ug_lines.specs.Digits.{hex_four, hex_two};
 ghost use Rattle.ug_types.specs.Targets.{target_of};
 ghost use Rattle.ug_types.specs.declared.rule.Op.TheVariants as operator;
 ghost use Rattle.ug_types.specs.declared.verdict.Target.TheVariants as target;
@@ -11,6 +11,9 @@ ghost use Rattle.ug_words.specs.declared.keywords.Attr.TheVariants as attr;
 ghost use Rattle.ug_words.specs.declared.keywords.CondName.TheVariants as name;
 ghost use Rattle.ug_words.specs.WordGrammar.{IsChance, IsId, IsInterface, IsPast, IsSpan, IsTime};
 ghost use Rattle.ug_words.specs.Words.{chance_of, four_of, id_of, interface_of, decimal_of, past_of, span_of, time_of, two_of};
+ghost use Rattle.ug_words.specs.declared.token.Token.{Token};
+ghost use Rattle.ug_words.specs.Lexing.{Fault, tokens_of};
+ghost use Rattle.ug_words.specs.Grammar.{Good, Bad, InOrder};
 
 use ug_types::{Id, Iface};
 
@@ -74,4 +77,27 @@ pub fn target_words_law()
     ensures allow { IsSpelled target_of target.Allow (codes "allow") }
     ensures block { IsSpelled target_of target.Block (codes "block") }
     ensures reject { IsSpelled target_of target.Reject (codes "reject") }
+{}
+
+/// The reading from the front gives what the cut into blanks, tokens and a comment says.
+pub fn reading_is_grammar()
+    ensures good { (line : List ℕ) (tokens : List Token) → (tokens_of line ≡ Ok tokens)
+        ↔ Good line tokens }
+    ensures bad { (line : List ℕ) (fault : Fault) → (tokens_of line ≡ Err fault) ↔ Bad line fault }
+{}
+
+/// A line has one list of tokens, or one first fault, and never both.
+pub fn one_meaning()
+    ensures some { (line : List ℕ) → ((tokens : List Token) × Good line tokens)
+        ⊎ ((fault : Fault) × Bad line fault) }
+    ensures one_list { (line : List ℕ) (a b : List Token) → Good line a → Good line b → a ≡ b }
+    ensures one_fault { (line : List ℕ) (a b : Fault) → Bad line a → Bad line b → a ≡ b }
+    ensures not_both { (line : List ℕ) (tokens : List Token) (fault : Fault) → Good line tokens
+        → Bad line fault → ⊥ }
+{}
+
+/// The spans of a line's tokens are in order, don't overlap and lie in the line.
+pub fn spans_in_order()
+    ensures order { (line : List ℕ) (tokens : List Token) → tokens_of line ≡ Ok tokens
+        → InOrder 0 (length line) tokens }
 {}

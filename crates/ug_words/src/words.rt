@@ -268,7 +268,12 @@ fn end_of(time: Clock) -> u32
 fn dash_in(text: &[u8]) -> Option<usize>
     ensures { result ≡ position (nat_eq 45) text.now }
 {
-    text.iter().position(|b| b'-' == *b)
+    for place in 0..text.len() {
+        if b'-' == text[place] {
+            return Some(place);
+        }
+    }
+    None
 }
 
 /// A time of the day, or two with a dash between.

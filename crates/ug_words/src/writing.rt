@@ -1,8 +1,8 @@
 // Numbers in hexadecimal digits.
 ghost use Rattle.std.specs.Prelude.{◌≡◌, ◌++◌, OnOk};
-ghost use Rattle.ug_numerals.specs.Digits.{hex_four, hex_two};
+ghost use Rattle.ug_lines.specs.Digits.{hex_four, hex_two};
 
-use ug_numerals::{four_digits, two_digits};
+use ug_lines::{four_digits, two_digits};
 use ug_types::NoMemory;
 
 /// Appends two digits in lower case.

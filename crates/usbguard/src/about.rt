@@ -4,6 +4,13 @@ use crate::usage::{is_known, usage_text};
 /// The version. A release's tag is `v` and this.
 const VERSION: &str = "0.1.0";
 
+/// What the program can be asked of itself: its version, or how one command or each is used.
+enum Asked<'a> {
+    Version,
+    Usage(Option<&'a str>),
+    Nothing,
+}
+
 fn is_help(word: &str) -> bool {
     word == "--help" || word == "-h"
 }
@@ -17,22 +24,25 @@ fn tell_usage(rt: &HostRuntime, command: Option<&str>) -> std::io::Result<()> {
     println!(rt; "{text}")
 }
 
-// The text that is asked for, or none.
-fn about(rt: &HostRuntime, words: &[&str]) -> std::io::Result<bool> {
+// What the words ask for.
+fn question_in<'a>(words: &[&'a str]) -> Asked<'a> {
     match words {
-        [word] if is_version(word) => println!(rt; "usbguard {VERSION}")?,
-        [word] if is_help(word) => tell_usage(rt, None)?,
-        [command, word] if is_help(word) && is_known(command) => tell_usage(rt, Some(command))?,
-        _ => return Ok(false),
+        [word] if is_version(word) => Asked::Version,
+        [word] if is_help(word) => Asked::Usage(None),
+        [command, word] if is_help(word) && is_known(command) => Asked::Usage(Some(command)),
+        _ => Asked::Nothing,
     }
-    Ok(true)
 }
 
 /// Tells the version or how commands are used, on standard output, and gives the status; None where the words ask for neither.
 pub fn tell_about(rt: &HostRuntime, words: &[&str]) -> Option<u8> {
-    match about(rt, words) {
-        Ok(true) => Some(0),
-        Ok(false) => None,
+    let told = match question_in(words) {
+        Asked::Version => println!(rt; "usbguard {VERSION}"),
+        Asked::Usage(command) => tell_usage(rt, command),
+        Asked::Nothing => return None,
+    };
+    match told {
+        Ok(()) => Some(0),
         Err(_) => Some(5),
     }
 }

@@ -61,11 +61,12 @@ impl<W: Write> Write for LastLine<W> {
 
 // The number behind a word of the line.
 fn number_behind(line: &str, word: &str) -> Option<u64> {
-    let mut words = line.split(' ');
-    for found in words.by_ref() {
-        if found == word {
-            return words.next()?.parse::<u64>().ok();
+    let mut is_next = false;
+    for found in line.split(' ') {
+        if is_next {
+            return found.parse::<u64>().ok();
         }
+        is_next = found == word;
     }
     None
 }

@@ -1,5 +1,6 @@
 // What the program tells a person of the daemon's socket.
-use std::{fs, str};
+use crate::folder::names_in;
+use std::str;
 use ug_sockets::{Reached, SocketLink};
 
 /// The folder of the daemon's sockets.
@@ -42,13 +43,12 @@ fn tell_socket(rt: &HostRuntime, name: &str, is_first: bool) -> std::io::Result<
     eprintln!(rt; "  --socket={SOCKETS}/{name}")
 }
 
-// The sockets that are there, and how to name one.
-fn tell_sockets(rt: &HostRuntime) -> std::io::Result<()> {
+// The sockets among these names, and how to name one.
+fn tell_sockets(rt: &HostRuntime, names: &[String]) -> std::io::Result<()> {
     let mut any = false;
-    for entry in fs::read_dir(rt, SOCKETS)? {
-        let entry = entry?;
-        if entry.file_name().ends_with(".socket") {
-            tell_socket(rt, entry.file_name(), !any)?;
+    for name in names {
+        if name.as_str().ends_with(".socket") {
+            tell_socket(rt, name.as_str(), !any)?;
             any = true;
         }
     }
@@ -60,29 +60,42 @@ fn tell_sockets(rt: &HostRuntime) -> std::io::Result<()> {
     Ok(())
 }
 
-/// Tells on standard error at which socket a command asked in vain, why, and which sockets are there.
-pub fn tell_link(rt: &HostRuntime, link: &SocketLink<HostRuntime>) {
-    let Some(path) = link.path() else {
-        return;
-    };
-    let path = match str::from_utf8(path) {
-        Ok(path) => path,
-        Err(_) => "the socket",
-    };
-    let outcome = outcome(link.reached());
-    let _told = match link.reached() {
+// The sockets that are there.
+fn tell_folder(rt: &HostRuntime) {
+    match names_in(rt, SOCKETS) {
+        Some(names) => {
+            let _told = tell_sockets(rt, &names);
+            drop(names);
+        }
+        None => {
+            let _told = eprintln!(rt;
+                "usbguard: the folder {SOCKETS} isn't there: the daemon isn't running. Start it: systemctl start usbguard"
+            );
+        }
+    }
+}
+
+// Why the socket at that path didn't answer.
+fn tell_reached(rt: &HostRuntime, path: &str, reached: Reached) -> std::io::Result<()> {
+    let outcome = outcome(reached);
+    match reached {
         Reached::Refused(errno) => {
             eprintln!(rt; "usbguard: {path}: {outcome} (error {errno} of errno(3))")
         }
         Reached::Nowhere | Reached::Connected | Reached::Broken => {
             eprintln!(rt; "usbguard: {path}: {outcome}")
         }
+    }
+}
+
+/// Tells on standard error at which socket a command asked in vain, why, and which sockets are there.
+pub fn tell_link(rt: &HostRuntime, link: &SocketLink<HostRuntime>) {
+    let Some(path) = link.path() else {
+        return;
     };
-    if let Reached::Refused(_) = link.reached() {
-        if tell_sockets(rt).is_err() {
-            let _told = eprintln!(rt;
-                "usbguard: the folder {SOCKETS} isn't there: the daemon isn't running. Start it: systemctl start usbguard"
-            );
-        }
+    let path = str::from_utf8(path).unwrap_or("the socket");
+    let _told = tell_reached(rt, path, link.reached());
+    if matches!(link.reached(), Reached::Refused(_)) {
+        tell_folder(rt);
     }
 }

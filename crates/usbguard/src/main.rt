@@ -2,6 +2,7 @@
 #![tactic(auto)]
 
 mod about;
+mod folder;
 mod last_line;
 mod link_words;
 mod open_hubs;
@@ -29,66 +30,82 @@ use ug_tool::{run_replay, run_tool};
 use ug_types::{Put, ReaderSource, Sink, WriterSink};
 
 /// Writes a fault line, and gives its status, or that of a failed write.
-fn end_with<K: Sink>(out: &mut K, line: &[u8], status: u8) -> ExitCode {
-    match out.put(line) {
-        Put::Done => ExitCode::from(status),
-        Put::Failed => ExitCode::from(5),
+fn end_with(rt: &HostRuntime, line: &[u8], status: u8) -> u8 {
+    match WriterSink::new(io::writer(rt)).put(line) {
+        Put::Done => status,
+        Put::Failed => 5,
     }
+}
+
+// Runs a script over a kernel in memory, and gives its status.
+fn replay<K: Sink>(rt: &HostRuntime, words: &[&str], out: &mut K) -> u8 {
+    let mut input = ReaderSource::new(rt.reader());
+    let mut kernel = SimKernel::new(rt.alloc());
+    let status = run_replay(rt.alloc(), words, &mut input, out, &mut kernel);
+    kernel.discard();
+    drop(input);
+    status
+}
+
+// Runs a command that may ask the daemon, and gives its status.
+fn ask<K: Sink>(rt: HostRuntime, words: &[&str], out: &mut K) -> u8 {
+    let mut input = ReaderSource::new(rt.reader());
+    let mut link = SocketLink::new(rt);
+    let status = run_tool(rt.alloc(), words, &mut input, out, &mut link);
+    if status == 8 {
+        tell_link(&rt, &link);
+    }
+    drop(link);
+    drop(input);
+    status
 }
 
 // Runs the command of these words, and gives its status.
 fn run<K: Sink>(rt: HostRuntime, words: &[&str], out: &mut K) -> u8 {
     match words {
         ["daemon", behind @ ..] => serve(rt, behind),
-        ["replay", ..] => {
-            let mut input = ReaderSource::new(rt.reader());
-            let mut kernel = SimKernel::new(rt.alloc());
-            let status = run_replay(rt.alloc(), words, &mut input, out, &mut kernel);
-            kernel.discard();
-            drop(input);
-            status
-        }
-        _ => {
-            let mut input = ReaderSource::new(rt.reader());
-            let mut link = SocketLink::new(rt);
-            let status = run_tool(rt.alloc(), words, &mut input, out, &mut link);
-            if status == 8 {
-                tell_link(&rt, &link);
-            }
-            drop(link);
-            drop(input);
-            status
-        }
+        ["replay", ..] => replay(&rt, words, out),
+        _ => ask(rt, words, out),
     }
+}
+
+// The same, and tells a person what to know of its input and its end.
+fn run_and_tell(rt: HostRuntime, words: &[&str]) -> u8 {
+    tell_waiting(&rt, words);
+    let mut lines = LastLine::new(rt.alloc(), io::writer(&rt));
+    let status = run(rt, words, &mut WriterSink::new(&mut lines));
+    tell_line(&rt, lines.text());
+    drop(lines);
+    tell(&rt, words, status);
+    status
+}
+
+// Does what these texts ask for.
+fn carry_out(rt: HostRuntime, texts: &[String]) -> u8 {
+    let Some(words) = words_of(rt.alloc(), texts) else {
+        return end_with(&rt, b"no memory\n", 6);
+    };
+    let status = match tell_about(&rt, &words) {
+        Some(status) => status,
+        None => run_and_tell(rt, &words),
+    };
+    drop(words);
+    status
 }
 
 fn main(rt: HostRuntime) -> ExitCode {
     fill_standard_files();
-    let alloc = rt.alloc();
-    let mut lines = LastLine::new(alloc, io::writer(&rt));
-    let mut out = WriterSink::new(&mut lines);
-    let texts = match read_texts(&rt) {
-        Ok(texts) => texts,
-        Err(TextsFault::Memory) => return end_with(&mut out, b"no memory\n", 6),
+    let status = match read_texts(&rt) {
+        Ok(texts) => {
+            let status = carry_out(rt, texts.as_slice());
+            drop(texts);
+            status
+        }
+        Err(TextsFault::Memory) => end_with(&rt, b"no memory\n", 6),
         Err(TextsFault::Unreadable) => {
             tell_unreadable(&rt);
-            return end_with(&mut out, b"bad words\n", 1);
+            end_with(&rt, b"bad words\n", 1)
         }
     };
-    let Some(words) = words_of(alloc, texts.as_slice()) else {
-        drop(texts);
-        return end_with(&mut out, b"no memory\n", 6);
-    };
-    if let Some(status) = tell_about(&rt, &words) {
-        drop(words);
-        drop(texts);
-        return ExitCode::from(status);
-    }
-    tell_waiting(&rt, &words);
-    let status = run(rt, &words, &mut out);
-    tell_line(&rt, lines.text());
-    tell(&rt, &words, status);
-    drop(words);
-    drop(texts);
     ExitCode::from(status)
 }

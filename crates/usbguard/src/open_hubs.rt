@@ -2,8 +2,9 @@
 ghost use Rattle.std.specs.Prelude.{◌≡◌, is_none};
 ghost use Rattle.ug_core.specs.Settings.{hub_default};
 
+use crate::folder::names_in;
 use crate::shown::read_text;
-use std::{fs, str};
+use std::str;
 use ug_arguments::read_daemon_words;
 use ug_conf::{AuthDefault, Settings, parse_conf};
 use ug_types::Text;
@@ -43,19 +44,23 @@ fn is_open(rt: &HostRuntime, devices: &str, name: &str) -> Option<bool> {
     }
 }
 
-// How many root hubs of the folder of devices switch on what comes to them.
-fn count_open(rt: &HostRuntime, devices: &str) -> Option<u64> {
+// How many of these devices are such hubs.
+fn count_of(rt: &HostRuntime, devices: &str, names: &[String]) -> Option<u64> {
     let mut count = 0u64;
-    for entry in fs::read_dir(rt, devices).ok()? {
-        let is_one = match entry {
-            Ok(entry) => is_open(rt, devices, entry.file_name()),
-            Err(_) => None,
-        };
-        if is_one? {
+    for name in names {
+        if is_open(rt, devices, name.as_str())? {
             count = count.saturating_add(1);
         }
     }
     Some(count)
+}
+
+// How many root hubs of the folder of devices switch on what comes to them.
+fn count_open(rt: &HostRuntime, devices: &str) -> Option<u64> {
+    let names = names_in(rt, devices)?;
+    let count = count_of(rt, devices, &names);
+    drop(names);
+    count
 }
 
 // The settings in that file, where they are good ones.

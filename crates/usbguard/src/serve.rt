@@ -7,12 +7,11 @@ use std::rc::Rc;
 use std::{env, io, mem};
 use ug_audit::{Auditor, Panel};
 use ug_host::{
-    ConfFolder, JournalOutput, RefusalReader, RuleFile, StartRefusal, SysfsFolder, SystemClock,
-    WriterAuditor, read_seed,
+    ConfFolder, JournalOutput, LocalZone, RefusalReader, RuleFile, StartRefusal, SysfsFolder,
+    SystemClock, WriterAuditor, read_seed,
 };
 use ug_serve::run_daemon;
 use ug_sockets::{SocketFolder, SocketWaiter};
-use ug_zone::LocalZone;
 
 /// Where the devices are, what counts the kernel's announcements, and where the sockets come.
 const DEVICES: &str = "/sys/bus/usb/devices";
@@ -80,6 +79,13 @@ fn status_without(error: &io::Error) -> u8 {
     }
 }
 
+// Tells why a daemon ended with that status.
+fn tell_found(rt: &HostRuntime, status: u8, found: &Found, paths: &LastPaths<'_>) {
+    let refusal = found.take();
+    tell_end(rt, status, refusal.as_ref(), paths);
+    drop(refusal);
+}
+
 // The daemon with what waits and listens for it.
 fn serve_with(
     rt: HostRuntime,
@@ -129,9 +135,7 @@ fn serve_with(
         rules: disk.path(),
         socket: links.last_path(),
     };
-    let refusal = found.take();
-    tell_end(&rt, status, refusal.as_ref(), &paths);
-    drop(refusal);
+    tell_found(&rt, status, &found, &paths);
     drop(found);
     drop(disk);
     drop(files);

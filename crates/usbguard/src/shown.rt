@@ -21,15 +21,20 @@ pub struct Spot {
     pub counts_blanks: bool,
 }
 
-/// The bytes of a text's line that are counted.
-fn line_of(text: &[u8], spot: Spot) -> Option<&[u8]> {
+fn is_newline(byte: &u8) -> bool {
+    *byte == b'\n'
+}
+
+/// The part of a text's line that is counted.
+fn line_of(text: &[u8], spot: Spot) -> Option<&str> {
     let before = usize::try_from(spot.line.checked_sub(1)?).ok()?;
-    let bytes = text.split(|byte| *byte == b'\n').nth(before)?;
-    if spot.counts_blanks {
-        Some(bytes)
+    let bytes = text.split(is_newline).nth(before)?;
+    let counted = if spot.counts_blanks {
+        bytes
     } else {
-        Some(bytes.trim_ascii_start())
-    }
+        bytes.trim_ascii_start()
+    };
+    str::from_utf8(counted).ok()
 }
 
 /// A text with a mark for each character that a terminal wouldn't show.
@@ -41,28 +46,30 @@ fn put_plain(shown: &mut String, text: &str) -> Option<()> {
     Some(())
 }
 
-/// The characters about a place, and how many of them stand before it.
-fn around(text: &str, place: usize) -> Option<(&str, usize)> {
-    let before = text.get(..place)?;
-    let from = match before.char_indices().rev().nth(BEFORE) {
-        Some((at, _)) => at,
-        None => 0,
-    };
-    let behind = text.get(place..)?;
-    let to = match behind.char_indices().nth(BEHIND) {
-        Some((at, _)) => at.checked_add(place)?,
-        None => text.len(),
-    };
-    let count = text.get(from..place)?.chars().count();
-    Some((text.get(from..to)?, count))
+/// The last characters of a text.
+fn last_of(text: &str) -> &str {
+    match text.char_indices().rev().nth(BEFORE) {
+        Some((at, _)) => text.get(at..).unwrap_or(text),
+        None => text,
+    }
+}
+
+/// The first characters of a text.
+fn first_of(text: &str) -> &str {
+    match text.char_indices().nth(BEHIND) {
+        Some((at, _)) => text.get(..at).unwrap_or(text),
+        None => text,
+    }
 }
 
 /// The bytes of a file, as far as they are looked at. None where they can't be had.
 pub fn read_text(rt: &HostRuntime, path: &str) -> Option<Vec<u8>> {
-    let mut text = Vec::new(rt.alloc());
     let file = fs::open(rt, path).ok()?;
-    file.take(TEXT_LIMIT as u64).read_to_end(&mut text).ok()?;
-    Some(text)
+    let mut text = Vec::new(rt.alloc());
+    match file.take(TEXT_LIMIT as u64).read_to_end(&mut text) {
+        Ok(_) => Some(text),
+        Err(_) => None,
+    }
 }
 
 fn put_blanks(shown: &mut String, count: usize) -> Option<()> {
@@ -72,17 +79,18 @@ fn put_blanks(shown: &mut String, count: usize) -> Option<()> {
     Some(())
 }
 
-fn put_marked(shown: &mut String, part: &str, count: usize) -> Option<()> {
-    put_plain(shown, part)?;
+fn put_marked(shown: &mut String, before: &str, behind: &str) -> Option<()> {
+    put_plain(shown, before)?;
+    put_plain(shown, behind)?;
     shown.push_str("\n    ").ok()?;
-    put_blanks(shown, count)?;
+    put_blanks(shown, before.chars().count())?;
     shown.push_str("^\n").ok()
 }
 
-/// A part of a line, and a caret below it, before which so many characters stand.
-fn marked(alloc: Global, part: &str, count: usize) -> Option<String> {
+/// A part of a line, and below it a caret between what stands before a place and what stands behind it.
+fn marked(alloc: Global, before: &str, behind: &str) -> Option<String> {
     let mut shown = String::from_str(alloc, "    ").ok()?;
-    if put_marked(&mut shown, part, count).is_none() {
+    if put_marked(&mut shown, before, behind).is_none() {
         drop(shown);
         return None;
     }
@@ -91,9 +99,10 @@ fn marked(alloc: Global, part: &str, count: usize) -> Option<String> {
 
 /// The same of a text.
 fn show_in(alloc: Global, text: &[u8], spot: Spot) -> Option<String> {
-    let line = str::from_utf8(line_of(text, spot)?).ok()?;
-    let (part, count) = around(line, usize::try_from(spot.place).ok()?)?;
-    marked(alloc, part, count)
+    let line = line_of(text, spot)?;
+    let place = usize::try_from(spot.place).ok()?;
+    let (before, behind) = line.split_at_checked(place)?;
+    marked(alloc, last_of(before), first_of(behind))
 }
 
 /// The line of a file in which a fault stands, and a caret below its place: two lines, each with its end. None where they can't be had.

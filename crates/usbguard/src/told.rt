@@ -1,8 +1,8 @@
 // What a daemon that has ended tells a person.
+use crate::folder::names_in;
 use crate::shown::{Spot, show_line};
 use crate::words::{access_fault, rule_fault, settings_fault};
-use std::alloc::Global;
-use std::{fs, str};
+use std::str;
 use ug_host::{RefusedPart, StartRefusal};
 use ug_types::Principal;
 
@@ -35,45 +35,30 @@ fn folder_of(path: &str) -> &str {
     }
 }
 
-// Keeps a name that is none of a user or a group, where it comes before the one that was kept; false where memory is short.
-fn keep_odd(alloc: Global, name: &str, odd: &mut Option<String>) -> bool {
-    let is_first = match odd {
+// Whether a name is none of a user or a group, and comes before the other in byte order.
+fn is_first_odd(name: &str, other: Option<&str>) -> bool {
+    let is_first = match other {
         Some(other) => name.as_bytes() < other.as_bytes(),
         None => true,
     };
-    if !is_first || Principal::parse(name.as_bytes()).is_some() {
-        return true;
-    }
-    match String::from_str(alloc, name) {
-        Ok(name) => {
-            *odd = Some(name);
-            true
-        }
-        Err(_) => false,
-    }
+    is_first && Principal::parse(name.as_bytes()).is_none()
 }
 
-// The first name in a folder, in byte order, that is none of a user or a group.
-fn odd_name(rt: &HostRuntime, folder: &str) -> Option<String> {
-    let mut odd: Option<String> = None;
-    for entry in fs::read_dir(rt, folder).ok()? {
-        let is_kept = match entry {
-            Ok(entry) => keep_odd(rt.alloc(), entry.file_name(), &mut odd),
-            Err(_) => false,
-        };
-        if !is_kept {
-            drop(odd);
-            return None;
+// The first of these names, in byte order, that is none of a user or a group.
+fn odd_name(names: &[String]) -> Option<&str> {
+    let mut odd = None;
+    for name in names {
+        if is_first_odd(name.as_str(), odd) {
+            odd = Some(name.as_str());
         }
     }
     odd
 }
 
-// A name in the folder of access files that can't be taken.
-fn tell_name(rt: &HostRuntime, folder: &str, fault: &str) -> std::io::Result<()> {
-    match odd_name(rt, folder) {
+// The one of these names in the folder of access files that can't be taken.
+fn tell_name(rt: &HostRuntime, folder: &str, names: &[String], fault: &str) -> std::io::Result<()> {
+    match odd_name(names) {
         Some(name) => {
-            let name = name.as_str();
             eprintln!(rt;
                 "usbguard: {folder}/{name} isn't taken: {fault}. Remove it, or name it after a user, or after a group behind a colon."
             )
@@ -82,44 +67,71 @@ fn tell_name(rt: &HostRuntime, folder: &str, fault: &str) -> std::io::Result<()>
     }
 }
 
+// A name in that folder that can't be taken.
+fn tell_folder(rt: &HostRuntime, folder: &str, fault: &str) -> std::io::Result<()> {
+    match names_in(rt, folder) {
+        Some(names) => {
+            let told = tell_name(rt, folder, &names, fault);
+            drop(names);
+            told
+        }
+        None => tell_name(rt, folder, &[], fault),
+    }
+}
+
+// A line that isn't taken.
+fn tell_line(
+    rt: &HostRuntime,
+    refusal: &StartRefusal,
+    path: &str,
+    fault: &str,
+) -> std::io::Result<()> {
+    let (line, column) = (refusal.line, refusal.place.saturating_add(1));
+    eprintln!(rt; "usbguard: {path}, line {line}, column {column}: {fault}.")?;
+    let spot = Spot {
+        line,
+        place: refusal.place,
+        counts_blanks: matches!(
+            refusal.part,
+            RefusedPart::Rules | RefusedPart::FolderFile(_)
+        ),
+    };
+    match show_line(rt, path, spot) {
+        Some(shown) => rt.eprint(shown),
+        None => Ok(()),
+    }
+}
+
 // A part that isn't taken.
 fn tell_refusal(rt: &HostRuntime, refusal: &StartRefusal, path: &str) -> std::io::Result<()> {
     let fault = fault_of(refusal);
-    let (line, column) = (refusal.line, refusal.place.saturating_add(1));
-    if line > 0 {
-        eprintln!(rt; "usbguard: {path}, line {line}, column {column}: {fault}.")?;
-        let spot = Spot {
-            line,
-            place: refusal.place,
-            counts_blanks: matches!(
-                refusal.part,
-                RefusedPart::Rules | RefusedPart::FolderFile(_)
-            ),
-        };
-        if let Some(shown) = show_line(rt, path, spot) {
-            let shown = shown.as_str();
-            eprint!(rt; "{shown}")?;
-        }
-        return Ok(());
+    if refusal.line > 0 {
+        return tell_line(rt, refusal, path, fault);
     }
     if matches!(refusal.part, RefusedPart::Access) && refusal.kind > 0 {
-        return tell_name(rt, path, fault);
+        return tell_folder(rt, path, fault);
     }
     eprintln!(rt; "usbguard: {path} isn't taken: {fault}.")
 }
 
 fn tell_status(rt: &HostRuntime, status: u8, paths: &LastPaths<'_>) -> std::io::Result<()> {
-    let files = text_of(paths.files);
-    let rules = text_of(paths.rules);
-    let socket = paths.socket;
-    match status {
-        4 => eprintln!(rt; "usbguard: not started: {files} can't be read."),
-        6 => eprintln!(rt; "usbguard: not started: memory is short."),
-        9 => eprintln!(rt; "usbguard: not started: the rule file {rules} can't be read."),
-        10 => eprintln!(rt; "usbguard: ended: its numbers have run out."),
-        11 => eprintln!(rt; "usbguard: ended: it can't listen at {socket}, or a wait failed."),
-        _ => Ok(()),
-    }
+    let (front, path, rest) = match status {
+        4 => ("not started: ", text_of(paths.files), " can't be read."),
+        6 => ("not started: memory is short.", "", ""),
+        9 => (
+            "not started: the rule file ",
+            text_of(paths.rules),
+            " can't be read.",
+        ),
+        10 => ("ended: its numbers have run out.", "", ""),
+        11 => (
+            "ended: it can't listen at ",
+            paths.socket,
+            ", or a wait failed.",
+        ),
+        _ => return Ok(()),
+    };
+    eprintln!(rt; "usbguard: {front}{path}{rest}")
 }
 
 // The folder of rules is that of the file which was read last.

@@ -114,8 +114,17 @@ const USAGES: [Usage; 18] = [
     },
 ];
 
+fn usages() -> &'static [Usage] {
+    &USAGES
+}
+
 fn usage_of(word: &str) -> Option<&'static Usage> {
-    USAGES.iter().find(|usage| usage.word == word)
+    for usage in usages() {
+        if usage.word == word {
+            return Some(usage);
+        }
+    }
+    None
 }
 
 /// Whether that is a command's word.
@@ -142,7 +151,7 @@ fn add_line(text: &mut String, line: &str) -> Result<(), AllocError> {
 }
 
 fn add_lines(text: &mut String) -> Result<(), AllocError> {
-    for usage in USAGES.iter() {
+    for usage in usages() {
         add_line(text, usage.line)?;
     }
     text.push_str("The manual page usbguard(1) says what each does.")
@@ -162,7 +171,7 @@ fn text_of_all(alloc: Global) -> Result<String, AllocError> {
 
 /// How the command of that word is used, or each, where there is no such command.
 pub fn usage_text(alloc: Global, word: Option<&str>) -> Result<String, AllocError> {
-    match word.and_then(|word| usage_of(word)) {
+    match word.and_then(usage_of) {
         Some(usage) => text_of_one(alloc, usage),
         None => text_of_all(alloc),
     }
@@ -180,7 +189,7 @@ fn complaint(words: &[&str], usage: Option<&Usage>) -> &'static str {
 // What to do about words that are no command.
 fn tell_words(rt: &HostRuntime, words: &[&str]) -> std::io::Result<()> {
     let first = words.first().copied();
-    let complaint = complaint(words, first.and_then(|word| usage_of(word)));
+    let complaint = complaint(words, first.and_then(usage_of));
     let text = usage_text(rt.alloc(), first)?;
     eprintln!(rt; "usbguard: {complaint}")?;
     eprintln!(rt; "{text}")

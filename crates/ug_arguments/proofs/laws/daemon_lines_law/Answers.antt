@@ -1,7 +1,7 @@
 use Rattle.std.proofs.Common.{refl}
 use Rattle.std.specs.Fmt.{digits}
 use Rattle.clap.proofs.OnLiterals.{clap_on_literals}
-use Rattle.ug_numerals.specs.Numbers.{number_in}
+use Rattle.ug_lines.specs.Numbers.{number_in}
 use Rattle.ug_proto.specs.Texts.{request_text}
 use Rattle.ug_types.specs.Access.{privilege_word}
 use Rattle.ug_arguments.specs.CommandWords.{asking_word_in, rule_word_in, word_in}

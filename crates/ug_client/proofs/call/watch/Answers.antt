@@ -19,6 +19,21 @@ none_undone e = cc
 memory_undone : ¬ (asked.Memory ≡ asked.Done)
 memory_undone e = cc
 
+failed_no_sink : ¬ (asked.LinkFailed ≡ asked.WriteFault)
+failed_no_sink e = cc
+
+memory_no_link : ¬ (asked.Memory ≡ asked.LinkFailed)
+memory_no_link e = cc
+
+memory_no_sink : ¬ (asked.Memory ≡ asked.WriteFault)
+memory_no_sink e = cc
+
+none_no_link : ¬ (asked.NoReply ≡ asked.LinkFailed)
+none_no_link e = cc
+
+none_no_sink : ¬ (asked.NoReply ≡ asked.WriteFault)
+none_no_sink e = cc
+
 not_above : (a b c : ℕ) → a ≤ b → b ≤ c → a ≤ c
 not_above a b c h k = omega arith
 
@@ -149,3 +164,27 @@ returns-in-Done-write_answer-clause-counted g c = not_above (g.K.Sink.faults c.a
 
 pub returns-in-LinkFailed-clause-link : goal.returns-in-LinkFailed-clause-link
 returns-in-LinkFailed-clause-link g c = λ e. rose_after (g.L.Link.faults c.args.link.now) (g.L.Link.faults c.send_request.new.link) (g.L.Link.faults c.await_reply.new.link) c.send_request.ensures.counted c.await_reply.ensures.counted (c.in-LinkFailed.ensures.cause refl)
+
+pub returns-in-Failed-clause-sink : goal.returns-in-Failed-clause-sink
+returns-in-Failed-clause-sink g c = λ e. absurd (failed_no_sink e)
+
+pub returns-in-Memory-clause-link : goal.returns-in-Memory-clause-link
+returns-in-Memory-clause-link g c = λ e. absurd (memory_no_link e)
+
+pub returns-in-Memory-clause-sink : goal.returns-in-Memory-clause-sink
+returns-in-Memory-clause-sink g c = λ e. absurd (memory_no_sink e)
+
+pub returns-in-NoReply-clause-link : goal.returns-in-NoReply-clause-link
+returns-in-NoReply-clause-link g c = λ e. absurd (none_no_link e)
+
+pub returns-in-NoReply-clause-sink : goal.returns-in-NoReply-clause-sink
+returns-in-NoReply-clause-sink g c = λ e. absurd (none_no_sink e)
+
+pub returns-in-LinkFailed-clause-sink : goal.returns-in-LinkFailed-clause-sink
+returns-in-LinkFailed-clause-sink g c = λ e. absurd (failed_no_sink e)
+
+pub returns-clause-link : goal.returns-clause-link
+returns-clause-link g c = λ e. absurd (memory_no_link e)
+
+pub returns-clause-sink : goal.returns-clause-sink
+returns-clause-sink g c = λ e. absurd (memory_no_sink e)

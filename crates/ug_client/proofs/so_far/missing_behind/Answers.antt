@@ -1,5 +1,5 @@
 use Rattle.std.proofs.Common.{ap, sym, ◌∙◌, ◌-◌, ℕ}
-use Rattle.ug_numerals.specs.Numbers.{number_in}
+use Rattle.ug_lines.specs.Numbers.{number_in}
 use Rattle.ug_types.proofs.Known.{to_end}
 use Rattle.ug_client.proofs.Missing.{behind_missing}
 use Rattle.ug_client.proofs.so_far.missing_behind.Goals as goal

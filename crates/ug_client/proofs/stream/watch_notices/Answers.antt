@@ -1,10 +1,29 @@
-use Rattle.std.proofs.Common.{ℕ, List, Some, take, ap, arith, refl, subst, length-take}
+use Rattle.std.proofs.Common.{◌≡◌, ℕ, ◌≤◌, List, Some, take, ap, arith, refl, subst, length-take}
 use Rattle.std.proofs.KnownBytes.{Keeps-refl, Keeps-trans}
 use Rattle.ug_client.specs.Watching.{EndsShowing, ShowsNotices}
 use Rattle.ug_client.proofs.Watched.{first_ends, first_watching, piece_ends, piece_watching, piece_lost, smaller, grown, watched_to_end, watched_to_failure}
 use Rattle.ug_client.specs.declared.asked.Asked.{Asked}
+use Rattle.ug_client.specs.declared.asked.Asked.TheVariants as asked
 use Rattle.ug_client.proofs.WatchCalls.{rose_after}
 use Rattle.ug_client.proofs.stream.watch_notices.Goals as goal
+
+not_above : (a b c : ℕ) → a ≤ b → b ≤ c → a ≤ c
+not_above a b c h k = omega arith
+
+memory_no_link : ¬ (asked.Memory ≡ asked.LinkFailed)
+memory_no_link e = cc
+
+memory_no_sink : ¬ (asked.Memory ≡ asked.WriteFault)
+memory_no_sink e = cc
+
+done_no_link : ¬ (asked.Done ≡ asked.LinkFailed)
+done_no_link e = cc
+
+done_no_sink : ¬ (asked.Done ≡ asked.WriteFault)
+done_no_sink e = cc
+
+failed_no_sink : ¬ (asked.LinkFailed ≡ asked.WriteFault)
+failed_no_sink e = cc
 
 pub returns-in-Some-clause-watches : goal.returns-in-Some-clause-watches
 returns-in-Some-clause-watches g c = first_ends c.args.kept.now.items (g.L.Link.told c.args.link.now) (g.L.Link.left c.args.link.now) c.args.most (g.K.Sink.held c.args.out.now) (g.K.Sink.held c.show_kept.new.out) c.in-Some.ended c.in-Some.ensures.shows
@@ -46,8 +65,8 @@ pieces-preserved g c =
       begun = s.shows.1;
       room = s.shows.2;
       sent = Keeps-trans (g.L.Link.sent c.args.link.now) (g.L.Link.sent c.pieces.link) (g.L.Link.sent c.receive.new.self) c.pieces.invariant.sent c.in-Bytes.ensures.sent;
-      link = omega (arith, c.pieces.invariant.link, c.in-Bytes.ensures.counted);
-      sink = omega (arith, c.pieces.invariant.sink, s.counted);
+      link = not_above (g.L.Link.faults c.args.link.now) (g.L.Link.faults c.pieces.link) (g.L.Link.faults c.receive.new.self) c.pieces.invariant.link c.receive.ensures.counted.0;
+      sink = not_above (g.K.Sink.faults c.args.out.now) (g.K.Sink.faults c.pieces.out) (g.K.Sink.faults k.out) c.pieces.invariant.sink s.counted;
     }
 
 pub returns-in-End-clause-watches : goal.returns-in-End-clause-watches
@@ -81,3 +100,48 @@ returns-in-Some-show_kept-clause-sink g c = λ e. rose_after (g.K.Sink.faults c.
 
 pub returns-in-Failed-clause-link : goal.returns-in-Failed-clause-link
 returns-in-Failed-clause-link g c = λ e. rose_after (g.L.Link.faults c.args.link.now) (g.L.Link.faults c.pieces.link) (g.L.Link.faults c.receive.new.self) c.pieces.invariant.link c.receive.ensures.counted.0 (c.in-Failed.ensures.cause refl)
+
+pub returns-then-is_err-clause-sent : goal.returns-then-is_err-clause-sent
+returns-then-is_err-clause-sent g c = Keeps-trans (g.L.Link.sent c.args.link.now) (g.L.Link.sent c.pieces.link) (g.L.Link.sent c.receive.new.self) c.pieces.invariant.sent c.receive.ensures.sent
+
+pub returns-then-is_err-clause-links : goal.returns-then-is_err-clause-links
+returns-then-is_err-clause-links g c = not_above (g.L.Link.faults c.args.link.now) (g.L.Link.faults c.pieces.link) (g.L.Link.faults c.receive.new.self) c.pieces.invariant.link c.receive.ensures.counted.0
+
+pub returns-in-Some-show_kept-clause-sent : goal.returns-in-Some-show_kept-clause-sent
+returns-in-Some-show_kept-clause-sent g c = Keeps-trans (g.L.Link.sent c.args.link.now) (g.L.Link.sent c.pieces.link) (g.L.Link.sent c.receive.new.self) c.pieces.invariant.sent c.receive.ensures.sent
+
+pub returns-in-Some-show_kept-clause-links : goal.returns-in-Some-show_kept-clause-links
+returns-in-Some-show_kept-clause-links g c = not_above (g.L.Link.faults c.args.link.now) (g.L.Link.faults c.pieces.link) (g.L.Link.faults c.receive.new.self) c.pieces.invariant.link c.receive.ensures.counted.0
+
+pub returns-in-End-clause-sent : goal.returns-in-End-clause-sent
+returns-in-End-clause-sent g c = Keeps-trans (g.L.Link.sent c.args.link.now) (g.L.Link.sent c.pieces.link) (g.L.Link.sent c.receive.new.self) c.pieces.invariant.sent c.receive.ensures.sent
+
+pub returns-in-End-clause-links : goal.returns-in-End-clause-links
+returns-in-End-clause-links g c = not_above (g.L.Link.faults c.args.link.now) (g.L.Link.faults c.pieces.link) (g.L.Link.faults c.receive.new.self) c.pieces.invariant.link c.receive.ensures.counted.0
+
+pub returns-in-Failed-clause-sent : goal.returns-in-Failed-clause-sent
+returns-in-Failed-clause-sent g c = Keeps-trans (g.L.Link.sent c.args.link.now) (g.L.Link.sent c.pieces.link) (g.L.Link.sent c.receive.new.self) c.pieces.invariant.sent c.receive.ensures.sent
+
+pub returns-in-Failed-clause-links : goal.returns-in-Failed-clause-links
+returns-in-Failed-clause-links g c = not_above (g.L.Link.faults c.args.link.now) (g.L.Link.faults c.pieces.link) (g.L.Link.faults c.receive.new.self) c.pieces.invariant.link c.receive.ensures.counted.0
+
+pub returns-in-Some-clause-sent : goal.returns-in-Some-clause-sent
+returns-in-Some-clause-sent g c = Keeps-refl (g.L.Link.sent c.args.link.now)
+
+pub returns-in-Some-show_kept-clause-sinks : goal.returns-in-Some-show_kept-clause-sinks
+returns-in-Some-show_kept-clause-sinks g c = not_above (g.K.Sink.faults c.args.out.now) (g.K.Sink.faults c.pieces.out) (g.K.Sink.faults c.show_kept-in-Bytes.new.out) c.pieces.invariant.sink c.in-Some-show_kept.ensures.counted
+
+pub returns-then-is_err-clause-link : goal.returns-then-is_err-clause-link
+returns-then-is_err-clause-link g c = λ e. absurd (memory_no_link e)
+
+pub returns-then-is_err-clause-sink : goal.returns-then-is_err-clause-sink
+returns-then-is_err-clause-sink g c = λ e. absurd (memory_no_sink e)
+
+pub returns-in-End-clause-link : goal.returns-in-End-clause-link
+returns-in-End-clause-link g c = λ e. absurd (done_no_link e)
+
+pub returns-in-End-clause-sink : goal.returns-in-End-clause-sink
+returns-in-End-clause-sink g c = λ e. absurd (done_no_sink e)
+
+pub returns-in-Failed-clause-sink : goal.returns-in-Failed-clause-sink
+returns-in-Failed-clause-sink g c = λ e. absurd (failed_no_sink e)

@@ -1,5 +1,5 @@
 use Rattle.std.proofs.Common.{subst, sym, ◌∙◌, arith, List, flat_map}
-use Rattle.ug_descr.specs.declared.descriptors.IfaceDescr.{IfaceDescr}
+use Rattle.ug_record.specs.declared.descriptors.IfaceDescr.{IfaceDescr}
 use Rattle.ug_commands.specs.ListingLines.{configuration_text, configuration_line, interface_line}
 use Rattle.ug_commands.proofs.Puts.{Leads, leads-first, cut-first, leads-more, cut-more, leads-none}
 use Rattle.ug_commands.proofs.writing.write_configuration.Goals as goal

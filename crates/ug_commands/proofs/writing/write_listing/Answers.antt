@@ -1,5 +1,5 @@
 use Rattle.std.proofs.Common.{ap, subst, sym, ◌∙◌, arith, List, flat_map}
-use Rattle.ug_descr.specs.declared.descriptors.Config.{Config}
+use Rattle.ug_record.specs.declared.descriptors.Config.{Config}
 use Rattle.ug_commands.specs.ListingLines.{configuration_text, device_line, listing_text}
 use Rattle.ug_commands.proofs.Puts.{Leads, leads-first, cut-first, leads-more, cut-more, leads-none}
 use Rattle.ug_commands.proofs.writing.write_listing.Goals as goal

@@ -4,7 +4,7 @@ use Rattle.ug_conf.specs.Settings.{defaults}
 use Rattle.ug_conf.specs.Values.{default_of, flag_of, present_of}
 use Rattle.ug_lines.specs.LineReading.{lines_read}
 use Rattle.ug_lines.specs.Lines.{rest_from, whole_from}
-use Rattle.ug_parameter.specs.Parameters.{inserted_of}
+use Rattle.ug_types.specs.Parameters.{inserted_of}
 use Rattle.ug_types.specs.Targets.{target_of}
 use Rattle.ug_conf.proofs.laws.key_words_law.Goals as goal
 

@@ -1,6 +1,6 @@
 use Rattle.std.proofs.Common.{refl}
 use Rattle.hex.specs.Hex.{decode_pairs}
-use Rattle.ug_lex.specs.Lexing.{front_of, quoted_from, tokens_from, tokens_of}
+use Rattle.ug_words.specs.Lexing.{front_of, quoted_from, tokens_from, tokens_of}
 use Rattle.ug_words.specs.Keywords.{attribute_of, is_if, operator_of}
 use Rattle.ug_words.specs.Words.{four_of, id_of, interface_of, star, two_of, two_stars}
 use Rattle.ug_rule.specs.Queries.{attributes_from, bare_of, is_empty_query, query_of, stray, with_attribute}

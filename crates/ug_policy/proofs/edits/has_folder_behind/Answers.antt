@@ -5,7 +5,7 @@ use Rattle.ug_policy.specs.Rules.{marks}
 use Rattle.ug_policy.specs.declared.entry.RuleEntry.{RuleEntry}
 use Rattle.ug_policy.specs.Edits.{has_id}
 use Rattle.ug_policy.proofs.Order.{any_folder, behind_place}
-use Rattle.ug_policy.proofs.Places.{first_any, first_some, none_any, none_passes}
+use Rattle.ug_policy.proofs.FirstPlaces.{first_any, first_some, none_any, none_passes}
 use Rattle.ug_policy.proofs.edits.has_folder_behind.Goals as goal
 
 pub returns-in-Some-clause-behind : goal.returns-in-Some-clause-behind

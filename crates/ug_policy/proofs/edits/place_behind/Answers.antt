@@ -1,6 +1,6 @@
 use Rattle.std.proofs.Common.{add-one, ◌∙◌, sym}
 use Rattle.ug_policy.specs.Edits.{has_id}
-use Rattle.ug_policy.proofs.Places.{first_some, none_passes}
+use Rattle.ug_policy.proofs.FirstPlaces.{first_some, none_passes}
 use Rattle.ug_policy.proofs.Changes.{followed_first, lacks}
 use Rattle.ug_policy.proofs.edits.place_behind.Goals as goal
 

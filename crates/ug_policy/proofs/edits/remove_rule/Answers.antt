@@ -1,6 +1,6 @@
 use Rattle.std.proofs.Common.{◌∙◌, sym}
 use Rattle.ug_policy.specs.Edits.{has_id}
-use Rattle.ug_policy.proofs.Places.{first_some, none_passes}
+use Rattle.ug_policy.proofs.FirstPlaces.{first_some, none_passes}
 use Rattle.ug_policy.proofs.Changes.{removed_first, removed_none, has_first, lacks}
 use Rattle.ug_policy.proofs.edits.remove_rule.Goals as goal
 

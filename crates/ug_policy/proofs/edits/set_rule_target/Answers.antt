@@ -1,6 +1,6 @@
 use Rattle.std.proofs.Common.{◌∙◌, sym}
 use Rattle.ug_policy.specs.Edits.{has_id}
-use Rattle.ug_policy.proofs.Places.{first_at, first_some, none_passes}
+use Rattle.ug_policy.proofs.FirstPlaces.{first_at, first_some, none_passes}
 use Rattle.ug_policy.proofs.Changes.{retargeted_first, retargeted_none, has_first, lacks}
 use Rattle.ug_policy.proofs.edits.set_rule_target.Goals as goal
 

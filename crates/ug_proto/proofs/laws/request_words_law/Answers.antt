@@ -1,6 +1,6 @@
 use Rattle.std.proofs.Common.{refl}
 use Rattle.std.specs.Fmt.{digits}
-use Rattle.ug_numerals.specs.Numbers.{number_in}
+use Rattle.ug_lines.specs.Numbers.{number_in}
 use Rattle.ug_proto.specs.Requests.{named_read, rule_request_read}
 use Rattle.ug_proto.proofs.laws.request_words_law.Goals as goal
 

@@ -1,7 +1,7 @@
 use Rattle.std.proofs.Common.{false, ap, refl}
 use Rattle.std.specs.Prelude.{codes}
 use Rattle.std.proofs.lemmas.Result.{IfErr-weaker, IfOk-weaker, err_from_is_err_and}
-use Rattle.ug_refusal.specs.declared.refusal.Refusal.TheVariants as refusal
+use Rattle.ug_types.specs.declared.refusal.Refusal.TheVariants as refusal
 use Rattle.ug_proto.specs.RefusalParts.{named_number, refusal_rest}
 use Rattle.ug_proto.proofs.NamedTaken.{any_taken, number_taken}
 use Rattle.ug_proto.proofs.RefusalNumbers.{stands, at_number, malformed_device, rules_full, store_fault, device_fault, memory, probe_fault, folder_rule}

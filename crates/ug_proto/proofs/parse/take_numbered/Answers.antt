@@ -1,7 +1,7 @@
 use Rattle.std.proofs.Common.{refl}
 use Rattle.std.specs.Prelude.{codes}
 use Rattle.std.proofs.lemmas.Result.{IfErr-weaker, IfOk-weaker, err_from_is_err_and}
-use Rattle.ug_refusal.specs.declared.refusal.Refusal.TheVariants as refusal
+use Rattle.ug_types.specs.declared.refusal.Refusal.TheVariants as refusal
 use Rattle.ug_proto.specs.RefusalParts.{refusal_rest}
 use Rattle.ug_proto.proofs.NamedTaken.{any_taken}
 use Rattle.ug_proto.proofs.RefusalNumbers.{at_number, bad_request, denied, bad_rule, no_device, no_rule, bad_parameter, bad_value}

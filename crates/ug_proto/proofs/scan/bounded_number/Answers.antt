@@ -1,5 +1,5 @@
 use Rattle.std.proofs.Common.{sym, ◌∙◌, arith}
-use Rattle.ug_numerals.proofs.Numerals.{number_found}
+use Rattle.ug_lines.proofs.Numerals.{number_found}
 use Rattle.ug_proto.proofs.Scans.{other_number, not_number}
 use Rattle.ug_proto.proofs.scan.bounded_number.Goals as goal
 

@@ -1,5 +1,5 @@
 use Rattle.std.proofs.Common.{List, Result, arith, sym, subst, ap, ◌∙◌, length}
-use Rattle.ug_lex.specs.declared.token.Token.{Token}
+use Rattle.ug_words.specs.declared.token.Token.{Token}
 use Rattle.ug_types.specs.declared.rule.Cond.{Cond}
 use Rattle.ug_rule.specs.declared.fault.Fault.{Fault}
 use Rattle.ug_rule.specs.Conditions.{conds_from}

@@ -1,10 +1,10 @@
 use Rattle.std.proofs.Common.{refl}
 use Rattle.ug_types.specs.Names.{parent_of, depth_of}
-use Rattle.ug_descr.specs.Reading.{configs_from, decoded}
+use Rattle.ug_record.specs.Reading.{configs_from, decoded}
 use Rattle.ug_match.specs.Queries.{query_matches}
 use Rattle.ug_record.specs.Records.{judged_of}
-use Rattle.ug_node.specs.Files.{reading, reading_own, reading_parent}
-use Rattle.ug_node.specs.Bind.{binding, binding_under}
+use Rattle.ug_kernel.specs.Files.{reading, reading_own, reading_parent}
+use Rattle.ug_kernel.specs.Bind.{binding, binding_under}
 use Rattle.ug_table.specs.Bring.{treating, bringing, writing, valuing}
 use Rattle.ug_table.specs.Settle.{admitting, entering, settling}
 use Rattle.ug_table.specs.Sweep.{sweeping}

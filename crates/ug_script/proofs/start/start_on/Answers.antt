@@ -1,36 +1,32 @@
-use Rattle.std.proofs.Common.{◌≡◌, ap, subst, ◌∙◌}
+use Rattle.std.proofs.Common.{◌≡◌, true, ap, subst, ◌∙◌}
 use Rattle.ug_core.specs.Event.{daemon_of}
 use Rattle.ug_script.specs.FolderLines.{HasLines}
-use Rattle.ug_script.specs.Script.{no_start_of}
-use Rattle.ug_script.specs.Setup.{SetupState}
+use Rattle.ug_script.specs.Script.{fits_folder, no_start_of}
+use Rattle.ug_script.specs.Setup.{SetupState, StartsOn, after_reading}
 use Rattle.ug_script.specs.declared.start.NoStart.TheVariants as no_start
 use Rattle.ug_script.proofs.Filed.{start_still, starts_with_folder}
 use Rattle.ug_script.proofs.Starts.{starts_on, start_refused}
 use Rattle.ug_script.proofs.start.start_on.Goals as goal
 
-pub returns-in-Ok-clause-started : goal.returns-in-Ok-clause-started
-returns-in-Ok-clause-started c =
+started : (c : goal.In-Ok) → (fits_folder c.args.setup.now ≡ true) × (StartsOn c.args.setup.now c.args.first c.args.disk.now (daemon_of c.in-Ok.daemon) × (c.start.new.disk ≡ after_reading c.args.disk.now))
+started c =
     let held : HasLines c.args.setup.now.folder.files c.args.setup.now.folder.count = subst (λ (s : SetupState). HasLines s.folder.files s.folder.count) c.setup.view_is c.in_ok-folder.ensures.lines in
-    (starts_on c.args.setup.now held _ _ c.args.disk.now (daemon_of c.in-Ok.daemon) c.start.new.disk
-    c.in_ok-settings.ensures.classes c.zone_for-zone.ensures c.rng_for-rng.ensures (c.in_ok-access.ensures, c.in_ok-settings.ensures.hub) _ (c.in_ok-folder.ensures.files ∙ ap (λ (s : SetupState). s.folder.files) c.setup.view_is) c.in-Ok.ensures.starts).1.0
+    starts_on c.args.setup.now held _ _ c.args.disk.now (daemon_of c.in-Ok.daemon) c.start.new.disk
+    c.in_ok-settings.ensures.classes c.zone_for-zone.ensures c.rng_for-rng.ensures (c.in_ok-access.ensures, c.in_ok-settings.ensures.hub) _ (c.in_ok-folder.ensures.files ∙ ap (λ (s : SetupState). s.folder.files) c.setup.view_is) c.in-Ok.ensures.starts
+
+pub returns-in-Ok-clause-started : goal.returns-in-Ok-clause-started
+returns-in-Ok-clause-started c = (started c).1.0
 
 pub returns-in-Ok-clause-fits : goal.returns-in-Ok-clause-fits
-returns-in-Ok-clause-fits c =
-    let held : HasLines c.args.setup.now.folder.files c.args.setup.now.folder.count = subst (λ (s : SetupState). HasLines s.folder.files s.folder.count) c.setup.view_is c.in_ok-folder.ensures.lines in
-    (starts_on c.args.setup.now held _ _ c.args.disk.now (daemon_of c.in-Ok.daemon) c.start.new.disk
-    c.in_ok-settings.ensures.classes c.zone_for-zone.ensures c.rng_for-rng.ensures (c.in_ok-access.ensures, c.in_ok-settings.ensures.hub) _ (c.in_ok-folder.ensures.files ∙ ap (λ (s : SetupState). s.folder.files) c.setup.view_is) c.in-Ok.ensures.starts).0
+returns-in-Ok-clause-fits c = (started c).0
 
 pub returns-in-Ok-clause-read : goal.returns-in-Ok-clause-read
-returns-in-Ok-clause-read c =
-    let held : HasLines c.args.setup.now.folder.files c.args.setup.now.folder.count = subst (λ (s : SetupState). HasLines s.folder.files s.folder.count) c.setup.view_is c.in_ok-folder.ensures.lines in
-    (starts_on c.args.setup.now held _ _ c.args.disk.now (daemon_of c.in-Ok.daemon) c.start.new.disk
-    c.in_ok-settings.ensures.classes c.zone_for-zone.ensures c.rng_for-rng.ensures (c.in_ok-access.ensures, c.in_ok-settings.ensures.hub) _ (c.in_ok-folder.ensures.files ∙ ap (λ (s : SetupState). s.folder.files) c.setup.view_is) c.in-Ok.ensures.starts).1.1
+returns-in-Ok-clause-read c = (started c).1.1
 
 pub returns-in-Ok-clause-folder : goal.returns-in-Ok-clause-folder
 returns-in-Ok-clause-folder c =
     let held : HasLines c.args.setup.now.folder.files c.args.setup.now.folder.count = subst (λ (s : SetupState). HasLines s.folder.files s.folder.count) c.setup.view_is c.in_ok-folder.ensures.lines in
-    starts_with_folder c.args.setup.now held c.args.first c.args.disk.now (daemon_of c.in-Ok.daemon) (starts_on c.args.setup.now held _ _ c.args.disk.now (daemon_of c.in-Ok.daemon) c.start.new.disk
-    c.in_ok-settings.ensures.classes c.zone_for-zone.ensures c.rng_for-rng.ensures (c.in_ok-access.ensures, c.in_ok-settings.ensures.hub) _ (c.in_ok-folder.ensures.files ∙ ap (λ (s : SetupState). s.folder.files) c.setup.view_is) c.in-Ok.ensures.starts).1.0
+    starts_with_folder c.args.setup.now held c.args.first c.args.disk.now (daemon_of c.in-Ok.daemon) (started c).1.0
 
 pub returns-in-Err-clause-bad : goal.returns-in-Err-clause-bad
 returns-in-Err-clause-bad c e =

@@ -1,11 +1,25 @@
-use Rattle.std.proofs.Common.{ℕ, List, [], Ok, Err, refl, subst}
+use Rattle.std.proofs.Common.{◌≡◌, ◌≤◌, arith, ℕ, List, [], Result, Ok, Err, IfOk, ap, refl, subst, sym}
 use Rattle.std.proofs.lemmas.Result.{err_from_is_err_and}
-use Rattle.ug_core.specs.Event.{daemon_of}
+use Rattle.ug_types.specs.Ends.{Rose}
+use Rattle.ug_types.specs.Principals.{Named}
+use Rattle.ug_store.specs.Store.{seen_by}
+use Rattle.ug_core.specs.Event.{DaemonState, daemon_of}
 use Rattle.ug_audit.specs.Journal.{members}
 use Rattle.ug_audit.specs.Noting.{NotesStart}
-use Rattle.ug_serve.specs.Folders.{ReadsRules}
-use Rattle.ug_serve.specs.Opening.{unused_entries, Unread, Access_unread, Folder_unread, Unaimed, From_rules}
+use Rattle.ug_serve.specs.declared.not_started.NotStarted.{NotStarted}
+use Rattle.ug_serve.specs.declared.not_started.NotStarted.TheVariants.{FilesFailed}
+use Rattle.ug_serve.specs.Opening.{Started, Opens, Unread, From_rules, started, unused_entries, with_principals, words_of_seed}
 use Rattle.ug_serve.proofs.start.start.Goals as goal
+
+opened : {A : Type 0} (people : A → List Named) (d : A → DaemonState) (r : Result A NotStarted) (principals : List Named) → IfOk r (λ s. people s ≡ principals) → with_principals principals (seen_by d r) ≡ seen_by (λ s. started (people s) (d s)) r
+opened people d (Ok s) principals h = ap (λ (those : List Named). Ok (started those (d s))) (sym h)
+opened people d (Err e) principals h = refl
+
+cause_of : {A : Type 0} (a b : NotStarted) → ◌≡◌ {A = Result A NotStarted} (Err a) (Err b) → a ≡ b
+cause_of a b e = cc
+
+rose_after : (a b c : ℕ) → a ≤ b → b ≤ c → Rose b c → Rose a c
+rose_after a b c h k r = λ p. grind (arith, r)
 
 pub returns-in_err-settings-clause-starts : goal.returns-in_err-settings-clause-starts
 returns-in_err-settings-clause-starts g c =
@@ -16,31 +30,21 @@ pub returns-in_err-access-clause-starts : goal.returns-in_err-access-clause-star
 returns-in_err-access-clause-starts g c =
     let p = err_from_is_err_and c.from_residual-in_err-access.result c.from_residual-in_err-access.ensures.1 in
     let noted = subst (λ (ls : List ℕ). NotesStart (unused_entries ls) (members (λ b. goal.Auditor-dyn g (b.vtable, b.value)) c.args.panel.now) (members (λ b. goal.Auditor-dyn g (b.vtable, b.value)) c.note_unused.new.panel)) c.as_slice.ensures c.note_unused.ensures in
-    rw (p.1, p.2) (unused_entries c.in_ok-settings.settings.unused, Access_unread c.in_ok-settings.settings c.in_err-access.field-0.0 c.read_settings.new.files c.read_access.new.files c.in_ok-settings.ensures.reads c.in_err-access.ensures.opens, noted)
+    rw (p.1, p.2) (unused_entries c.in_ok-settings.settings.unused, c.in_err-access.ensures.opens c.args.path.now (g.Z.Zone.clock c.args.zone) (words_of_seed c.args.seed) c.args.files.now c.in_ok-settings.ensures.reads, noted)
 
-pub returns-in_err-folder-clause-starts : goal.returns-in_err-folder-clause-starts
-returns-in_err-folder-clause-starts g c =
-    let p = err_from_is_err_and c.from_residual-in_err-folder.result c.from_residual-in_err-folder.ensures.1 in
-    let noted = subst (λ (ls : List ℕ). NotesStart (unused_entries ls) (members (λ b. goal.Auditor-dyn g (b.vtable, b.value)) c.args.panel.now) (members (λ b. goal.Auditor-dyn g (b.vtable, b.value)) c.note_unused.new.panel)) c.as_slice.ensures c.note_unused.ensures in
-    let read = subst (λ (path : List ℕ). ReadsRules g.F.ConfFiles.gives path c.read_access.new.files (Err c.in_err-folder.field-0.0) c.read_folder.new.files) c.bytes.ensures c.in_err-folder.ensures.reads in
-    rw (p.1, p.2) (unused_entries c.in_ok-settings.settings.unused, Folder_unread c.in_ok-settings.settings c.in_ok-access.access c.in_err-folder.field-0.0 c.read_settings.new.files c.read_access.new.files c.read_folder.new.files c.in_ok-settings.ensures.reads c.in_ok-access.ensures.opens read, noted)
-
-pub returns-in_err-aim-clause-starts : goal.returns-in_err-aim-clause-starts
-returns-in_err-aim-clause-starts g c =
-    let p = err_from_is_err_and c.from_residual-in_err-aim.result c.from_residual-in_err-aim.ensures.1 in
-    let noted = subst (λ (ls : List ℕ). NotesStart (unused_entries ls) (members (λ b. goal.Auditor-dyn g (b.vtable, b.value)) c.args.panel.now) (members (λ b. goal.Auditor-dyn g (b.vtable, b.value)) c.note_unused.new.panel)) c.as_slice.ensures c.note_unused.ensures in
-    let read = subst (λ (path : List ℕ). ReadsRules g.F.ConfFiles.gives path c.read_access.new.files (Ok c.in_ok-folder.folder) c.read_folder.new.files) c.bytes.ensures c.in_ok-folder.ensures.reads in
-    rw (p.1, p.2) (unused_entries c.in_ok-settings.settings.unused, Unaimed c.in_ok-settings.settings c.in_ok-access.access c.in_ok-folder.folder c.read_settings.new.files c.read_access.new.files c.read_folder.new.files c.aim.new.self c.in_ok-settings.ensures.reads c.in_ok-access.ensures.opens read (record { same = c.aim.ensures.told; counts = c.aim.ensures.faults }), noted)
-
-pub returns-in_err-daemon-clause-starts : goal.returns-in_err-daemon-clause-starts
-returns-in_err-daemon-clause-starts g c =
-    let p = err_from_is_err_and c.from_residual-in_err-daemon.result c.from_residual-in_err-daemon.ensures.1 in
-    let noted = subst (λ (ls : List ℕ). NotesStart (unused_entries ls) (members (λ b. goal.Auditor-dyn g (b.vtable, b.value)) c.args.panel.now) (members (λ b. goal.Auditor-dyn g (b.vtable, b.value)) c.note_unused.new.panel)) c.as_slice.ensures c.note_unused.ensures in
-    let read = subst (λ (path : List ℕ). ReadsRules g.F.ConfFiles.gives path c.read_access.new.files (Ok c.in_ok-folder.folder) c.read_folder.new.files) c.bytes.ensures c.in_ok-folder.ensures.reads in
-    rw (p.1, p.2) (unused_entries c.in_ok-settings.settings.unused, From_rules c.in_ok-settings.settings c.in_ok-access.access c.in_ok-folder.folder c.read_settings.new.files c.read_access.new.files c.read_folder.new.files c.aim.new.self c.start_daemon.new.disk (Err c.in_err-daemon.field-0.0) c.in_ok-settings.ensures.reads c.in_ok-access.ensures.opens read (record { same_disk = record { same = c.aim.ensures.told; counts = c.aim.ensures.faults }; at = subst (λ (p : List ℕ). g.D.RuleDisk.aimed c.aim.new.self p) c.bytes-2.ensures c.in_ok-aim.ensures.aimed }) c.in_err-daemon.ensures.starts, noted)
+pub returns-in_err-access-clause-files_cause : goal.returns-in_err-access-clause-files_cause
+returns-in_err-access-clause-files_cause g c =
+    let p = err_from_is_err_and c.from_residual-in_err-access.result c.from_residual-in_err-access.ensures.1 in
+    rw (p.1, p.2) (λ e. rose_after (g.F.ConfFiles.faults c.args.files.now) (g.F.ConfFiles.faults c.read_settings.new.files) (g.F.ConfFiles.faults c.read_parts.new.files) c.read_settings.ensures.counted.0 c.read_parts.ensures.counted (c.in_err-access.ensures.cause (ap (λ (why : NotStarted). Err why) (cause_of c.in_err-access.field-0.0 FilesFailed e))))
 
 pub returns-clause-starts : goal.returns-clause-starts
 returns-clause-starts g c =
     let noted = subst (λ (ls : List ℕ). NotesStart (unused_entries ls) (members (λ b. goal.Auditor-dyn g (b.vtable, b.value)) c.args.panel.now) (members (λ b. goal.Auditor-dyn g (b.vtable, b.value)) c.note_unused.new.panel)) c.as_slice.ensures c.note_unused.ensures in
-    let read = subst (λ (path : List ℕ). ReadsRules g.F.ConfFiles.gives path c.read_access.new.files (Ok c.in_ok-folder.folder) c.read_folder.new.files) c.bytes.ensures c.in_ok-folder.ensures.reads in
-    (unused_entries c.in_ok-settings.settings.unused, From_rules c.in_ok-settings.settings c.in_ok-access.access c.in_ok-folder.folder c.read_settings.new.files c.read_access.new.files c.read_folder.new.files c.aim.new.self c.start_daemon.new.disk (Ok (daemon_of c.in_ok-daemon.daemon)) c.in_ok-settings.ensures.reads c.in_ok-access.ensures.opens read (record { same_disk = record { same = c.aim.ensures.told; counts = c.aim.ensures.faults }; at = subst (λ (p : List ℕ). g.D.RuleDisk.aimed c.aim.new.self p) c.bytes-2.ensures c.in_ok-aim.ensures.aimed }) c.in_ok-daemon.ensures.starts, noted)
+    let parts = c.in_ok-access.ensures.reads in
+    let unused = unused_entries c.in_ok-settings.settings.unused in (
+      unused,
+      subst (λ (r : Result Started NotStarted). Opens g.F.ConfFiles.gives g.D.RuleDisk c.args.path.now (g.Z.Zone.clock c.args.zone) (words_of_seed c.args.seed) c.args.files.now c.args.disk.now unused r c.read_parts.new.files c.start_daemon.new.disk)
+          (opened (λ s. s.principals) (λ s. daemon_of s.daemon) c.start_daemon.result c.in_ok-access.access.principals c.start_daemon.ensures.principals)
+          (From_rules c.in_ok-settings.settings c.in_ok-access.access c.in_ok-access.folder c.read_settings.new.files parts.0 c.read_parts.new.files c.read_parts.new.disk c.start_daemon.new.disk (seen_by (λ s. daemon_of s.daemon) c.start_daemon.result) c.in_ok-settings.ensures.reads parts.1 parts.2 parts.3 c.start_daemon.ensures.starts),
+      noted,
+    )

@@ -1,8 +1,8 @@
 use Rattle.std.proofs.Common.{refl}
 use Rattle.std.specs.Fmt.{digits}
 use Rattle.hex.specs.Hex.{decode_pairs}
-use Rattle.ug_numerals.specs.Numbers.{number_in}
-use Rattle.ug_lex.specs.Lexing.{front_of, quoted_from, tokens_from, tokens_of}
+use Rattle.ug_lines.specs.Numbers.{number_in}
+use Rattle.ug_words.specs.Lexing.{front_of, quoted_from, tokens_from, tokens_of}
 use Rattle.ug_steps.specs.Grammar.{is_effect, is_fail, mishap_word, step_by_word, step_of_line}
 use Rattle.ug_words.specs.Words.{interface_of, star, two_of, two_stars}
 use Rattle.ug_steps.specs.IfaceLines.{byte_word, iface_name_of, new_iface_of, triple_word}

@@ -1,18 +1,17 @@
-use Rattle.std.proofs.Common.{ℕ, sym, subst, ◌∙◌}
-use Rattle.std.proofs.lemmas.Option.{none-some, same_Some}
-use Rattle.ug_types.specs.Names.{parent_of}
-use Rattle.ug_kernel.specs.declared.device.Device.{Device}
-use Rattle.ug_kernel.specs.Kernel.{Live}
-use Rattle.ug_sysfs.proofs.Links.{sought_lives}
+use Rattle.std.proofs.Common.{◌≡◌, sym, ap, ◌∙◌, arith}
+use Rattle.ug_kernel.proofs.Sounds.{live_count_push}
+use Rattle.ug_kernel.specs.Kernel.{live_count}
+use Rattle.ug_sysfs.specs.Devices.{born, born_as, plugged}
 use Rattle.ug_sysfs.proofs.parent.plug.Goals as goal
-use Rattle.ug_sysfs.proofs.parent.plug.Goals.{in-Nobody, in-Live}
 
-pub push-requires-clause-parent : goal.push-requires-clause-parent
-push-requires-clause-parent c p up =
+pub returns-in-Some : goal.returns-in-Some
+returns-in-Some c =
+    let d = c.args.device in
     let ds = c.args.census.now.devices in
-    elim c.match-find_parent.branch [
-      | in-Nobody w ↦ absurd (none-some p (sym w.parent-is ∙ up))
-      | in-Live w ↦
-          let lives = sought_lives (parent_of c.args.device.name) ds w.in-Live.i (sym c.find_parent.ensures ∙ w.in-Live.is) in
-          subst (λ (n : ℕ). (e : Device) × Live ds n e) (same_Some w.in-Live.i p (sym w.parent-is ∙ up)) lives
-    ]
+    let is : plugged d ds ≡ born d c.in-Some.parent ds = c.in-Some.ensures.0 in
+    let more = live_count_push ds (born_as d c.in-Some.parent ds) in
+    record {
+      devices = c.bear_under.ensures.devices ∙ sym is;
+      room = omega arith;
+      few = omega (arith, more, c.in-Some.ensures.2, ap live_count c.bear_under.ensures.devices);
+    }

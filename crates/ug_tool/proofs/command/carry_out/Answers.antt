@@ -76,3 +76,93 @@ returns-in-Ask-clause-carried g c = rw c.in-Ask.is (rw c.bytes.ensures at c.ask_
 
 pub returns-in-Watch-clause-carried : goal.returns-in-Watch-clause-carried
 returns-in-Watch-clause-carried g c = rw c.in-Watch.is (rw c.bytes-in-Watch.ensures at c.watch_daemon.ensures.watches, refl)
+
+pub returns-in-Replay-clause-read : goal.returns-in-Replay-clause-read
+returns-in-Replay-clause-read g c = c.replay_over-status.ensures.read
+
+pub returns-in-Replay-clause-written : goal.returns-in-Replay-clause-written
+returns-in-Replay-clause-written g c = c.replay_over-status.ensures.written
+
+pub returns-in-Replay-clause-link : goal.returns-in-Replay-clause-link
+returns-in-Replay-clause-link g c = λ e. refl
+
+pub returns-in-Summarize-clause-read : goal.returns-in-Summarize-clause-read
+returns-in-Summarize-clause-read g c = c.summarize-status.ensures.read
+
+pub returns-in-Summarize-clause-written : goal.returns-in-Summarize-clause-written
+returns-in-Summarize-clause-written g c = c.summarize-status.ensures.written
+
+pub returns-in-Summarize-clause-link : goal.returns-in-Summarize-clause-link
+returns-in-Summarize-clause-link g c = λ e. refl
+
+pub returns-in-MakeScript-clause-read : goal.returns-in-MakeScript-clause-read
+returns-in-MakeScript-clause-read g c = λ four. absurd (c.write_script.ensures.not_read four)
+
+pub returns-in-MakeScript-clause-written : goal.returns-in-MakeScript-clause-written
+returns-in-MakeScript-clause-written g c = c.write_script.ensures.cause
+
+pub returns-in-MakeScript-clause-link : goal.returns-in-MakeScript-clause-link
+returns-in-MakeScript-clause-link g c = λ e. refl
+
+pub returns-in-ReadDescriptor-clause-read : goal.returns-in-ReadDescriptor-clause-read
+returns-in-ReadDescriptor-clause-read g c = c.list_descriptors.ensures.read
+
+pub returns-in-ReadDescriptor-clause-written : goal.returns-in-ReadDescriptor-clause-written
+returns-in-ReadDescriptor-clause-written g c = c.list_descriptors.ensures.written
+
+pub returns-in-ReadDescriptor-clause-link : goal.returns-in-ReadDescriptor-clause-link
+returns-in-ReadDescriptor-clause-link g c = λ e. refl
+
+pub returns-in-CheckRules-clause-read : goal.returns-in-CheckRules-clause-read
+returns-in-CheckRules-clause-read g c = c.check_rules.ensures.read
+
+pub returns-in-CheckRules-clause-written : goal.returns-in-CheckRules-clause-written
+returns-in-CheckRules-clause-written g c = c.check_rules.ensures.written
+
+pub returns-in-CheckRules-clause-link : goal.returns-in-CheckRules-clause-link
+returns-in-CheckRules-clause-link g c = λ e. refl
+
+pub returns-in-LintRules-clause-read : goal.returns-in-LintRules-clause-read
+returns-in-LintRules-clause-read g c = c.lint_rules.ensures.read
+
+pub returns-in-LintRules-clause-written : goal.returns-in-LintRules-clause-written
+returns-in-LintRules-clause-written g c = c.lint_rules.ensures.written
+
+pub returns-in-LintRules-clause-link : goal.returns-in-LintRules-clause-link
+returns-in-LintRules-clause-link g c = λ e. refl
+
+pub returns-in-GeneratePolicy-clause-read : goal.returns-in-GeneratePolicy-clause-read
+returns-in-GeneratePolicy-clause-read g c = c.generate_policy-status.ensures.read
+
+pub returns-in-GeneratePolicy-clause-written : goal.returns-in-GeneratePolicy-clause-written
+returns-in-GeneratePolicy-clause-written g c = c.generate_policy-status.ensures.written
+
+pub returns-in-GeneratePolicy-clause-link : goal.returns-in-GeneratePolicy-clause-link
+returns-in-GeneratePolicy-clause-link g c = λ e. refl
+
+pub returns-in-AddUser-clause-read : goal.returns-in-AddUser-clause-read
+returns-in-AddUser-clause-read g c = c.add_user.ensures.read
+
+pub returns-in-AddUser-clause-written : goal.returns-in-AddUser-clause-written
+returns-in-AddUser-clause-written g c = c.add_user.ensures.written
+
+pub returns-in-AddUser-clause-link : goal.returns-in-AddUser-clause-link
+returns-in-AddUser-clause-link g c = λ e. refl
+
+pub returns-in-Ask-clause-read : goal.returns-in-Ask-clause-read
+returns-in-Ask-clause-read g c = λ four. absurd (c.ask_daemon.ensures.not_read four)
+
+pub returns-in-Ask-clause-written : goal.returns-in-Ask-clause-written
+returns-in-Ask-clause-written g c = c.ask_daemon.ensures.written
+
+pub returns-in-Ask-clause-link : goal.returns-in-Ask-clause-link
+returns-in-Ask-clause-link g c = rw c.in-Ask.is (λ e. let none : ⊥ = cc in absurd none)
+
+pub returns-in-Watch-clause-read : goal.returns-in-Watch-clause-read
+returns-in-Watch-clause-read g c = λ four. absurd (c.watch_daemon.ensures.not_read four)
+
+pub returns-in-Watch-clause-written : goal.returns-in-Watch-clause-written
+returns-in-Watch-clause-written g c = c.watch_daemon.ensures.written
+
+pub returns-in-Watch-clause-link : goal.returns-in-Watch-clause-link
+returns-in-Watch-clause-link g c = rw c.in-Watch.is (λ e. let none : ⊥ = cc in absurd none)

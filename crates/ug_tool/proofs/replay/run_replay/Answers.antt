@@ -69,3 +69,22 @@ returns-in-Err-clause-carries g c = λ e all base a b done.
 pub returns-in-Ok-clause-carries : goal.returns-in-Ok-clause-carries
 returns-in-Ok-clause-carries g c = λ e all base a b done.
     c.replay_or_summarize.ensures.carries (asks_whole c.in-Ok.summary (same_command _ _ _ c.in-Ok.ensures.ok e)) all base a b done
+
+pub returns-in-Ok-clause-refused : goal.returns-in-Ok-clause-refused
+returns-in-Ok-clause-refused g c = λ other. absurd (other c.in-Ok.summary c.in-Ok.ensures.ok)
+
+pub returns-in-Ok-clause-replayed : goal.returns-in-Ok-clause-replayed
+returns-in-Ok-clause-replayed g c = λ e all base a b. c.replay_or_summarize.ensures.replayed (asks_whole c.in-Ok.summary (same_command _ _ _ c.in-Ok.ensures.ok e)) all base a b
+
+asks_numbers : (summary : Bool) → replay_of summary ≡ command.Summarize → summary ≡ true
+asks_numbers true e = refl
+asks_numbers false e = let none : ⊥ = cc in absurd none
+
+pub returns-in-Ok-clause-summarized : goal.returns-in-Ok-clause-summarized
+returns-in-Ok-clause-summarized g c = λ e all base a b. c.replay_or_summarize.ensures.summarized (asks_numbers c.in-Ok.summary (same_command _ _ _ c.in-Ok.ensures.ok e)) all base a b
+
+pub returns-in-Ok-clause-summary : goal.returns-in-Ok-clause-summary
+returns-in-Ok-clause-summary g c = λ e all base a b. c.replay_or_summarize.ensures.summary (asks_numbers c.in-Ok.summary (same_command _ _ _ c.in-Ok.ensures.ok e)) all base a b
+
+pub returns-in-Ok-clause-ended : goal.returns-in-Ok-clause-ended
+returns-in-Ok-clause-ended g c = λ summary e. c.replay_or_summarize.ensures.ended

@@ -2,7 +2,7 @@ use Rattle.std.proofs.Common.{arith}
 use Rattle.ug_words.proofs.Decimals.{decimal_read}
 use Rattle.ug_words.proofs.Hexadecimal.{two_again, four_again}
 use Rattle.ug_words.proofs.WordCuts.{two_reads, is_four_reads}
-use Rattle.ug_numerals.specs.Digits.{hex_two, hex_four}
+use Rattle.ug_lines.specs.Digits.{hex_two, hex_four}
 use Rattle.ug_words.proofs.laws.digits_law.Goals as goal
 
 pub returns-clause-two : goal.returns-clause-two

@@ -1,10 +1,19 @@
-use Rattle.std.proofs.Common.{arith, ◌≡◌, ◌-◌, ℕ, List, length, take, drop, length-drop, length-take, refl, ap, subst}
-use Rattle.std.proofs.lemmas.List.{take_all}
+use Rattle.std.proofs.Common.{arith, ◌≡◌, None, Some, ◌-◌, ℕ, List, length, take, drop, length-drop, length-take, refl, ap, subst, sym, ◌∙◌}
+use Rattle.std.proofs.lemmas.List.{take_all, take-take, length-take-le}
+use Rattle.ug_lines.specs.Splitting.{IsLine}
+use Rattle.ug_command_io.specs.Runs.{Feeds}
+use Rattle.ug_command_io.specs.declared.machine.Ran.TheVariants.{Done, SinkFailed}
 use Rattle.ug_command_io.proofs.Faults.{rose-after}
 use Rattle.ug_command_io.proofs.Feeding.{Feeds-none, Feeds-next, Feeds-stop}
 use Rattle.ug_command_io.proofs.Refusing.{refusing-stop}
 use Rattle.ug_command_io.proofs.Taking.{Taking, taking-next, taking-none}
 use Rattle.ug_command_io.proofs.feed.Splitter.feed.Goals as goal
+
+none-some : {A : Type 0} {B : Type 0} (x : A) → None ≡ Some x → B
+none-some x e = absurd cc
+
+not-failed : {B : Type 0} → Done ≡ SinkFailed → B
+not-failed e = absurd cc
 
 pub loop-at-init : goal.loop-at-init
 loop-at-init g c = record {
@@ -59,3 +68,35 @@ returns-in_default g c =
       counted = omega (arith, c.take.ensures.counted);
       cause = λ e. rose-after (g.K.Sink.faults c.args.out.now) (g.K.Sink.faults c.loop-at.out) (g.K.Sink.faults c.take.new.out) c.loop-at.invariant.counted c.take.ensures.counted (c.take.ensures.cause e);
     }
+
+pub returns-clause-fed : goal.returns-clause-fed
+returns-clause-fed g c =
+    subst (λ (bytes : List ℕ). Feeds g.M.Machine.step_of c.args.self.now.line.items c.args.self.now.lines (g.M.Machine.state c.args.machine.now, c.args.world.now) (g.K.Sink.held c.args.out.now) bytes Done
+    c.loop-at.self.line.items c.loop-at.self.lines (g.M.Machine.state c.loop-at.machine, c.loop-at.world) (g.K.Sink.held c.loop-at.out))
+    (take_all c.loop-at.at c.args.piece.now (omega arith)) c.loop-at.invariant.fed
+
+pub returns-clause-why : goal.returns-clause-why
+returns-clause-why g c = λ fault e. none-some fault e
+
+pub returns-clause-kept : goal.returns-clause-kept
+returns-clause-kept g c = λ e. c.loop-at.invariant.kept
+
+pub returns-clause-further : goal.returns-clause-further
+returns-clause-further g c = λ e. omega (arith, c.loop-at.invariant.further)
+
+pub returns-clause-counted : goal.returns-clause-counted
+returns-clause-counted g c = c.loop-at.invariant.counted
+
+pub take-requires-clause-front : goal.take-requires-clause-front
+take-requires-clause-front g c =
+    let rest = take (length c.args.piece.now - c.loop-at.at) (drop c.loop-at.at c.args.piece.now) in
+    let t : length (take c.part_end-end.result rest) ≡ c.part_end-end.result = length-take-le c.part_end-end.result rest c.part_end-end.ensures.within in
+    subst IsLine (sym (ap (λ (n : ℕ). take (n - 1) (take c.part_end-end.result rest)) t ∙ take-take (c.part_end-end.result - 1) c.part_end-end.result rest (omega arith))) c.part_end-end.ensures.front
+
+pub take-requires-clause-some : goal.take-requires-clause-some
+take-requires-clause-some g c =
+    let rest = take (length c.args.piece.now - c.loop-at.at) (drop c.loop-at.at c.args.piece.now) in
+    omega (arith, length-take-le c.part_end-end.result rest c.part_end-end.ensures.within, c.part_end-end.ensures.some)
+
+pub returns-clause-cause : goal.returns-clause-cause
+returns-clause-cause g c = not-failed

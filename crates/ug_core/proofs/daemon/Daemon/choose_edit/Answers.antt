@@ -1,5 +1,5 @@
 use Rattle.std.proofs.Common.{◌≡◌, ◌⊎◌, subst, false}
-use Rattle.ug_refusal.specs.declared.refusal.Refusal.TheVariants as refusal
+use Rattle.ug_types.specs.declared.refusal.Refusal.TheVariants as refusal
 use Rattle.ug_ruleset.specs.declared.edit.Edit.{Edit}
 use Rattle.ug_core.specs.Answering.{by_edit, refusing}
 use Rattle.ug_core.specs.Policy.{judging_of}

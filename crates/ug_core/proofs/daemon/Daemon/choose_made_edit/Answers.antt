@@ -1,5 +1,5 @@
 use Rattle.std.proofs.Common.{◌≡◌, ◌⊎◌, ◌∙◌, inl, sym, subst, false}
-use Rattle.ug_refusal.specs.declared.refusal.Refusal.TheVariants as refusal
+use Rattle.ug_types.specs.declared.refusal.Refusal.TheVariants as refusal
 use Rattle.ug_ruleset.specs.RuleEdits.{if_room_for}
 use Rattle.ug_core.specs.Answering.{CanMake, by_edit, changing, refusing}
 use Rattle.ug_core.specs.Changes.{change_lines}

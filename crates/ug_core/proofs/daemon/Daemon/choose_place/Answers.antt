@@ -1,6 +1,6 @@
 use Rattle.std.proofs.Common.{◌≡◌, ◌⊎◌, ◌∙◌, ◌∷◌, [], inl, sym, subst, false, Result, Ok}
 use Rattle.std.specs.Prelude.{decimal}
-use Rattle.ug_refusal.specs.declared.refusal.Refusal.TheVariants as refusal
+use Rattle.ug_types.specs.declared.refusal.Refusal.TheVariants as refusal
 use Rattle.ug_rule.specs.declared.fault.Fault.{Fault}
 use Rattle.ug_rule.proofs.RuleCuts.{read_well}
 use Rattle.ug_policy.specs.declared.entry.Mark.{Mark}

@@ -1,5 +1,5 @@
 use Rattle.std.proofs.Common.{rules, ◌≡◌, Option, Some, None, sym, ap, subst, ◌∙◌, arith}
-use Rattle.ug_refusal.specs.declared.refusal.Refusal.{Refusal}
+use Rattle.ug_types.specs.declared.refusal.Refusal.{Refusal}
 use Rattle.ug_core.specs.Changes.{CanChange, ChangeReads, ChangeSaves, HasRoom}
 use Rattle.ug_core.specs.Event.{DaemonState, daemon_of}
 use Rattle.ug_core.specs.Policy.{Judging, judging_of}

@@ -1,6 +1,6 @@
 use Rattle.std.proofs.Common.{◌≡◌, ◌<◌, ◌≤◌, ◌+◌, ◌∙◌, ℕ, List, insert, length, sym, ap, subst, refl, arith}
-use Rattle.ug_index.specs.Candidates as places
-use Rattle.ug_index.proofs.Standing.{insert_map}
+use Rattle.ug_policy.specs.Candidates as places
+use Rattle.ug_policy.proofs.Standing.{insert_map}
 use Rattle.ug_types.specs.declared.rule.Query.{Query}
 use Rattle.ug_policy.specs.declared.entry.RuleEntry.{RuleEntry}
 use Rattle.ug_policy.specs.Marks.{FolderFirst}

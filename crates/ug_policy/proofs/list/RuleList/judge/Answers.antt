@@ -1,7 +1,7 @@
 use Rattle.std.proofs.Common.{◌≡◌, ◌∙◌, ◌∷◌, ◌++◌, [], ℕ, List, length, take, drop, sym, ap, subst}
 use Rattle.std.proofs.lemmas.List.{take_at}
 use Rattle.ug_cond.specs.Words.{behind}
-use Rattle.ug_index.specs.Candidates as places
+use Rattle.ug_policy.specs.Candidates as places
 use Rattle.ug_types.specs.declared.rule.Query.{Query}
 use Rattle.ug_policy.specs.declared.entry.RuleEntry.{RuleEntry}
 use Rattle.ug_policy.specs.Deciding.{decider, find_decider, judgement_found, reached, rules_judged, words_taken}

@@ -1,6 +1,6 @@
 use Rattle.std.proofs.Common.{◌≡◌, ◌∙◌, ℕ, List, remove, sym, ap, subst}
-use Rattle.ug_index.specs.Candidates as places
-use Rattle.ug_index.proofs.Standing.{remove_map}
+use Rattle.ug_policy.specs.Candidates as places
+use Rattle.ug_policy.proofs.Standing.{remove_map}
 use Rattle.ug_types.specs.declared.rule.Query.{Query}
 use Rattle.ug_policy.specs.declared.entry.RuleEntry.{RuleEntry}
 use Rattle.ug_policy.specs.Rules.{Rules, IsNumbered, queries}

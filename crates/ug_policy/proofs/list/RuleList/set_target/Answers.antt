@@ -1,7 +1,7 @@
 use Rattle.std.proofs.Common.{◌≡◌, ◌∙◌, ◌++◌, ℕ, List, length, take, drop, sym, ap, subst}
 use Rattle.std.proofs.lemmas.List.{take_at}
 use Rattle.std.proofs.lemmas.Result.{on_err_weaker}
-use Rattle.ug_index.specs.Candidates as places
+use Rattle.ug_policy.specs.Candidates as places
 use Rattle.ug_types.specs.declared.rule.Query.{Query}
 use Rattle.ug_policy.specs.declared.entry.RuleEntry.{RuleEntry}
 use Rattle.ug_policy.specs.Rules.{Rules, IsNumbered, queries}

@@ -1,4 +1,0 @@
-pub mod Reaches
-pub mod Places
-pub mod Candidates
-pub mod Lists

@@ -1,5 +1,0 @@
-use Rattle.ug_lex.proofs.Meaning.{in_order}
-use Rattle.ug_lex.proofs.laws.spans_in_order.Goals as goal
-
-pub returns : goal.returns
-returns c = record { order = in_order }

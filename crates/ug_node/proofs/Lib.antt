@@ -1,4 +1,0 @@
-pub mod BindShapes
-pub mod CallOrders
-pub mod Laws
-pub mod UnderShapes

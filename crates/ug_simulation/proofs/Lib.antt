@@ -1,4 +1,0 @@
-pub mod Plays
-pub mod Wants
-pub mod Sweeps
-pub mod Still

@@ -1,0 +1,9 @@
+use Rattle.ug_iface.specs.Calls.{Read}
+use Rattle.ug_sysfs.proofs.IfaceGiving.{ended_serves, refused_serves}
+use Rattle.ug_sysfs.proofs.sim.iface_calls.SimKernelIfaces.read_iface.Goals as goal
+
+pub returns : goal.returns
+returns c = ended_serves c.args.self.now c.enter.new.self c.read_iface_now-answer.new.self c.leave.new.self (Read c.args.name.now) c.read_iface_now-answer.result tt c.if-not-enter.ensures c.read_iface_now-answer.ensures c.leave.ensures
+
+pub returns-then-not-enter : goal.returns-then-not-enter
+returns-then-not-enter c = refused_serves c.args.self.now c.enter.new.self (Read c.args.name.now) tt c.if-not-enter.ensures

@@ -1,3 +1,0 @@
-pub mod ListsRead
-pub mod Members
-pub mod Unions

@@ -1,3 +1,0 @@
-pub mod Adding
-pub mod Asking
-pub mod Lists
