@@ -2,7 +2,7 @@
 """processor-time.py COMMAND..: runs a command, as `rt ci ug_host`, and tells the processor time, user and system, that it took for each crate,
 and for its tests, dearest first, and the most memory that one of its processes had.
 
-It looks each second at the provers among the command's processes: what one takes behind the last look isn't counted."""
+It looks each second at the provers among the command's processes and at those below them: what one takes behind the last look isn't counted."""
 import os
 import subprocess
 import sys
@@ -19,19 +19,28 @@ def stat_of(pid):
 
 
 def below(top):
-    """The processes that the first one started, and what these started."""
-    parents = {}
+    """The first process and those that it started, and what these started, each behind the one that started it."""
+    children = {}
     for pid in filter(str.isdigit, os.listdir('/proc')):
         try:
-            parents[int(pid)] = stat_of(pid)[0]
+            children.setdefault(stat_of(pid)[0], []).append(int(pid))
         except OSError:
             pass
-    found = {top}
-    while True:
-        more = {pid for pid, parent in parents.items() if parent in found} - found
-        if not more:
-            return found
-        found |= more
+    found = [top]
+    for pid in found:
+        found += children.get(pid, [])
+    return found
+
+
+def spent_by(pids):
+    """The processor time of these processes, each of which is read before those that it started: what it waits for meanwhile isn't counted twice."""
+    spent = 0
+    for pid in pids:
+        try:
+            spent += stat_of(pid)[1]
+        except OSError:
+            pass
+    return spent
 
 
 def prover(pid):
@@ -53,19 +62,20 @@ def memory_of(pid):
 
 
 def look(top, times, most):
-    provers = {}
+    counted = set()
     for pid in below(top):
         try:
             crate = prover(pid)
-            if crate:
-                provers[pid] = (crate, *stat_of(pid), memory_of(pid))
+            if not crate:
+                continue
+            most[crate] = max(most.get(crate, 0), memory_of(pid))
         except OSError:
-            pass
-    for pid, (crate, parent, spent, memory) in provers.items():
-        most[crate] = max(most.get(crate, 0), memory)
-        # A copy is counted in the one that waits for it.
-        if parent not in provers:
-            times[pid, crate] = spent + sum(it[2] for it in provers.values() if it[1] == pid)
+            continue
+        # A copy, and a compiler, is counted in the prover that waits for it.
+        if pid not in counted:
+            own = below(pid)
+            counted.update(own)
+            times[pid, crate] = max(times.get((pid, crate), 0), spent_by(own))
 
 
 def main():

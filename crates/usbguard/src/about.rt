@@ -11,14 +11,6 @@ enum Asked<'a> {
     Nothing,
 }
 
-fn is_help(word: &str) -> bool {
-    word == "--help" || word == "-h"
-}
-
-fn is_version(word: &str) -> bool {
-    word == "--version" || word == "-V"
-}
-
 fn tell_usage(rt: &HostRuntime, command: Option<&str>) -> std::io::Result<()> {
     let text = usage_text(rt.alloc(), command)?;
     println!(rt; "{text}")
@@ -27,9 +19,9 @@ fn tell_usage(rt: &HostRuntime, command: Option<&str>) -> std::io::Result<()> {
 // What the words ask for.
 fn question_in<'a>(words: &[&'a str]) -> Asked<'a> {
     match words {
-        [word] if is_version(word) => Asked::Version,
-        [word] if is_help(word) => Asked::Usage(None),
-        [command, word] if is_help(word) && is_known(command) => Asked::Usage(Some(command)),
+        ["--version" | "-V"] => Asked::Version,
+        ["--help" | "-h"] => Asked::Usage(None),
+        [command, "--help" | "-h"] if is_known(command) => Asked::Usage(Some(command)),
         _ => Asked::Nothing,
     }
 }

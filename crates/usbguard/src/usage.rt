@@ -144,15 +144,11 @@ fn text_of_one(alloc: Global, usage: &Usage) -> Result<String, AllocError> {
     .concat(alloc)
 }
 
-fn add_line(text: &mut String, line: &str) -> Result<(), AllocError> {
-    text.push_str("  ")?;
-    text.push_str(line)?;
-    text.push('\n')
-}
-
 fn add_lines(text: &mut String) -> Result<(), AllocError> {
     for usage in usages() {
-        add_line(text, usage.line)?;
+        text.push_str("  ")?;
+        text.push_str(usage.line)?;
+        text.push('\n')?;
     }
     text.push_str("The manual page usbguard(1) says what each does.")
 }
