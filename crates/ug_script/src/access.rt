@@ -1,5 +1,5 @@
 // Who may do what by the setup lines.
-ghost use Rattle.std.specs.Prelude.{◌≡◌, ◌++◌, ◌∷◌, [], map, IfOk, OnOk};
+ghost use Rattle.std.specs.Prelude.{◌≡◌, ◌++◌, map, IfOk, OnOk};
 ghost use Rattle.ug_script.specs.Setup as setups;
 ghost use Rattle.ug_script.specs.Setup.{everything, granted};
 
@@ -19,18 +19,11 @@ fn allow_everything(acl: &mut Acl, users: &[Principal]) -> Result<(), NoMemory>
     Ok(())
 }
 
-fn allow(acl: &mut Acl, line: &AccessLine) -> Result<(), NoMemory>
-    ensures { OnOk result (acl.new ≡ acl.old ++ granted line.now ∷ []) }
-{
-    acl.add(line.who, &line.grants)?;
-    Ok(())
-}
-
 fn allow_granted(acl: &mut Acl, lines: &[AccessLine]) -> Result<(), NoMemory>
     ensures { OnOk result (acl.new ≡ acl.old ++ map granted lines.now) }
 {
     for line in lines {
-        allow(acl, line)?;
+        acl.add(line.who, &line.grants)?;
     }
     Ok(())
 }

@@ -1,5 +1,5 @@
 // Events of a script.
-ghost use Rattle.std.specs.Prelude.{◌≡◌, ◌++◌, ◌∷◌, [], true, false, cond, IfOk, List, OnOk, None};
+ghost use Rattle.std.specs.Prelude.{◌≡◌, ◌++◌, true, false, cond, IfOk, List, OnOk, None};
 ghost use Rattle.ug_core.specs.Event.{daemon_of, has_numbers};
 ghost use Rattle.ug_types.specs.Events.{FitsEvent};
 ghost use Rattle.ug_core.specs.Stops.{IsReadable};
@@ -30,22 +30,13 @@ use ug_store::{MemDisk, Planned, RuleDisk};
 use ug_sysfs::{SimKernel, Sysfs};
 use ug_types::{Event, NoMemory};
 
-fn plan_failure(disk: &mut MemDisk, planned: &Planned) -> Result<(), NoMemory>
-    ensures ok { OnOk result
-        (disk.new ≡ record disk.old { planned = disk.old.planned ++ planned.now ∷ [] }) }
-    ensures same { IsStillOn disk.old disk.new }
-{
-    disk.plan(*planned)?;
-    Ok(())
-}
-
 fn plan_failures(disk: &mut MemDisk, plan: &[Planned]) -> Result<(), NoMemory>
     ensures ok { OnOk result (disk.new
         ≡ record disk.old { planned = disk.old.planned ++ plan.now }) }
     ensures same { IsStillOn disk.old disk.new }
 {
     for planned in plan {
-        plan_failure(disk, planned)?;
+        disk.plan(*planned)?;
     }
     Ok(())
 }
@@ -278,41 +269,8 @@ fn play_event(
     finish_event(alloc, setup, session, kernel)
 }
 
-/// An event and its text.
-#[tactic(auto, using(crate::proofs::EventSteps::memory_steps))]
-fn run_event(
-    alloc: Global,
-    setup: &Setup,
-    session: &mut Session,
-    plan: &[Planned],
-    event: &Event,
-    kernel: &mut SimKernel,
-) -> Taken
-    requires numbers { has_numbers (daemon_of session.old.daemon)
-        kernel.old.faults session.old.disk.faults ≡ true }
-    requires piece { FitsEvent event.now }
-    requires session { IsStartedBy setup.now session.old }
-    ensures ran { StepsToTell
-        (came_of setup.now plan.now (event_from event.now (daemon_of session.old.daemon) kernel.old
-        (replay.begun_disk plan.now session.old.disk)))
-        (record {
-          daemon = daemon_of session.new.daemon;
-          world = kernel.new;
-          disk = session.new.disk;
-        })
-        (reported session.new.daemon.report) result }
-    ensures readable { ran_of result ≡ Ran.Done → IsReadable (happened_from event.now
-        (daemon_of session.old.daemon) kernel.old (replay.begun_disk plan.now session.old.disk)) }
-    ensures taken { (¬ (result ≡ Taken.Bad)) × (¬ (result ≡ Taken.TooLong)) }
-    ensures before { session.new.before ≡ session.old.before }
-{
-    match begin_disk(&mut session.disk, plan) {
-        Ok(()) => play_event(alloc, setup, session, plan, event, kernel),
-        Err(_) => Taken::Memory,
-    }
-}
-
 /// An event and its text, unless the numbers have run out.
+#[tactic(auto, using(crate::proofs::EventSteps::memory_steps))]
 pub fn next_event(
     alloc: Global,
     setup: &Setup,
@@ -345,5 +303,8 @@ pub fn next_event(
     {
         return Taken::Bad;
     }
-    run_event(alloc, setup, session, plan, event, kernel)
+    match begin_disk(&mut session.disk, plan) {
+        Ok(()) => play_event(alloc, setup, session, plan, event, kernel),
+        Err(_) => Taken::Memory,
+    }
 }

@@ -6,7 +6,7 @@ ghost use Rattle.ug_script.specs.FolderLines.{HasLines, IsPlaceOf, file_of, file
 
 use std::alloc::Global;
 use std::marker::Model;
-use ug_conf::FolderFile;
+use ug_conf::{FolderFile, discard_files};
 use ug_steps::FolderLine;
 use ug_types::{List, NoMemory, Text};
 
@@ -90,6 +90,21 @@ fn copy_file(alloc: Global, file: &FileText) -> Result<FolderFile, NoMemory>
     Ok(FolderFile { name, text })
 }
 
+// Adds copies of the files.
+fn push_copies(
+    alloc: Global,
+    copies: &mut List<FolderFile>,
+    files: &[FileText],
+) -> Result<(), NoMemory>
+    ensures { OnOk result (copies.new ≡ copies.old ++ files_of files.now) }
+{
+    for file in files {
+        let copy = copy_file(alloc, file)?;
+        copies.push(copy)?;
+    }
+    Ok(())
+}
+
 impl FolderLines {
     /// No lines. It takes no memory.
     pub fn new(alloc: Global) -> FolderLines
@@ -129,9 +144,12 @@ impl FolderLines {
         ensures lines { HasLines self.now.files self.now.count }
     {
         let mut files = List::new(alloc);
-        for file in &self.files {
-            files.push(copy_file(alloc, file)?)?;
+        match push_copies(alloc, &mut files, self.files.as_slice()) {
+            Ok(()) => Ok(files),
+            Err(NoMemory) => {
+                discard_files(files);
+                Err(NoMemory)
+            }
         }
-        Ok(files)
     }
 }

@@ -19,7 +19,7 @@ use rand_core::{Rng, SeedableRng};
 use std::alloc::Global;
 use std::mem::replace;
 use ug_cond::{FixedZone, Zone};
-use ug_conf::{Settings, default_settings};
+use ug_conf::{Settings, default_settings, discard_files};
 use ug_core::{Daemon, StartFault};
 use ug_policy::MAX_RULES;
 use ug_print::RulesTextFault;
@@ -151,8 +151,15 @@ fn start_on(
     ensures still { disk.new.ran_out ≡ false → IsStillOn disk.old disk.new }
 {
     let folder = setup.folder.files(alloc)?;
-    let access = access_of(alloc, setup)?;
-    let settings = settings_of(alloc, setup)?;
+    let Ok(settings) = settings_of(alloc, setup) else {
+        discard_files(folder);
+        return Err(NoStart::Memory);
+    };
+    let Ok(access) = access_of(alloc, setup) else {
+        discard_files(folder);
+        settings.discard();
+        return Err(NoStart::Memory);
+    };
     let rng = rng_for(setup);
     let zone = zone_for(setup);
     match Daemon::start(alloc, settings, access, rng, zone, first, folder, disk) {

@@ -19,4 +19,4 @@ allowed_more lines i line start now next lt is h e =
     ∙ ap (λ (l : List Addition). start ++ l) (sym (granted_more lines i line lt is))
 
 pub loop-line-preserved : goal.loop-line-preserved
-loop-line-preserved c = allowed_more c.args.lines.now c.loop-line.line-index c.line-item.result c.args.acl.now c.loop-line.acl c.allow.new.acl c.loop-line-test.true c.line-item.is c.loop-line.invariant c.in_ok-allow.ensures
+loop-line-preserved c = allowed_more c.args.lines.now c.loop-line.line-index c.line-item.result c.args.acl.now c.loop-line.acl c.add.new.self c.loop-line-test.true c.line-item.is c.loop-line.invariant c.in_ok-add.ensures.ok
