@@ -365,14 +365,3 @@ bound_unlisted hub name kept known entries failed shut m ms h = elim h.1 [
   | inl on ↦ let end = on.1 in let none : ⊥ = cc in none
   | inr off ↦ let end = off.0 in let none : ⊥ = cc in none
 ]
-
--- the parent's files read where its held file is alive
-read_alive : (name : List ℕ) (kept : ℕ) (p : Bool) (a b : ℕ) (of : List ℕ) (at : Attr) (t : ToldAnswer ReadOut) (ms : List Made)
-    (alive : Bool → List Made → Type 0)
-    → GoByParent name kept (GoByProbe alive OnlyCloses) (made_with (Ask_alive kept) (told (Probe.Alive p) a b) ∷ made_with (Read of at) t ∷ ms) → ⊥
-read_alive name kept p a b of at t ms alive h = h.1
-
--- another file probed in its place
-asked_other : (name : List ℕ) (kept held : ℕ) (t : ToldAnswer Probe) (ms : List Made) (rest : List Made → Type 0)
-    → (held ≡ kept → ⊥) → GoByParent name kept rest (made_with (Ask_alive held) t ∷ ms) → ⊥
-asked_other name kept held t ms rest ne h = ne h.0
