@@ -3,13 +3,6 @@ use std::io::Read;
 use std::rt::Files;
 use std::{fs, str};
 
-/// What a look found: how many events the kernel has announced, where its file tells that.
-#[derive(Clone, Copy, PartialEq, Eq)]
-enum Look {
-    Announced(u64),
-    Missing,
-}
-
 fn number_in(text: &[u8]) -> Option<u64> {
     str::from_utf8(text).ok()?.trim().parse::<u64>().ok()
 }
@@ -20,7 +13,9 @@ fn number_in(text: &[u8]) -> Option<u64> {
 pub struct Announced<R> {
     rt: R,
     path: String,
-    last: Option<Look>,
+    looked: bool,
+    /// How many events the kernel had announced at the last look, where its file told that.
+    last: Option<u64>,
 }
 
 impl<R: Files> Announced<R> {
@@ -29,6 +24,7 @@ impl<R: Files> Announced<R> {
         Announced {
             rt,
             path,
+            looked: false,
             last: None,
         }
     }
@@ -44,18 +40,12 @@ impl<R: Files> Announced<R> {
         }
     }
 
-    fn look(&self) -> Look {
-        match self.read() {
-            Some(count) => Look::Announced(count),
-            None => Look::Missing,
-        }
-    }
-
     /// Looks again, and tells whether that found anything else than the last look. The first look does.
     pub fn is_other(&mut self) -> bool {
-        let look = self.look();
-        let other = self.last != Some(look);
-        self.last = Some(look);
+        let count = self.read();
+        let other = !self.looked || self.last != count;
+        self.looked = true;
+        self.last = count;
         other
     }
 }

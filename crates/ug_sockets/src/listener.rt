@@ -97,7 +97,26 @@ impl Listener {
 pub fn find_listener(listeners: &[Listener], number: u32) -> Option<&Listener>
     ensures { option_copied result ≡ find (has_listener_number number) listeners.now }
 {
-    listeners.iter().find(|listener| listener.number == number)
+    for listener in listeners {
+        if listener.number == number {
+            return Some(listener);
+        }
+    }
+    None
+}
+
+/// Has the next wait tell whether somebody waits at the listener of that number.
+pub fn watch_at(listeners: &mut [Listener], number: u32, registry: &Registry) {
+    if let Some(listener) = listeners.get_mut(number as usize) {
+        listener.watch_again(registry);
+    }
+}
+
+/// Remembers that somebody may wait at the listener of that number.
+pub fn note_full(listeners: &mut [Listener], number: u32) {
+    if let Some(listener) = listeners.get_mut(number as usize) {
+        listener.is_full = true;
+    }
 }
 
 /// Has the next wait tell of each listener at which somebody may wait for a place.

@@ -3,8 +3,9 @@ ghost use Rattle.std.specs.Prelude.{◌≡◌, ◌≤◌, length, IfOk};
 
 use libc::net::{MSG_DONTWAIT, MSG_PEEK, recv};
 use std::alloc::Global;
+use std::io::{self, Read};
 use std::rt::Files;
-use std::{fs, io, str};
+use std::{fs, str};
 use ug_files::read_piece;
 
 /// The line of a socket's information that counts the descriptors in its queue: Linux 5.6 has it.
@@ -23,11 +24,19 @@ pub fn peek(socket: i32, into: &mut [u8]) -> io::Result<usize>
     }
 }
 
+fn first_line(text: &str) -> &str {
+    match text.split_once('\n') {
+        Some((line, _)) => line,
+        None => text,
+    }
+}
+
 // The number behind the word, in the line that begins with it.
 fn count_in(text: &str) -> Option<u64> {
-    let (_, behind) = text.split_once(COUNT)?;
-    let line = behind.lines().next()?;
-    line.trim().parse::<u64>().ok()
+    match text.split_once(COUNT) {
+        Some((_, behind)) => first_line(behind).trim().parse::<u64>().ok(),
+        None => None,
+    }
 }
 
 // The path of what the kernel tells of a socket.
@@ -35,22 +44,28 @@ fn path_of(alloc: Global, socket: i32) -> Option<String> {
     format!(in alloc; "/proc/self/fdinfo/{socket}").ok()
 }
 
-// A front of the file at a path.
-fn read_front<'a, R: Files>(rt: &R, path: &str, piece: &'a mut [u8]) -> Option<&'a str> {
-    let mut file = fs::open(rt, path).ok()?;
-    let count = read_piece(&mut file, piece).ok()?;
-    str::from_utf8(&piece[..count]).ok()
+// The number that a front of a file tells.
+fn read_count<F: Read>(file: &mut F) -> Option<u64> {
+    let mut piece = [0u8; 1024];
+    match read_piece(file, &mut piece) {
+        Ok(count) => count_in(str::from_utf8(&piece[..count]).ok()?),
+        Err(_) => None,
+    }
+}
+
+// The same of the file at a path.
+fn count_at<R: Files>(rt: &R, path: &str) -> Option<u64> {
+    match fs::open(rt, path) {
+        Ok(mut file) => read_count(&mut file),
+        Err(_) => None,
+    }
 }
 
 /// Whether no descriptor waits in a socket's queue, as far as the kernel tells. Closing such a socket, or taking what had come to it,
 /// waits for nobody.
 pub fn has_none<R: Files>(rt: &R, alloc: Global, socket: i32) -> bool {
-    let Some(path) = path_of(alloc, socket) else {
-        return false;
-    };
-    let mut piece = [0u8; 1024];
-    match read_front(rt, path.as_str(), &mut piece) {
-        Some(text) => count_in(text) == Some(0),
+    match path_of(alloc, socket) {
+        Some(path) => count_at(rt, path.as_str()) == Some(0),
         None => false,
     }
 }

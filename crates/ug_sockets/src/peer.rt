@@ -96,11 +96,13 @@ impl Peer {
         ensures listener { self.new.listener ≡ self.old.listener }
     {
         let token = token_of(Ready::Session(self.id));
-        let begun = registry.register(&mut self.stream, token, Interest::READABLE);
-        if begun.is_err() {
-            self.end(registry);
+        match registry.register(&mut self.stream, token, Interest::READABLE) {
+            Ok(()) => Ok(()),
+            Err(e) => {
+                self.end(registry);
+                Err(FileFault::from(e))
+            }
         }
-        Ok(begun?)
     }
 
     // Has the next wait tell what is ready now. Where that can't be had, a wait may miss it.

@@ -1,11 +1,13 @@
 // The daemon's sockets in a folder of this machine.
-ghost use Rattle.std.specs.Prelude.{◌≡◌, ◌<◌, ◌≤◌, ◌+◌, ◌-◌, ◌^◌, ◌++◌, ◌∷◌, [], length, map, position, true, None, IfOk, IfSome, vec_capacity};
+ghost use Rattle.std.specs.Prelude.{◌≡◌, ◌<◌, ◌≤◌, ◌+◌, ◌-◌, ◌^◌, ◌++◌, ◌∷◌, [], length, map, position, true, None, IfOk, OnOk, IfSome, vec_capacity};
 ghost use Rattle.ug_types.specs.Ends.{IsCounted, Rose};
 ghost use Rattle.ug_links.specs.Steps.{FitsRead, FitsWrite};
 ghost use Rattle.ug_sockets.specs.Sockets.{is_session_open};
 ghost use Rattle.ug_files.specs.Untold.{untold};
 
-use crate::listener::{Arrival, Listener, find_listener, listen_told, path_of, watch_full};
+use crate::listener::{
+    Arrival, Listener, find_listener, listen_told, note_full, path_of, watch_at, watch_full,
+};
 use crate::peer::Peer;
 use crate::socket_waiter::SocketWaiter;
 use crate::tokens::FIRST_SESSION;
@@ -109,6 +111,22 @@ impl<R: Files + Net> SocketFolder<R> {
         Ok(number)
     }
 
+    // A socket for the principal in the folder, and room for its listener.
+    fn make_socket(
+        &mut self,
+        alloc: Global,
+        principal: &Principal,
+    ) -> Result<UnixListener, FileFault>
+        ensures room { OnOk result (length self.new.listeners.items < vec_capacity self.new.listeners) }
+        ensures listeners { self.new.listeners.items ≡ self.old.listeners.items }
+        ensures faults { self.new.faults ≡ self.old.faults }
+    {
+        let folder = self.folder.as_str();
+        let path = path_of(alloc, folder, principal)?;
+        self.listeners.reserve(1)?;
+        listen_told(&self.rt, alloc, folder, path, &mut self.last)
+    }
+
     fn listen_for(&mut self, alloc: Global, principal: &Principal) -> Result<u32, FileFault>
         ensures number { IfOk result (λ number. number ≡ length self.old.listeners.items) }
         ensures listener { IfOk result (λ number.
@@ -119,22 +137,8 @@ impl<R: Files + Net> SocketFolder<R> {
         let Ok(number) = u32::try_from(self.listeners.len()) else {
             return Err(FileFault::Failed);
         };
-        let folder = self.folder.as_str();
-        let path = path_of(alloc, folder, principal)?;
-        self.listeners.reserve(1)?;
-        let socket = listen_told(&self.rt, alloc, folder, path, &mut self.last)?;
+        let socket = self.make_socket(alloc, principal)?;
         self.begin_listener(number, principal, socket)
-    }
-
-    // Has the next wait tell whether another session has come.
-    fn watch_again(&mut self, listener: u32)
-        ensures faults { self.new.faults ≡ self.old.faults }
-        ensures next { self.new.next ≡ self.old.next }
-        ensures peers { self.new.peers ≡ self.old.peers }
-    {
-        if let Some(listener) = self.listeners.get_mut(listener as usize) {
-            listener.watch_again(&self.registry);
-        }
     }
 
     // How many sessions a listener has.
@@ -172,15 +176,6 @@ impl<R: Files + Net> SocketFolder<R> {
             && (self.is_roots(listener) || self.count_of_others() < MOST_OF_OTHERS)
     }
 
-    // Closes the streams of sessions that are over, but for those that bear a descriptor.
-    fn close_done(&mut self)
-        ensures faults { self.new.faults ≡ self.old.faults }
-        ensures next { self.new.next ≡ self.old.next }
-    {
-        let (rt, alloc) = (&self.rt, self.alloc);
-        self.peers.retain(|peer| !peer.is_done(rt, alloc));
-    }
-
     // Whether a session more finds a place at the listener, once those that are over have left theirs.
     fn finds_place(&mut self, listener: u32) -> bool
         ensures faults { self.new.faults ≡ self.old.faults }
@@ -189,18 +184,8 @@ impl<R: Files + Net> SocketFolder<R> {
         if self.has_place(listener) {
             return true;
         }
-        self.close_done();
+        close_done(&mut self.peers, &self.rt, self.alloc);
         self.has_place(listener)
-    }
-
-    // Remembers that somebody may wait at the listener.
-    fn note_full(&mut self, listener: u32)
-        ensures faults { self.new.faults ≡ self.old.faults }
-        ensures next { self.new.next ≡ self.old.next }
-    {
-        if let Some(listener) = self.listeners.get_mut(listener as usize) {
-            listener.is_full = true;
-        }
     }
 
     // Keeps the session of a client that came to the listener, as there is room for it.
@@ -221,8 +206,25 @@ impl<R: Files + Net> SocketFolder<R> {
         let begun = peer.begin(&self.registry);
         self.peers.push_reserved(peer);
         begun?;
-        self.watch_again(listener);
+        watch_at(self.listeners.as_mut_slice(), listener, &self.registry);
         Ok(Some(id))
+    }
+
+    // The next client that waits at the listener, once there is room for its session.
+    fn next_arrival(&mut self, listener: u32) -> Result<Option<Arrival>, FileFault>
+        ensures room { OnOk result (length self.new.peers.items < vec_capacity self.new.peers) }
+        ensures below { OnOk result (self.old.next + 1 < 2 ^ 64) }
+        ensures next { self.new.next ≡ self.old.next }
+        ensures faults { self.new.faults ≡ self.old.faults }
+    {
+        let Some(at) = find_listener(self.listeners.as_slice(), listener) else {
+            return Err(FileFault::Failed);
+        };
+        self.peers.reserve(1)?;
+        if self.next == u64::MAX {
+            return Err(FileFault::Failed);
+        }
+        at.accept()
     }
 
     // Accepts the next client that waits at the listener.
@@ -232,17 +234,12 @@ impl<R: Files + Net> SocketFolder<R> {
         ensures grows { self.old.next ≤ self.new.next }
         ensures faults { self.new.faults ≡ self.old.faults }
     {
-        let Some(at) = find_listener(self.listeners.as_slice(), listener) else {
-            return Err(FileFault::Failed);
-        };
-        self.peers.reserve(1)?;
-        let Some(next) = self.next.checked_add(1) else {
-            return Err(FileFault::Failed);
-        };
-        match at.accept() {
-            Ok(Some(arrival)) => self.begin_session(listener, arrival, next),
-            Ok(None) => Ok(None),
-            Err(fault) => Err(fault),
+        match self.next_arrival(listener)? {
+            Some(arrival) => {
+                let next = self.next + 1;
+                self.begin_session(listener, arrival, next)
+            }
+            None => Ok(None),
         }
     }
 
@@ -255,8 +252,42 @@ impl<R: Files + Net> SocketFolder<R> {
         if self.finds_place(listener) {
             return self.accept_next(listener);
         }
-        self.note_full(listener);
+        note_full(self.listeners.as_mut_slice(), listener);
         Ok(None)
+    }
+
+    fn read_session(&mut self, id: LinkId, into: &mut [u8]) -> LinkRead
+        requires { 0 < length into.old }
+        ensures size { FitsRead (length into.old) result }
+        ensures faults { self.new.faults ≡ self.old.faults }
+    {
+        match open_peer(&mut self.peers, id) {
+            Some(peer) => peer.read(&self.rt, self.alloc, &self.registry, into),
+            None => LinkRead::Failed,
+        }
+    }
+
+    fn write_session(&mut self, id: LinkId, bytes: &[u8]) -> LinkWrote
+        requires { 0 < length bytes.now }
+        ensures size { FitsWrite (length bytes.now) result }
+        ensures faults { self.new.faults ≡ self.old.faults }
+    {
+        match open_peer(&mut self.peers, id) {
+            Some(peer) => peer.write(&self.registry, bytes),
+            None => LinkWrote::Failed,
+        }
+    }
+}
+
+// Closes the streams of sessions that are over, but for those that bear a descriptor.
+fn close_done<R: Files>(peers: &mut Vec<Peer>, rt: &R, alloc: Global) {
+    let mut place = 0;
+    while place < peers.len() {
+        if peers[place].is_done(rt, alloc) {
+            drop(peers.remove(place));
+        } else {
+            place += 1;
+        }
     }
 }
 
@@ -264,7 +295,12 @@ impl<R: Files + Net> SocketFolder<R> {
 fn place_of(peers: &[Peer], id: LinkId) -> Option<usize>
     ensures { result ≡ position (is_session_open id) peers.now }
 {
-    peers.iter().position(|peer| peer.is_open(id))
+    for place in 0..peers.len() {
+        if peers[place].is_open(id) {
+            return Some(place);
+        }
+    }
+    None
 }
 
 // A session that isn't over.
@@ -305,26 +341,20 @@ impl<R: Files + Net> Links for SocketFolder<R> {
             Err(_) => Accepted::Failed,
         };
         if matches!(answer, Accepted::Memory | Accepted::Failed) {
-            self.note_full(listener);
+            note_full(self.listeners.as_mut_slice(), listener);
         }
         self.count(matches!(answer, Accepted::Failed));
         answer
     }
 
     fn read(&mut self, id: LinkId, into: &mut [u8]) -> LinkRead {
-        let answer = match open_peer(&mut self.peers, id) {
-            Some(peer) => peer.read(&self.rt, self.alloc, &self.registry, into),
-            None => LinkRead::Failed,
-        };
+        let answer = self.read_session(id, into);
         self.count(matches!(answer, LinkRead::Failed));
         answer
     }
 
     fn write(&mut self, id: LinkId, bytes: &[u8]) -> LinkWrote {
-        let answer = match open_peer(&mut self.peers, id) {
-            Some(peer) => peer.write(&self.registry, bytes),
-            None => LinkWrote::Failed,
-        };
+        let answer = self.write_session(id, bytes);
         self.count(matches!(answer, LinkWrote::Failed));
         answer
     }
@@ -333,7 +363,7 @@ impl<R: Files + Net> Links for SocketFolder<R> {
         if let Some(peer) = open_peer(&mut self.peers, id) {
             peer.end(&self.registry);
         }
-        self.close_done();
+        close_done(&mut self.peers, &self.rt, self.alloc);
         watch_full(self.listeners.as_mut_slice(), &self.registry);
     }
 
