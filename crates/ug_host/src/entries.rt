@@ -18,7 +18,12 @@ const MOST: usize = 2_147_483_647;
 fn has_name(names: &[Text], name: &[u8]) -> bool
     ensures { result ≡ list_any (λ n. pointwise nat_eq n name.now) names.now }
 {
-    names.iter().any(|n| n.bytes() == name)
+    for known in names {
+        if known.bytes() == name {
+            return true;
+        }
+    }
+    false
 }
 
 // A name more. One that stands there already is a failure.

@@ -26,17 +26,16 @@ fn add_device<R: Files + Drop>(
     Ok(())
 }
 
-/// The entries of the folder that are names of devices.
-fn read_names<R: Files + AllocGlobal + Clone + Drop>(
+/// Adds the entries of the folder that are names of devices.
+fn add_names<R: Files + AllocGlobal + Clone + Drop>(
     rt: &R,
+    names: &mut Vec<NodeName>,
     folder: &str,
-) -> Result<Vec<NodeName>, FileFault> {
-    let entries = fs::read_dir(rt, folder)?;
-    let mut names = Vec::new(rt.alloc());
-    for entry in entries {
-        add_device(&mut names, entry)?;
+) -> Result<(), FileFault> {
+    for entry in fs::read_dir(rt, folder)? {
+        add_device(names, entry)?;
     }
-    Ok(names)
+    Ok(())
 }
 
 /// Whether no two names are the same.
@@ -52,19 +51,27 @@ fn are_apart(names: &[NodeName]) -> bool
     true
 }
 
-/// The names of all devices in the folder. More than a kernel can have, or one name twice, is a failure.
-pub fn list_devices<R: Files + AllocGlobal + Clone + Drop>(rt: &R, folder: &str) -> Listing
+/// The names in their order. More than a kernel can have, or one name twice, is a failure.
+fn listing_of(mut names: Vec<NodeName>) -> Listing
     ensures few { HasFew result }
     ensures distinct { AreDistinct result }
 {
-    let mut names = match read_names(rt, folder) {
-        Ok(names) => names,
-        Err(FileFault::Memory) => return Listing::Memory,
-        Err(_) => return Listing::Failed,
-    };
     sort_names(&mut names);
     if names.len() > MAX_DEVICES || !are_apart(names.as_slice()) {
         return Listing::Failed;
     }
     Listing::Names(List::from_vec(names))
+}
+
+/// The names of all devices in the folder.
+pub fn list_devices<R: Files + AllocGlobal + Clone + Drop>(rt: &R, folder: &str) -> Listing
+    ensures few { HasFew result }
+    ensures distinct { AreDistinct result }
+{
+    let mut names = Vec::new(rt.alloc());
+    match add_names(rt, &mut names, folder) {
+        Ok(()) => listing_of(names),
+        Err(FileFault::Memory) => Listing::Memory,
+        Err(_) => Listing::Failed,
+    }
 }

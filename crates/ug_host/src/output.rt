@@ -102,7 +102,15 @@ pub struct JournalOutput {
 }
 
 fn is_sweep(line: &[u8]) -> bool {
-    line.starts_with(EVENT) && line.windows(7).any(|word| word == b" sweep ".as_slice())
+    if !line.starts_with(EVENT) {
+        return false;
+    }
+    for word in line.windows(7) {
+        if word == b" sweep ".as_slice() {
+            return true;
+        }
+    }
+    false
 }
 
 impl JournalOutput {
