@@ -2,11 +2,11 @@
 ghost use Rattle.std.specs.Prelude.{◌≡◌, ◌⊎◌, IfOk};
 ghost use Rattle.ug_kernel.specs.Called.{read_of, within_limit, text_within};
 ghost use Rattle.ug_sysfs.specs.Living.{name_at, names_at_places};
-ghost use Rattle.ug_sysfs.specs.World.{live_held, with_file};
+ghost use Rattle.ug_sysfs.specs.World.{live_held, probed_at, read_at, with_file};
 ghost use Rattle.ug_kernel.specs.Kernel.{has_file};
 
 use std::alloc::Global;
-use ug_kernel::{Attr, Control, Device, HeldFile, ReadOut};
+use ug_kernel::{Attr, Control, Device, HeldFile, Probe, ReadOut};
 use ug_types::{List, NoMemory, NodeName, Text};
 
 // The name of the device at a place, where it is live.
@@ -58,8 +58,8 @@ fn read_text(alloc: Global, text: &Option<Text>) -> ReadOut
     }
 }
 
-/// What a file of a device has.
-pub fn read_file(alloc: Global, device: &Device, attr: Attr) -> ReadOut
+// What a file of a device has.
+fn read_file(alloc: Global, device: &Device, attr: Attr) -> ReadOut
     ensures { (result ≡ read_of attr device.now) ⊎ (result ≡ ReadOut.Memory) }
 {
     match attr {
@@ -67,6 +67,32 @@ pub fn read_file(alloc: Global, device: &Device, attr: Attr) -> ReadOut
         Attr::Product => read_text(alloc, &device.product),
         Attr::Serial => read_text(alloc, &device.serial),
         Attr::Connect => read_text(alloc, &device.connect),
+    }
+}
+
+/// What a file of the device at a place has.
+pub fn read_at(alloc: Global, devices: &[Device], place: Option<usize>, attr: Attr) -> ReadOut
+    ensures { (result ≡ read_at attr place devices.now) ⊎ (result ≡ ReadOut.Memory) }
+{
+    match place {
+        Some(i) => match devices.get(i) {
+            Some(device) => read_file(alloc, device, attr),
+            None => ReadOut::Absent,
+        },
+        None => ReadOut::Absent,
+    }
+}
+
+/// What the device at a place answers to a probe.
+pub fn probed_at(devices: &[Device], place: Option<usize>) -> Probe
+    ensures { result ≡ probed_at place devices.now }
+{
+    match place {
+        Some(i) => match devices.get(i) {
+            Some(device) => Probe::Alive(device.on),
+            None => Probe::Gone,
+        },
+        None => Probe::Gone,
     }
 }
 

@@ -4,11 +4,13 @@ ghost use Rattle.ug_types.specs.Elements.{AllDistinct};
 ghost use Rattle.ug_iface.specs.Bus.{ungone_of};
 ghost use Rattle.ug_iface.specs.Calls.{AllOf};
 ghost use Rattle.ug_sysfs.specs.Interfaces.{is_of, has_iface_numbers, is_iface, iface_place, can_add, added_to, with_iface_gone, with_iface_off, iface_names};
+ghost use Rattle.ug_sysfs.specs.Serving.{iface_probed, iface_read};
 
 use crate::script::NewIface;
 use std::alloc::Global;
 use std::marker::Model;
-use ug_iface::{IfaceName, Interface};
+use ug_iface::{IfaceName, IfaceRead, Interface};
+use ug_kernel::Probe;
 use ug_types::{List, NoMemory, NodeName};
 
 /// At most so many interfaces of one device aren't gone.
@@ -137,6 +139,32 @@ impl Interfaces {
     }
 }
 
+/// What the file of the interface at a place has.
+pub fn iface_read(interfaces: &[Interface], place: Option<usize>) -> IfaceRead
+    ensures { result ≡ iface_read place interfaces.now }
+{
+    match place {
+        Some(place) => match interfaces.get(place) {
+            Some(interface) => IfaceRead::Is(interface.triple),
+            None => IfaceRead::Absent,
+        },
+        None => IfaceRead::Absent,
+    }
+}
+
+/// What the interface at a place answers to a probe.
+pub fn iface_probed(interfaces: &[Interface], place: Option<usize>) -> Probe
+    ensures { result ≡ iface_probed place interfaces.now }
+{
+    match place {
+        Some(place) => match interfaces.get(place) {
+            Some(interface) => Probe::Alive(interface.on),
+            None => Probe::Gone,
+        },
+        None => Probe::Gone,
+    }
+}
+
 // An interface of that device that isn't gone.
 fn is_of(x: &Interface, device: usize) -> bool
     ensures { result ≡ is_of device x.now }
@@ -157,7 +185,6 @@ fn is_iface(x: &Interface, device: usize, config: u8, number: u8) -> bool
 }
 
 // How many interfaces of a device aren't gone.
-#[tactic(auto, using(crate::proofs::Ungone::ungone_le))]
 fn count_of(interfaces: &[Interface], device: usize) -> usize
     ensures { result ≡ ungone_of device interfaces.now }
 {

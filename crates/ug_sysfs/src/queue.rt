@@ -74,7 +74,7 @@ impl Queue {
         let at = place_for(&self.moves, &action);
         match self.moves.insert(at, action) {
             Ok(()) => Ok(()),
-            Err(_) => Err(NoMemory),
+            Err(refused) => Err(NoMemory::from(refused)),
         }
     }
 }

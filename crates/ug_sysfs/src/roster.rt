@@ -70,7 +70,6 @@ impl Roster {
         Ok(())
     }
 
-    #[tactic(auto, using(crate::proofs::Kept::live_le))]
     pub fn push(&mut self, device: Device)
         requires room { 0 < self.old.room }
         requires live { device.gone ≡ false }

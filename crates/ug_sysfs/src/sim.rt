@@ -8,16 +8,15 @@ ghost use Rattle.ug_sysfs.specs.Law.{does_what_it_may, begins_afresh};
 ghost use Rattle.ug_sysfs.specs.Queue.{with_move};
 ghost use Rattle.ug_sysfs.specs.Noted.{notes_itself, begins_empty};
 ghost use Rattle.ug_sysfs.specs.Serving.{left};
-ghost use Rattle.ug_sysfs.specs.World.{halting, carried, Gives, Effects, RunsOut, PutsWrite, Ends, Enters, event_begun, over, fate_of, failure_counted, told};
+ghost use Rattle.ug_sysfs.specs.World.{halting, carried, Gives, Effects, RunsOut, PutsWrite, Ends, Enters, event_begun, over, fate_of, failure_counted, live_held, told};
 
 mod iface_calls;
 
 use crate::census::Census;
-use crate::devices::{live_held, read_file, with_file};
+use crate::devices::{live_held, probed_at, read_at, with_file};
 use crate::failures::Failures;
 use crate::interfaces::Interfaces;
 use crate::kinds::{kind_of_listing, kind_of_opened, kind_of_probe, kind_of_read, kind_of_wrote};
-use crate::parent::plug;
 use crate::queue::Queue;
 use crate::schedule::{carry_out, happen, happen_all, make_room, one_more};
 use crate::script::{Failing, Move, NewDevice, Scheduled};
@@ -115,7 +114,6 @@ impl SimKernel {
     pub fn discard(self) {}
 
     /// A device is born. Nothing happens if its name is live, if its parent isn't, or if 65,536 devices are.
-    #[tactic(auto, using(crate::proofs::Plugs::plugs_le))]
     pub fn plug(&mut self, device: NewDevice) -> Result<(), NoMemory>
         ensures ok { OnOk result
             (self.new
@@ -125,9 +123,7 @@ impl SimKernel {
             }) }
         ensures err { OnErr result (self.new ≡ self.old) }
     {
-        self.census.reserve(self.moves.len().saturating_add(1))?;
-        plug(&mut self.census, device);
-        Ok(())
+        self.carry_out(Move::Plug(device))
     }
 
     /// What the kernel does by itself: a device is born, as by `plug`, or goes; or an interface comes or goes.
@@ -135,9 +131,16 @@ impl SimKernel {
         ensures ok { OnOk result (self.new ≡ carried action self.old) }
         ensures err { OnErr result (self.new ≡ self.old) }
     {
-        make_room(&mut self.census, &mut self.interfaces, &self.moves, &action)?;
-        carry_out(&mut self.census, &mut self.interfaces, action);
-        Ok(())
+        match make_room(&mut self.census, &mut self.interfaces, &self.moves, &action) {
+            Ok(()) => {
+                carry_out(&mut self.census, &mut self.interfaces, action);
+                Ok(())
+            }
+            Err(refused) => {
+                action.discard();
+                Err(refused)
+            }
+        }
     }
 
     /// The live device of that name goes, and what is below it.
@@ -160,12 +163,17 @@ impl SimKernel {
         }) }
         ensures err { OnErr result (self.new ≡ self.old) }
     {
-        make_room(&mut self.census, &mut self.interfaces, &self.moves, &action)?;
-        self.moves.put_in(Scheduled {
-            call,
-            after,
-            action,
-        })
+        match make_room(&mut self.census, &mut self.interfaces, &self.moves, &action) {
+            Ok(()) => self.moves.put_in(Scheduled {
+                call,
+                after,
+                action,
+            }),
+            Err(refused) => {
+                action.discard();
+                Err(refused)
+            }
+        }
     }
 
     /// A call that is to fail. A write then has its effect, or not. The last word on a call counts.
@@ -176,8 +184,7 @@ impl SimKernel {
             { fails = self.old.fails ++ record { call = call; effect = effect } ∷ [] }) }
         ensures err { OnErr result (self.new ≡ self.old) }
     {
-        self.fails.push(Failing { call, effect })?;
-        Ok(())
+        self.fails.push(Failing { call, effect })
     }
 
     /// What is still scheduled happens, and no call is to fail any more.
@@ -348,14 +355,15 @@ impl SimKernel {
     {
         match self.fate() {
             Some(_) => ReadOut::Failed,
-            None => match self.census.find(name) {
-                Some(i) => match self.census.devices().get(i) {
-                    Some(device) => read_file(alloc, device, attr),
-                    None => ReadOut::Absent,
-                },
-                None => ReadOut::Absent,
-            },
+            None => read_at(alloc, self.census.devices(), self.census.find(name), attr),
         }
+    }
+
+    // The device of a held file, unless it is gone.
+    fn held_device(&self, held: Held) -> Option<usize>
+        ensures { result ≡ live_held held.0 self.now.kernel.held self.now.kernel.devices }
+    {
+        live_held(self.census.devices(), &self.held, held.0 as usize)
     }
 
     fn probe_now(&mut self, held: Held) -> Probe
@@ -363,13 +371,7 @@ impl SimKernel {
     {
         match self.fate() {
             Some(_) => Probe::Failed,
-            None => match live_held(self.census.devices(), &self.held, held.0 as usize) {
-                Some(i) => match self.census.devices().get(i) {
-                    Some(device) => Probe::Alive(device.on),
-                    None => Probe::Gone,
-                },
-                None => Probe::Gone,
-            },
+            None => probed_at(self.census.devices(), self.held_device(held)),
         }
     }
 
@@ -378,7 +380,7 @@ impl SimKernel {
         ensures { MatchOption result (RunsOut self.old self.new)
             (λ reply. PutsWrite self.old held.0 write reply self.new) }
     {
-        match live_held(self.census.devices(), &self.held, held.0 as usize) {
+        match self.held_device(held) {
             Some(device) => match self.log.push(Effect { device, write }) {
                 Ok(_) => {
                     self.census.switch(device, write);

@@ -9,7 +9,8 @@ ghost use Rattle.ug_sysfs.specs.World.{RunsOut};
 
 use super::SimKernel;
 use crate::beside::{find_iface, live_iface};
-use crate::devices::live_held;
+use crate::devices::probed_at;
+use crate::interfaces::{iface_probed, iface_read};
 use crate::schedule::one_more;
 use std::alloc::Global;
 use ug_iface::{IfaceHeld, IfaceListing, IfaceName, IfaceOpened, IfaceRead, Ifaces};
@@ -58,13 +59,10 @@ impl SimKernel {
     {
         match self.fate() {
             Some(_) => IfaceRead::Failed,
-            None => match find_iface(&self.census, &self.interfaces, name) {
-                Some(place) => match self.interfaces.as_slice().get(place) {
-                    Some(interface) => IfaceRead::Is(interface.triple),
-                    None => IfaceRead::Absent,
-                },
-                None => IfaceRead::Absent,
-            },
+            None => iface_read(
+                self.interfaces.as_slice(),
+                find_iface(&self.census, &self.interfaces, name),
+            ),
         }
     }
 
@@ -73,13 +71,7 @@ impl SimKernel {
     {
         match self.fate() {
             Some(_) => Probe::Failed,
-            None => match live_held(self.census.devices(), &self.held, held.0 as usize) {
-                Some(i) => match self.census.devices().get(i) {
-                    Some(device) => Probe::Alive(device.on),
-                    None => Probe::Gone,
-                },
-                None => Probe::Gone,
-            },
+            None => probed_at(self.census.devices(), self.held_device(held)),
         }
     }
 
@@ -100,13 +92,7 @@ impl SimKernel {
     {
         match self.fate() {
             Some(_) => Probe::Failed,
-            None => match self.held_iface(held) {
-                Some(place) => match self.interfaces.as_slice().get(place) {
-                    Some(interface) => Probe::Alive(interface.on),
-                    None => Probe::Gone,
-                },
-                None => Probe::Gone,
-            },
+            None => iface_probed(self.interfaces.as_slice(), self.held_iface(held)),
         }
     }
 

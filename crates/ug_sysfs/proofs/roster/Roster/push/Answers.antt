@@ -5,7 +5,7 @@ use Rattle.std.specs.Cmp.Lexicographic.{pointwise}
 use Rattle.std.specs.HashMap.{get}
 use Rattle.ug_sysfs.specs.Listed.{Listed}
 use Rattle.ug_sysfs.specs.Devices.{find}
-use Rattle.ug_sysfs.proofs.Kept.{indexed_born}
+use Rattle.ug_sysfs.proofs.Kept.{indexed_born, live_le}
 use Rattle.ug_sysfs.proofs.roster.Roster.push.Goals as goal
 
 on_ok : {T E : Type 0} (r : Result T E) (P : Type 0) → IsOk r → OnOk r P → P
@@ -21,3 +21,6 @@ invariant_of-self c =
     indexed_born c.self.inside _ c.args.device c.self.invariant room c.requires.live fresh
     (λ q. u.0 q ∙ ap (λ (k : ℕ). cond (pointwise nat_eq c.args.device.name q) (Some k) (get (pointwise nat_eq) c.self.inside.index q)) place)
     c.push_reserved.ensures.items (omega arith) c.push_reserved.ensures.capacity c.insert.ensures.spare (omega arith)
+
+pub overflow_add-self : goal.overflow_add-self
+overflow_add-self c = omega (arith, c.self.invariant.live, live_le c.self.inside.all.items)
