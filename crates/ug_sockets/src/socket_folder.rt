@@ -1,5 +1,5 @@
 // The daemon's sockets in a folder of this machine.
-ghost use Rattle.std.specs.Prelude.{◌≡◌, ◌<◌, ◌≤◌, ◌+◌, ◌-◌, ◌^◌, ◌++◌, ◌∷◌, [], length, map, position, true, None, IfOk, OnOk, IfSome, vec_capacity};
+ghost use Rattle.std.specs.Prelude.{◌≡◌, ◌<◌, ◌≤◌, ◌+◌, ◌-◌, ◌^◌, ◌++◌, ◌∷◌, [], length, map, position, true, None, IfOk, IfSome, vec_capacity};
 ghost use Rattle.ug_types.specs.Ends.{IsCounted, Rose};
 ghost use Rattle.ug_links.specs.Steps.{FitsRead, FitsWrite};
 ghost use Rattle.ug_sockets.specs.Sockets.{is_session_open};
@@ -111,22 +111,6 @@ impl<R: Files + Net> SocketFolder<R> {
         Ok(number)
     }
 
-    // A socket for the principal in the folder, and room for its listener.
-    fn make_socket(
-        &mut self,
-        alloc: Global,
-        principal: &Principal,
-    ) -> Result<UnixListener, FileFault>
-        ensures room { OnOk result (length self.new.listeners.items < vec_capacity self.new.listeners) }
-        ensures listeners { self.new.listeners.items ≡ self.old.listeners.items }
-        ensures faults { self.new.faults ≡ self.old.faults }
-    {
-        let folder = self.folder.as_str();
-        let path = path_of(alloc, folder, principal)?;
-        self.listeners.reserve(1)?;
-        listen_told(&self.rt, alloc, folder, path, &mut self.last)
-    }
-
     fn listen_for(&mut self, alloc: Global, principal: &Principal) -> Result<u32, FileFault>
         ensures number { IfOk result (λ number. number ≡ length self.old.listeners.items) }
         ensures listener { IfOk result (λ number.
@@ -137,7 +121,10 @@ impl<R: Files + Net> SocketFolder<R> {
         let Ok(number) = u32::try_from(self.listeners.len()) else {
             return Err(FileFault::Failed);
         };
-        let socket = self.make_socket(alloc, principal)?;
+        let folder = self.folder.as_str();
+        let path = path_of(alloc, folder, principal)?;
+        self.listeners.reserve(1)?;
+        let socket = listen_told(&self.rt, alloc, folder, path, &mut self.last)?;
         self.begin_listener(number, principal, socket)
     }
 
@@ -210,23 +197,6 @@ impl<R: Files + Net> SocketFolder<R> {
         Ok(Some(id))
     }
 
-    // The next client that waits at the listener, once there is room for its session.
-    fn next_arrival(&mut self, listener: u32) -> Result<Option<Arrival>, FileFault>
-        ensures room { OnOk result (length self.new.peers.items < vec_capacity self.new.peers) }
-        ensures below { OnOk result (self.old.next + 1 < 2 ^ 64) }
-        ensures next { self.new.next ≡ self.old.next }
-        ensures faults { self.new.faults ≡ self.old.faults }
-    {
-        let Some(at) = find_listener(self.listeners.as_slice(), listener) else {
-            return Err(FileFault::Failed);
-        };
-        self.peers.reserve(1)?;
-        if self.next == u64::MAX {
-            return Err(FileFault::Failed);
-        }
-        at.accept()
-    }
-
     // Accepts the next client that waits at the listener.
     fn accept_next(&mut self, listener: u32) -> Result<Option<LinkId>, FileFault>
         ensures above { IfOk result (λ found. IfSome found (λ id. id.0 ≡ self.old.next)) }
@@ -234,12 +204,17 @@ impl<R: Files + Net> SocketFolder<R> {
         ensures grows { self.old.next ≤ self.new.next }
         ensures faults { self.new.faults ≡ self.old.faults }
     {
-        match self.next_arrival(listener)? {
-            Some(arrival) => {
-                let next = self.next + 1;
-                self.begin_session(listener, arrival, next)
-            }
-            None => Ok(None),
+        let Some(at) = find_listener(self.listeners.as_slice(), listener) else {
+            return Err(FileFault::Failed);
+        };
+        self.peers.reserve(1)?;
+        let Some(next) = self.next.checked_add(1) else {
+            return Err(FileFault::Failed);
+        };
+        match at.accept() {
+            Ok(Some(arrival)) => self.begin_session(listener, arrival, next),
+            Ok(None) => Ok(None),
+            Err(fault) => Err(fault),
         }
     }
 
@@ -254,28 +229,6 @@ impl<R: Files + Net> SocketFolder<R> {
         }
         note_full(self.listeners.as_mut_slice(), listener);
         Ok(None)
-    }
-
-    fn read_session(&mut self, id: LinkId, into: &mut [u8]) -> LinkRead
-        requires { 0 < length into.old }
-        ensures size { FitsRead (length into.old) result }
-        ensures faults { self.new.faults ≡ self.old.faults }
-    {
-        match open_peer(&mut self.peers, id) {
-            Some(peer) => peer.read(&self.rt, self.alloc, &self.registry, into),
-            None => LinkRead::Failed,
-        }
-    }
-
-    fn write_session(&mut self, id: LinkId, bytes: &[u8]) -> LinkWrote
-        requires { 0 < length bytes.now }
-        ensures size { FitsWrite (length bytes.now) result }
-        ensures faults { self.new.faults ≡ self.old.faults }
-    {
-        match open_peer(&mut self.peers, id) {
-            Some(peer) => peer.write(&self.registry, bytes),
-            None => LinkWrote::Failed,
-        }
     }
 }
 
@@ -348,13 +301,19 @@ impl<R: Files + Net> Links for SocketFolder<R> {
     }
 
     fn read(&mut self, id: LinkId, into: &mut [u8]) -> LinkRead {
-        let answer = self.read_session(id, into);
+        let answer = match open_peer(&mut self.peers, id) {
+            Some(peer) => peer.read(&self.rt, self.alloc, &self.registry, into),
+            None => LinkRead::Failed,
+        };
         self.count(matches!(answer, LinkRead::Failed));
         answer
     }
 
     fn write(&mut self, id: LinkId, bytes: &[u8]) -> LinkWrote {
-        let answer = self.write_session(id, bytes);
+        let answer = match open_peer(&mut self.peers, id) {
+            Some(peer) => peer.write(&self.registry, bytes),
+            None => LinkWrote::Failed,
+        };
         self.count(matches!(answer, LinkWrote::Failed));
         answer
     }
