@@ -105,10 +105,6 @@ pub due_order : (listed : Bool) (names : List (List ℕ)) → AreInOrder names �
 due_order true names o = o
 due_order false names o = tt
 
-pub due_few : (listed : Bool) (names : List (List ℕ)) → length (names_due listed names) ≤ length names
-due_few true names = omega arith
-due_few false names = omega arith
-
 -- ---- what a piece leaves of the daemon
 
 pub met_judge : (piece : List ℕ) (d e : DaemonState) → MeetsPiece piece d e → e.sweep.judge ≡ d.sweep.judge

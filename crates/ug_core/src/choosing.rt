@@ -112,8 +112,9 @@ fn one_line(alloc: Global, line: &[u8]) -> Result<List<Text>, NoMemory>
     ensures lines { IfOk result (λ lines. lines ≡ line.now ∷ []) }
     ensures whole { IsLine line.now → IfOk result (λ lines. AreLines lines) }
 {
+    let text = Text::of(alloc, line)?;
     let mut lines = List::new(alloc);
-    lines.push(Text::of(alloc, line)?)?;
+    lines.push(text)?;
     Ok(lines)
 }
 

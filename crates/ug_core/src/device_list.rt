@@ -1,5 +1,5 @@
 // The list of devices.
-ghost use Rattle.std.specs.Prelude.{◌≡◌, IfOk, option_copied};
+ghost use Rattle.std.specs.Prelude.{◌≡◌, ◌++◌, ◌∷◌, [], IfOk, OnOk, option_copied};
 ghost use Rattle.ug_lines.specs.Splitting.{IsLine, AreLines};
 ghost use Rattle.ug_core.specs.DeviceRows.{IsFirstFrom, device_row, device_rows, device_text};
 
@@ -24,15 +24,16 @@ fn print_device(
     }
 }
 
+// Puts the row of a standing behind the others.
 #[tactic(auto, unfolding(crate::specs::DeviceRows::device_row))]
-fn print_device_row(alloc: Global, s: &Standing) -> Result<Text, NoMemory>
-    ensures row { IfOk result (λ row. row ≡ device_row s.now) }
-    ensures one_line { IfOk result (λ row. IsLine row) }
+fn push_device_row(alloc: Global, s: &Standing, rows: &mut List<Text>) -> Result<(), NoMemory>
+    ensures row { OnOk result (rows.new ≡ rows.old ++ device_row s.now ∷ []) }
+    ensures one_line { OnOk result (IsLine (device_row s.now)) }
 {
     let text = print_device(alloc, &s.name, &s.judged, s.verdict)?;
     let row = print_row(alloc, s.number, text.bytes());
     drop(text);
-    Ok(Text::from_vec(row?))
+    rows.push(Text::from_vec(row?))
 }
 
 // The standing with the least number from that one on.
@@ -56,7 +57,7 @@ pub fn list_devices(alloc: Global, table: &Table) -> Result<List<Text>, NoMemory
     let _next = table.next_number();
     let mut from = 0;
     while let Some(s) = standing_from(table, from) {
-        rows.push(print_device_row(alloc, s)?)?;
+        push_device_row(alloc, s, &mut rows)?;
         from = s.number + 1;
     }
     Ok(rows)
