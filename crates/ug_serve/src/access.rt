@@ -1,5 +1,7 @@
 // Who may do what, and for whom is listened: the access files, and the users and groups of the settings.
 ghost use Rattle.std.specs.Prelude.{◌≡◌, ◌≤◌, ◌<◌, ◌^◌, [], ◌∷◌, ◌++◌, length, IfOk, OnOk, Err};
+ghost use Rattle.std.specs.Cmp.Lexicographic.{slice_cmp};
+ghost use Rattle.std.specs.Ordering.{nat_cmp};
 ghost use Rattle.ug_types.specs.Ends.{IsCounted, Rose};
 ghost use Rattle.ug_types.specs.Principals.{principal_of, principal_text};
 ghost use Rattle.ug_acl.specs.Acls.{addition};
@@ -11,6 +13,7 @@ ghost use Rattle.ug_serve.specs.declared.not_started.NotStarted.TheVariants.{Dis
 use crate::listed::list_in_order;
 use crate::not_started::NotStarted;
 use std::alloc::Global;
+use std::cmp::Ordering;
 use ug_acl::{Acl, Grants, parse_access, parse_file_name};
 use ug_audit::ConfigPart;
 use ug_conf::{ConfFiles, FileRead, FolderRead, Settings};
@@ -141,12 +144,18 @@ fn add_files<F: ConfFiles>(
     Ok(())
 }
 
+fn compare_texts(a: &Text, b: &Text) -> Ordering
+    ensures { result ≡ slice_cmp nat_cmp a.now b.now }
+{
+    a.bytes().cmp(b.bytes())
+}
+
 /// The names in byte order.
 pub fn in_byte_order(names: List<Text>) -> Vec<Text>
     ensures { AreInByteOrder names result.items }
 {
     let mut names = names.into_vec();
-    names.sort_unstable_by(|a, b| a.bytes().cmp(b.bytes()));
+    names.sort_unstable_by(compare_texts);
     names
 }
 

@@ -120,12 +120,18 @@ fn read_files<F: ConfFiles>(
     Ok(gathered.files)
 }
 
+fn counts(name: &Text) -> bool
+    ensures { result ≡ is_rule_file_name name.now }
+{
+    is_rule_file_name(name.bytes())
+}
+
 /// The names that count.
 fn counting(names: List<Text>) -> List<Text>
     ensures { result ≡ filter is_rule_file_name names }
 {
     let mut names = names.into_vec();
-    names.retain(|name| is_rule_file_name(name.bytes()));
+    names.retain(counts);
     List::from_vec(names)
 }
 

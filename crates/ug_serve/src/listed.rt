@@ -1,10 +1,13 @@
 // Users and groups, each once, in byte order.
 ghost use Rattle.std.specs.Prelude.{◌≡◌, ◌<◌, ◌^◌, length, IfOk, OnOk};
+ghost use Rattle.std.specs.Cmp.Lexicographic.{slice_cmp};
 ghost use Rattle.std.specs.List.Sorted.{IsPermutation};
+ghost use Rattle.std.specs.Ordering.{nat_cmp};
 ghost use Rattle.ug_types.specs.Principals.{principal_text};
 ghost use Rattle.ug_serve.specs.Access.{AreListed, AreOnce, IsInByteOrder, with_new};
 
 use std::alloc::Global;
+use std::cmp::Ordering;
 use ug_types::{Line, List, NoMemory, Principal};
 
 fn push_new(principals: &mut Vec<Principal>, who: &Principal) -> Result<(), NoMemory>
@@ -26,13 +29,19 @@ fn list_once(alloc: Global, added: &[Principal]) -> Result<Vec<Principal>, NoMem
     Ok(principals)
 }
 
+fn compare_names(a: &Principal, b: &Principal) -> Ordering
+    ensures { result ≡ slice_cmp nat_cmp (principal_text a.now) (principal_text b.now) }
+{
+    Line::naming(a).bytes().cmp(Line::naming(b).bytes())
+}
+
 fn sort(principals: Vec<Principal>) -> List<Principal>
     ensures all { IsPermutation principals.items result }
     ensures len { length result ≡ length principals.items }
     ensures in_order { IsInByteOrder principal_text result }
 {
     let mut principals = principals;
-    principals.sort_unstable_by(|a, b| Line::naming(a).bytes().cmp(Line::naming(b).bytes()));
+    principals.sort_unstable_by(compare_names);
     List::from_vec(principals)
 }
 
