@@ -7,6 +7,14 @@ use Rattle.ug_links.specs.declared.waiter.Ready.{Ready}
 use Rattle.ug_types.specs.Told.{GrowsBy}
 use Rattle.ug_links.specs.Waits.{Waited, Tokens, wait_tokens}
 use Rattle.ug_kernel.specs.Kernel.{Kernel, IsKernel}
+use Rattle.ug_kernel.specs.Calls.{Call, Answer}
+use Rattle.ug_kernel.specs.Called.{Follows}
+use Rattle.ug_kernel.specs.Tree.{Runs, calls}
+use Rattle.ug_kernel.proofs.Told.{told_run}
+use Rattle.ug_kernel.proofs.Grow.{some_same}
+use Rattle.ug_core.specs.Event.{handling}
+use Rattle.ug_told_laws.specs.Told.{AllStagesRun, RunsKeepTold}
+use Rattle.ug_told_laws.proofs.Stages.{keep_told}
 use Rattle.ug_kernel.proofs.Stayed.{unmoving}
 use Rattle.ug_kernel.specs.declared.sysfs.Sysfs
 use Rattle.ug_audit.specs.declared.entry.Entry.{Entry}
@@ -77,15 +85,17 @@ record IsChained (events : List TurnEvent) (k : Kernel) (o : Option Disk) (d : D
   entries_are : journal hs ≡ without_drops (events_entries events)
   chain : Chain k o d hs l p e
   readable : AllReadable hs
+  stages : AllStagesRun hs
 
 chained_more : (x : TurnEvent) (xs : List TurnEvent) (tried : Option Saved) (k : Kernel) (o : Option Disk) (d : DaemonState) (became : Stored) (j : Kernel) (a : DaemonState) (m : Kernel) (n : Option Disk) (b : DaemonState) (l : Kernel) (p : Option Disk) (e : DaemonState)
-    → b.sweep.entries ≡ without_drops x.entries → AnswersEvent x.event k (ready x.event tried d) became j a → Handled j a m b → KeepsFile (λ (y : Option Disk). y) x.event tried became o d n b → IsSaveable d.sweep.judge.rules → WritesEvent x.event d became → IsSaveable b.sweep.judge.rules → TriesSave x.event tried became d b → IsChained xs m n b l p e → IsChained (x ∷ xs) k o d l p e
-chained_more x xs tried k o d became j a m n b l p e is answers handled file saves writes saves_after tries c = record {
+    → b.sweep.entries ≡ without_drops x.entries → AnswersEvent x.event k (ready x.event tried d) became j a → Handled j a m b → KeepsFile (λ (y : Option Disk). y) x.event tried became o d n b → IsSaveable d.sweep.judge.rules → WritesEvent x.event d became → IsSaveable b.sweep.judge.rules → TriesSave x.event tried became d b → IsKernel j → Stand j a.sweep.standings a.sweep.next → Runs calls j (handling a) b m → IsChained xs m n b l p e → IsChained (x ∷ xs) k o d l p e
+chained_more x xs tried k o d became j a m n b l p e is answers handled file saves writes saves_after tries sound stand runs c = record {
   hs = record { event = x.event; tried = tried; kernel = k; disk = o; before = d; became = became; kernel_answered = j; answered = a; kernel_after = m; disk_after = n; after = b } ∷ c.hs;
   events_are = ap (λ (es : List Event). x.event ∷ es) c.events_are;
   entries_are = ap (λ (es : List Entry). b.sweep.entries ++ es) c.entries_are ∙ (ap (λ (es : List Entry). es ++ without_drops (events_entries xs)) is ∙ sym (drops_append x.entries (events_entries xs)));
   chain = (unmoving k, rests o, refl, record { answers = answers; handled = handled; file = file; saves = tries }, c.chain);
   readable = (record { before = saves; written = writes; after = saves_after }, c.readable);
+  stages = (record { sound = sound; stand = stand; runs = runs }, c.stages);
 }
 
 pub flat-append : {A B : Type 0} (f : A → List B) (xs ys : List A) → flat_map f (xs ++ ys) ≡ flat_map f xs ++ flat_map f ys
@@ -133,17 +143,21 @@ module _ {Y D : Type 0} (sysfs : Sysfs.Ghosts Y) (disk : RuleDisk.Ghosts D) wher
 
   -- the run of the daemon
 
-  chained : (c : Core Y D) (xs : List TurnEvent) (d : Core Y D) (l : Kernel) → AreHandled c xs d → told d.sysfs ≡ Some l
+  -- where a kernel is told after a call, the call did what it may
+  abbrev pub Did : Type 0
+  Did = (s : Y) (call : Call) (answer : Answer call) (t : Y) (l : Kernel) → sysfs.gives s call answer t → told t ≡ Some l → Follows call answer (told s) l
+
+  chained : Did → (c : Core Y D) (xs : List TurnEvent) (d : Core Y D) (l : Kernel) → AreHandled c xs d → told d.sysfs ≡ Some l
       → (k : Kernel) × (told c.sysfs ≡ Some k) × (IsKernel k → Stand k c.daemon.sweep.standings c.daemon.sweep.next → IsChained xs k (disk_told c.disk) c.daemon l (disk_told d.disk) d.daemon)
-  chained c [] d l h is = (
+  chained did c [] d l h is = (
     l,
     ap (λ (x : Core Y D). told x.sysfs) (sym h) ∙ is,
     λ sound stand.
-        record { hs = []; events_are = refl; entries_are = refl; chain = (unmoving l, subst (λ (x : Core Y D). StaysOnDisk (disk_told c.disk) (disk_told x.disk)) (sym h) (rests (disk_told c.disk)), ap (λ (x : Core Y D). x.daemon) h); readable = tt },
+        record { hs = []; events_are = refl; entries_are = refl; chain = (unmoving l, subst (λ (x : Core Y D). StaysOnDisk (disk_told c.disk) (disk_told x.disk)) (sym h) (rests (disk_told c.disk)), ap (λ (x : Core Y D). x.daemon) h); readable = tt; stages = tt },
   )
-  chained c (x ∷ xs) d l h is =
+  chained did c (x ∷ xs) d l h is =
       let m : Core Y D = h.0 in
-      let later = chained m xs d l h.2 is in
+      let later = chained did m xs d l h.2 is in
       let swept = h.1.handled.law later.0 later.1 in
       let now = h.1.handled.answers_law swept.0 swept.1 in (
         now.0,
@@ -152,8 +166,11 @@ module _ {Y D : Type 0} (sysfs : Sysfs.Ghosts Y) (disk : RuleDisk.Ghosts D) wher
             let begins_so : DaemonState = ready x.event h.1.handled.tried c.daemon in
             let answers = now.2 sound stand in
             let behind = answered_stands x.event now.0 begins_so h.1.handled.became swept.0 h.1.handled.answered sound stand answers in
+            let ran = told_run sysfs.gives told did (handling h.1.handled.answered) h.1.handled.middle m.daemon m.sysfs later.0 h.1.handled.runs later.1 in
+            let same : ran.kernel ≡ swept.0 = some_same (told h.1.handled.middle) ran.kernel swept.0 ran.was swept.1 in
+            let runs : Runs calls swept.0 (handling h.1.handled.answered) m.daemon later.0 = subst (λ (k : Kernel). Runs calls k (handling h.1.handled.answered) m.daemon later.0) same (ran.run (subst (λ (k : Kernel). IsKernel k) (sym same) behind.0)).0 in
             let handled : Handled swept.0 h.1.handled.answered later.0 m.daemon = swept.2 behind.0 behind.1 in
-            chained_more x xs h.1.handled.tried now.0 (disk_told c.disk) c.daemon h.1.handled.became swept.0 h.1.handled.answered later.0 (disk_told m.disk) m.daemon l (disk_told d.disk) d.daemon h.1.entries answers handled h.1.handled.file h.1.handled.saveable h.1.handled.written h.1.handled.saveable_after h.1.handled.saves
+            chained_more x xs h.1.handled.tried now.0 (disk_told c.disk) c.daemon h.1.handled.became swept.0 h.1.handled.answered later.0 (disk_told m.disk) m.daemon l (disk_told d.disk) d.daemon h.1.entries answers handled h.1.handled.file h.1.handled.saveable h.1.handled.written h.1.handled.saveable_after h.1.handled.saves behind.0 behind.1 runs
             (later.2 (sound_due h.1.handled.answered.due swept.0 h.1.handled.answered.sweep later.0 handled.swept handled.law).0 (stands_after swept.0 h.1.handled.answered later.0 m.daemon handled)),
       )
 
@@ -236,20 +253,20 @@ module _ {Y D : Type 0} (sysfs : Sysfs.Ghosts Y) (disk : RuleDisk.Ghosts D) wher
           let later = calls_told h.0 turns t after h.2 is in
           extends_more (links_told s.links) (links_told h.0.links) (turn.comes ++ turn.sends) (turns_calls turns) later.0 after later.1 (turn_told s turn h.0 later.0 h.1 later.1) later
 
-      run_told : (policy : Judging) (hub : Option Write) (first : ℕ) (s : TurnWorld Y D N W C) (turns : List Turned) (t : TurnWorld Y D N W C) (l : Kernel) → IsStarted policy hub first s.core.daemon → Are s turns t → told t.core.sysfs ≡ Some l
+      run_told : Did → (policy : Judging) (hub : Option Write) (first : ℕ) (s : TurnWorld Y D N W C) (turns : List Turned) (t : TurnWorld Y D N W C) (l : Kernel) → IsStarted policy hub first s.core.daemon → Are s turns t → told t.core.sysfs ≡ Some l
           → (k : Kernel) × (told s.core.sysfs ≡ Some k) × (IsKernel k → IsRunOfTurns policy hub turns k (disk_told s.core.disk) s.core.daemon l (disk_told t.core.disk) t.core.daemon)
-      run_told policy hub first s turns t l started h is =
-          let c = chained s.core (turns_events turns) t.core l (turns_handled s turns t h) is in (
+      run_told did policy hub first s turns t l started h is =
+          let c = chained did s.core (turns_events turns) t.core l (turns_handled s turns t h) is in (
             c.0,
             c.1,
             λ sound.
                 let chain = c.2 sound (stands_first policy hub first s.core.daemon c.0 started) in
-                record { happened = chain.hs; events = chain.events_are; entries = chain.entries_are; chain = chain.chain; run = is_run policy hub first c.0 (disk_told s.core.disk) s.core.daemon chain.hs l (disk_told t.core.disk) t.core.daemon started chain.chain; readable = chain.readable },
+                record { happened = chain.hs; events = chain.events_are; entries = chain.entries_are; chain = chain.chain; run = is_run policy hub first c.0 (disk_told s.core.disk) s.core.daemon chain.hs l (disk_told t.core.disk) t.core.daemon started chain.chain; readable = chain.readable; keeps = keep_told policy hub first c.0 (disk_told s.core.disk) s.core.daemon chain.hs l (disk_told t.core.disk) t.core.daemon started chain.chain chain.stages },
           )
 
-      pub turns_tell : TurnsTell sysfs disk net wait ticks
-      turns_tell policy hub first s turns t started h = record {
-        run = λ l is. run_told policy hub first s turns t l started h is;
+      pub turns_tell : Did → TurnsTell sysfs disk net wait ticks
+      turns_tell did policy hub first s turns t started h = record {
+        run = λ l is. run_told did policy hub first s turns t l started h is;
         calls = λ after is. calls_told s turns t after h is;
         tokens = λ after is. tokens_told s turns t after h is;
         moments = λ after is. moments_told s turns t after h is;

@@ -16,6 +16,7 @@ use Rattle.ug_core.specs.Policy.{Judging}
 use Rattle.ug_core.specs.Event.{DaemonState, IsStarted}
 use Rattle.ug_core.specs.Chain.{Happened, Chain, journal, IsRun}
 use Rattle.ug_core.specs.Stops.{AllReadable}
+use Rattle.ug_told_laws.specs.Told.{KeepsTold}
 use Rattle.ug_links.specs.declared.step.LinkStep.{LinkStep}
 use Rattle.ug_links.specs.Talk.{TellsSteps}
 use Rattle.ug_links.specs.declared.links.Links
@@ -33,7 +34,9 @@ turns_calls turns = flat_map (λ turn. turn.comes ++ turn.sends) turns
 
 -- The turns' events are a run of the daemon from its start, over the kernels from k to l and the
 -- disks from o to p: each write that authorises is explained by the verdict in force on the very
--- device that it reached, and the rule file is kept, in texts that can be read again.
+-- device that it reached, and the rule file is kept, in texts that can be
+-- read again. Each device that is there and that an event was told of stands as judged, or stays
+-- named.
 pub record IsRunOfTurns (policy : Judging) (hub : Option Write) (turns : List Turned)
     (k : Kernel) (o : Option Disk) (d : DaemonState)
     (l : Kernel) (p : Option Disk) (e : DaemonState) : Type 0 where
@@ -43,6 +46,7 @@ pub record IsRunOfTurns (policy : Judging) (hub : Option Write) (turns : List Tu
   pub chain : Chain k o d happened l p e
   pub run : IsRun policy hub k o happened l p e
   pub readable : AllReadable happened
+  pub keeps : KeepsTold hub happened l e.sweep.standings
 
 -- What holds of any turns that follow a start. Where the kernel is told at the end, one was told at
 -- the start, and if that is sound, the turns are a run between the two; and what links, waiter and

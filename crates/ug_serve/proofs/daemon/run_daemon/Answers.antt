@@ -37,7 +37,7 @@ returns-in-Err-Bad-clause-complete g c = λ words taken files disk links waiter.
     absurd (words none)
 
 pub returns-in-Err-Bad-clause-carries : goal.returns-in-Err-Bad-clause-carries
-returns-in-Err-Bad-clause-carries g c = turns_tell g.Y.Sysfs g.D.RuleDisk g.N.Links g.W.Waiter g.C.Clock g.met.N.Links.tells g.met.W.Waiter.tells g.met.C.Clock.tells
+returns-in-Err-Bad-clause-carries g c = turns_tell g.Y.Sysfs g.D.RuleDisk g.N.Links g.W.Waiter g.C.Clock g.met.N.Links.tells g.met.W.Waiter.tells g.met.C.Clock.tells g.met.Y.Sysfs.did
 
 pub returns-in-Err-Memory-clause-runs : goal.returns-in-Err-Memory-clause-runs
 returns-in-Err-Memory-clause-runs g c =
@@ -62,7 +62,7 @@ pub returns-in-Err-Memory-clause-complete : goal.returns-in-Err-Memory-clause-co
 returns-in-Err-Memory-clause-complete g c = λ words taken files disk links waiter. inr (inl (sym c.status.ensures))
 
 pub returns-in-Err-Memory-clause-carries : goal.returns-in-Err-Memory-clause-carries
-returns-in-Err-Memory-clause-carries g c = turns_tell g.Y.Sysfs g.D.RuleDisk g.N.Links g.W.Waiter g.C.Clock g.met.N.Links.tells g.met.W.Waiter.tells g.met.C.Clock.tells
+returns-in-Err-Memory-clause-carries g c = turns_tell g.Y.Sysfs g.D.RuleDisk g.N.Links g.W.Waiter g.C.Clock g.met.N.Links.tells g.met.W.Waiter.tells g.met.C.Clock.tells g.met.Y.Sysfs.did
 
 pub returns-clause-runs : goal.returns-clause-runs
 returns-clause-runs g c =
@@ -118,4 +118,4 @@ returns-clause-complete g c = λ words taken files disk links waiter.
     (λ e. files (c.serve.ensures.files_failed e)) (λ e. disk (c.serve.ensures.disk_failed e)) (λ e. elim (c.serve.ensures.wait_failed e) [ inl h ↦ links h | inr h ↦ waiter h ])
 
 pub returns-clause-carries : goal.returns-clause-carries
-returns-clause-carries g c = turns_tell g.Y.Sysfs g.D.RuleDisk g.N.Links g.W.Waiter g.C.Clock g.met.N.Links.tells g.met.W.Waiter.tells g.met.C.Clock.tells
+returns-clause-carries g c = turns_tell g.Y.Sysfs g.D.RuleDisk g.N.Links g.W.Waiter g.C.Clock g.met.N.Links.tells g.met.W.Waiter.tells g.met.C.Clock.tells g.met.Y.Sysfs.did

@@ -1,0 +1,9 @@
+pub mod Matching
+pub mod Devices
+pub mod Force
+pub mod Reasons
+pub mod Stories
+pub mod Growing
+pub mod Warrants
+pub mod Silence
+pub mod Defaults

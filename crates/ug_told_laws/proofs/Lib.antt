@@ -1,0 +1,4 @@
+pub mod Keeping
+pub mod Frames
+pub mod Dues
+pub mod Stages
