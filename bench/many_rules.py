@@ -13,6 +13,8 @@ programs take turns, and with the peak of memory:
           ids that have a star, and with narrow ids and a condition that asks for allowed devices. What a start with these rules takes is
           taken off
   start   replay of a script with 65,536 rules and no device
+  idle    events without any verdict, over one device, by 1 and 65,536 rules that don't ask for allowed devices. What a start with
+          these rules takes is taken off
   events  make-script and replay --summary in one pipe, by N generated events (500,000) and a tenth of them; the peaks give the bytes
           that an event leaves
 
@@ -32,6 +34,7 @@ PROGRAM = Path(__file__).resolve().parent.parent / "crates/usbguard/out/usbguard
 KEY = "120100020000004050101100000100000001"
 MANY = 65536
 ROUNDS, BUSES, PORTS = 5, 4, 250
+SWEEPS = 5000
 
 
 def used(words, text, folder):
@@ -145,6 +148,18 @@ def start(programs, runs, folder):
         tell_ratios(f"start of a replay, {MANY} rules with {label}", list(zip([name for name, _ in programs], results)))
 
 
+def idle(programs, runs, folder):
+    for name, program in programs:
+        one = None
+        for count in (1, MANY):
+            first = script(narrow(count), False)
+            texts = [first, first + "sweep 3\n" * SWEEPS]
+            (begun, _), (whole, _) = shortest(runs, [lambda text=text: used([program, "replay"], text, folder) for text in texts])
+            spent = (whole - begun) / SWEEPS
+            one = one or spent
+            print(f"{name}, an event without a verdict by {count} rules: {spent * 1e6:.1f} us, {spent / one:.2f} times that by one rule", flush=True)
+
+
 def events(programs, most, folder):
     for name, program in programs:
         peaks = []
@@ -170,7 +185,7 @@ def main():
     parser.add_argument("--original", type=Path, default=shutil.which("usbguard-rule-parser"))
     parser.add_argument("--runs", type=int, default=5)
     parser.add_argument("--events", type=int, default=500000)
-    parser.add_argument("--only", choices=["check", "judge", "start", "events"])
+    parser.add_argument("--only", choices=["check", "judge", "start", "idle", "events"])
     words = parser.parse_args()
     programs = [("this", words.program)] + ([("the version before", words.before)] if words.before else [])
     for name, program in programs + ([("the original", words.original)] if words.original else []):
@@ -181,6 +196,7 @@ def main():
             "check": lambda: check(programs, words.original, words.runs, folder),
             "judge": lambda: judge(programs, words.runs, folder),
             "start": lambda: start(programs, words.runs, folder),
+            "idle": lambda: idle(programs, words.runs, folder),
             "events": lambda: events(programs, words.events, folder),
         }
         for name, part in parts.items():

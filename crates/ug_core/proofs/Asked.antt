@@ -1,5 +1,5 @@
 -- What an order comes to, from the tree of its calls.
-use Rattle.std.proofs.Common.{◌≡◌, ℕ, ◌≤◌, nat_lt, length, arith, Bool, true, false, cond, List, [], ◌∷◌, Option, Some, None, Result, Ok, Err, ◌⊎◌, inl, inr, refl, sym, ◌∙◌, ap, subst}
+use Rattle.std.proofs.Common.{◌≡◌, ℕ, ◌≤◌, nat_lt, length, arith, Bool, true, false, ◌&&◌, cond, List, [], ◌∷◌, Option, Some, None, Result, Ok, Err, ◌⊎◌, inl, inr, refl, sym, ◌∙◌, ap, subst}
 use Rattle.std.specs.Prelude.{IsSome}
 use Rattle.std.specs.Option.{option_map}
 use Rattle.std.proofs.lemmas.Option.{same_Some}
@@ -24,7 +24,9 @@ use Rattle.ug_kernel.specs.Calls.{Call, Answer, Ask_alive, ToldAnswer}
 use Rattle.ug_kernel.specs.Tree.{Runs}
 use Rattle.ug_acl.specs.Acls.{Addition}
 use Rattle.ug_policy.specs.Edits.{folder_behind}
-use Rattle.ug_policy.specs.Rules.{most_rules}
+use Rattle.ug_types.specs.Elements.{Has}
+use Rattle.ug_policy.specs.Marks.{is_permanent}
+use Rattle.ug_policy.specs.Rules.{ids, most_rules}
 use Rattle.ug_policy.specs.declared.entry.RuleEntry.{RuleEntry}
 use Rattle.ug_rule.specs.Faults.{kind_number}
 use Rattle.ug_rule.specs.Rules.{rule_read}
@@ -229,25 +231,30 @@ module _ {S : Type 0} (gives : S → (call : Call) → Answer call → S → Typ
     abbrev Added : Rule → Change
     Added rule = Rules (Insert place rule (ordered_mark permanent))
 
-    by_few_asked : (rule : Rule) (b : Bool) → nat_lt (length d.sweep.judge.rules) most_rules ≡ b → rule_read text ≡ Ok rule → IsOpen place d.sweep.judge.rules → (c ≡ unless (cond b None (Some refusal.RulesFull)) (changing (Added rule) (deed.Tell (change_lines (Added rule) d.sweep.judge.next)))) × (t ≡ s) → It
+    by_few_asked : (rule : Rule) (b : Bool) → nat_lt (length d.sweep.judge.rules) most_rules ≡ b → rule_read text ≡ Ok rule → IsOpen place (ordered_mark permanent) d.sweep.judge.rules → (c ≡ unless (cond b None (Some refusal.RulesFull)) (changing (Added rule) (deed.Tell (change_lines (Added rule) d.sweep.judge.next)))) × (t ≡ s) → It
     by_few_asked rule false few read there h = facts (request.AppendRule place permanent text) reads granted refusal.RulesFull (Full place permanent text rule read there (full_from (length d.sweep.judge.rules) few)) refl h
     by_few_asked rule true few read there h =
         chooses (request.AppendRule place permanent text) reads granted (outcome_of_change d (Added rule)) (changing (Added rule) (deed.Tell (change_lines (Added rule) d.sweep.judge.next))) refl
         (Changes (request.AppendRule place permanent text) (Added rule) refl (ap (λ (r : Result Rule Fault). rule_asked place permanent r) read))
-        (sym (ap (λ (r : Result Rule Fault). rule_asked place permanent r) read)) (Told_change (Added rule) (there.0, few_below (length d.sweep.judge.rules) few, open_order place permanent d.sweep.judge.rules there.1)) h
+        (sym (ap (λ (r : Result Rule Fault). rule_asked place permanent r) read)) (Told_change (Added rule) (there.0, few_below (length d.sweep.judge.rules) few, there.1)) h
+
+  -- behind a rule that is there: a temporary one, and a permanent one by what stands behind it
+  by_kind_asked : (id : ℕ) (permanent : Bool) (text : List ℕ) (rule : Rule) → rule_read text ≡ Ok rule → request_read line ≡ Ok (request.AppendRule (after.Rule id) permanent text) → is_granted d.access who (needs (request.AppendRule (after.Rule id) permanent text)) ≡ true → Has (ids d.sweep.judge.rules) id → (c ≡ unless (first_of (if_barred (is_permanent (ordered_mark permanent) && folder_behind id d.sweep.judge.rules) id) (if_few d.sweep.judge.rules)) (changing (Rules (Insert (after.Rule id) rule (ordered_mark permanent))) (deed.Tell (change_lines (Rules (Insert (after.Rule id) rule (ordered_mark permanent))) d.sweep.judge.next)))) × (t ≡ s) → It
+  by_kind_asked id false text rule read reads granted there h = by_few_asked (after.Rule id) false text reads granted rule (nat_lt (length d.sweep.judge.rules) most_rules) refl read (there, tt) h
+  by_kind_asked id true text rule read reads granted there h = by_folder (folder_behind id d.sweep.judge.rules) refl h
+    where
+      by_folder : (b : Bool) → folder_behind id d.sweep.judge.rules ≡ b → (c ≡ unless (first_of (if_barred b id) (if_few d.sweep.judge.rules)) (changing (Rules (Insert (after.Rule id) rule (ordered_mark true))) (deed.Tell (change_lines (Rules (Insert (after.Rule id) rule (ordered_mark true))) d.sweep.judge.next)))) × (t ≡ s) → It
+      by_folder true own k = facts (request.AppendRule (after.Rule id) true text) reads granted (refusal.FolderRule id) (Before_folder id text rule read there own) refl k
+      by_folder false own k = by_few_asked (after.Rule id) true text reads granted rule (nat_lt (length d.sweep.judge.rules) most_rules) refl read (there, own) k
 
   by_place_asked : (place : After) (permanent : Bool) (text : List ℕ) (rule : Rule) → rule_read text ≡ Ok rule → request_read line ≡ Ok (request.AppendRule place permanent text) → is_granted d.access who (needs (request.AppendRule place permanent text)) ≡ true → (c ≡ by_rule d.sweep.judge place permanent (Ok rule)) × (t ≡ s) → It
-  by_place_asked after.End permanent text rule read reads granted h = by_few_asked after.End permanent text reads granted rule (nat_lt (length d.sweep.judge.rules) most_rules) refl read (tt, tt) h
-  by_place_asked after.Front permanent text rule read reads granted h = by_few_asked after.Front permanent text reads granted rule (nat_lt (length d.sweep.judge.rules) most_rules) refl read (tt, tt) h
+  by_place_asked after.End permanent text rule read reads granted h = by_few_asked after.End permanent text reads granted rule (nat_lt (length d.sweep.judge.rules) most_rules) refl read (tt, open_order after.End permanent d.sweep.judge.rules tt) h
+  by_place_asked after.Front permanent text rule read reads granted h = by_few_asked after.Front permanent text reads granted rule (nat_lt (length d.sweep.judge.rules) most_rules) refl read (tt, open_order after.Front permanent d.sweep.judge.rules tt) h
   by_place_asked (after.Rule id) permanent text rule read reads granted h = by_there (has_rule id d.sweep.judge.rules) refl h
     where
-      by_there : (b : Bool) → has_rule id d.sweep.judge.rules ≡ b → (c ≡ unless (first_of (first_of (cond b None (Some (refusal.NoRule id))) (if_barred (folder_behind id d.sweep.judge.rules) id)) (if_few d.sweep.judge.rules)) (changing (Rules (Insert (after.Rule id) rule (ordered_mark permanent))) (deed.Tell (change_lines (Rules (Insert (after.Rule id) rule (ordered_mark permanent))) d.sweep.judge.next)))) × (t ≡ s) → It
+      by_there : (b : Bool) → has_rule id d.sweep.judge.rules ≡ b → (c ≡ unless (first_of (first_of (cond b None (Some (refusal.NoRule id))) (if_barred (is_permanent (ordered_mark permanent) && folder_behind id d.sweep.judge.rules) id)) (if_few d.sweep.judge.rules)) (changing (Rules (Insert (after.Rule id) rule (ordered_mark permanent))) (deed.Tell (change_lines (Rules (Insert (after.Rule id) rule (ordered_mark permanent))) d.sweep.judge.next)))) × (t ≡ s) → It
       by_there false at k = facts (request.AppendRule (after.Rule id) permanent text) reads granted (refusal.NoRule id) (No_place id permanent text rule read at) refl k
-      by_there true at k = by_folder (folder_behind id d.sweep.judge.rules) refl k
-        where
-          by_folder : (b : Bool) → folder_behind id d.sweep.judge.rules ≡ b → (c ≡ unless (first_of (if_barred b id) (if_few d.sweep.judge.rules)) (changing (Rules (Insert (after.Rule id) rule (ordered_mark permanent))) (deed.Tell (change_lines (Rules (Insert (after.Rule id) rule (ordered_mark permanent))) d.sweep.judge.next)))) × (t ≡ s) → It
-          by_folder true own l = facts (request.AppendRule (after.Rule id) permanent text) reads granted (refusal.FolderRule id) (Before_folder id permanent text rule read (rule_there id d.sweep.judge.rules at) own) refl l
-          by_folder false own l = by_few_asked (after.Rule id) permanent text reads granted rule (nat_lt (length d.sweep.judge.rules) most_rules) refl read (rule_there id d.sweep.judge.rules at, own) l
+      by_there true at k = by_kind_asked id permanent text rule read reads granted (rule_there id d.sweep.judge.rules at) k
 
   by_rule_asked : (place : After) (permanent : Bool) (text : List ℕ) (b : Bool) → request_read line ≡ Ok (request.AppendRule place permanent text) → is_granted d.access who (needs (request.AppendRule place permanent text)) ≡ true → Runs gives s (if_rule_read d.sweep.judge place permanent text b) c t → It
   by_rule_asked place permanent text false reads granted h = refuses (refusal.Memory false) No_memory refl h

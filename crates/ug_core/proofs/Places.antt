@@ -1,5 +1,5 @@
 -- Rules that are there, and the place of one more.
-use Rattle.std.proofs.Common.{◌≡◌, ℕ, ◌<◌, nat_lt, Bool, true, false, ◌||◌, cond, List, [], ◌∷◌, length, Option, Some, None, ◌⊎◌, inl, inr, refl, arith, sym, ap, subst, ◌∙◌}
+use Rattle.std.proofs.Common.{◌≡◌, ℕ, ◌<◌, nat_lt, Bool, true, false, ◌||◌, ◌&&◌, cond, List, [], ◌∷◌, length, Option, Some, None, ◌⊎◌, inl, inr, refl, arith, sym, ap, subst, ◌∙◌}
 use Rattle.std.proofs.lemmas.Bool.{eqb-true}
 use Rattle.ug_types.specs.Elements.{Has}
 use Rattle.ug_types.specs.declared.refusal.Refusal.{Refusal}
@@ -7,6 +7,7 @@ use Rattle.ug_types.specs.declared.refusal.Refusal.TheVariants as refusal
 use Rattle.ug_types.specs.declared.rule.After.{After}
 use Rattle.ug_types.specs.declared.rule.After.TheVariants as after
 use Rattle.ug_policy.specs.Edits.{IsBehindFolder, IsThere, KeepsMarkOrder, folder_behind, has_id}
+use Rattle.ug_policy.specs.Marks.{is_permanent}
 use Rattle.ug_policy.specs.Rules.{ids, most_rules}
 use Rattle.ug_policy.specs.declared.entry.RuleEntry.{RuleEntry}
 use Rattle.ug_ruleset.specs.RulePlaces.{first_of, has_folder_rule, has_rule, if_barred, if_few, place_refusal, if_removed, if_taken, if_there}
@@ -52,29 +53,30 @@ few_by : (b : Bool) → cond b None (Some refusal.RulesFull) ≡ None → b ≡ 
 few_by true h = refl
 few_by false h = let none : ⊥ = cc in absurd none
 
-place_there : (place : After) (rules : List RuleEntry) → place_refusal place rules ≡ None → IsThere place rules
-place_there after.End rules h = tt
-place_there after.Front rules h = tt
-place_there (after.Rule id) rules h = rule_there id rules (there_by (has_rule id rules) id (none_else (if_there id rules) (if_barred (folder_behind id rules) id) h).0)
+place_there : (place : After) (permanent : Bool) (rules : List RuleEntry) → place_refusal place (ordered_mark permanent) rules ≡ None → IsThere place rules
+place_there after.End permanent rules h = tt
+place_there after.Front permanent rules h = tt
+place_there (after.Rule id) permanent rules h = rule_there id rules (there_by (has_rule id rules) id (none_else (if_there id rules) (if_barred (is_permanent (ordered_mark permanent) && folder_behind id rules) id) h).0)
 
 barred_by : (b : Bool) (id : ℕ) → if_barred b id ≡ None → b ≡ false
 barred_by true id h = let none : ⊥ = cc in absurd none
 barred_by false id h = refl
 
-place_behind : (place : After) (rules : List RuleEntry) → place_refusal place rules ≡ None → IsBehindFolder place rules
-place_behind after.End rules h = tt
-place_behind after.Front rules h = tt
-place_behind (after.Rule id) rules h = barred_by (folder_behind id rules) id (none_else (if_there id rules) (if_barred (folder_behind id rules) id) h).1
-
--- an ordered rule keeps the order
+-- an ordered rule keeps the order, and so does a temporary one anywhere
 pub open_order : (place : After) (permanent : Bool) (rules : List RuleEntry) → IsBehindFolder place rules → KeepsMarkOrder place (ordered_mark permanent) rules
 open_order place true rules h = h
 open_order place false rules h = tt
 
-pub place_free : (place : After) (permanent : Bool) (rules : List RuleEntry) → if_taken place rules ≡ None → IsThere place rules × (length rules < most_rules) × KeepsMarkOrder place (ordered_mark permanent) rules
+place_order : (place : After) (permanent : Bool) (rules : List RuleEntry) → place_refusal place (ordered_mark permanent) rules ≡ None → KeepsMarkOrder place (ordered_mark permanent) rules
+place_order place false rules h = tt
+place_order after.End true rules h = tt
+place_order after.Front true rules h = tt
+place_order (after.Rule id) true rules h = barred_by (folder_behind id rules) id (none_else (if_there id rules) (if_barred (folder_behind id rules) id) h).1
+
+pub place_free : (place : After) (permanent : Bool) (rules : List RuleEntry) → if_taken place (ordered_mark permanent) rules ≡ None → IsThere place rules × (length rules < most_rules) × KeepsMarkOrder place (ordered_mark permanent) rules
 place_free place permanent rules h =
-    let both = none_else (place_refusal place rules) (if_few rules) h in
-    (place_there place rules both.0, few_below (length rules) (few_by (nat_lt (length rules) most_rules) both.1), open_order place permanent rules (place_behind place rules both.0))
+    let both = none_else (place_refusal place (ordered_mark permanent) rules) (if_few rules) h in
+    (place_there place permanent rules both.0, few_below (length rules) (few_by (nat_lt (length rules) most_rules) both.1), place_order place permanent rules both.0)
 
 -- a rule that may be removed
 pub removal_free : (id : ℕ) (rules : List RuleEntry) → if_removed id rules ≡ None → Has (ids rules) id × (has_folder_rule id rules ≡ false)
@@ -105,8 +107,8 @@ edit_taken p number verdict on edit lines room is =
     ap (λ (ls : List (List ℕ)). changing (change.Rules edit) (deed.SetVerdict number verdict on ls)) is
     ∙ taken (if_room_for edit p.rules) (changing (change.Rules edit) (deed.SetVerdict number verdict on (change_lines (change.Rules edit) p.next))) room
 
-pub rule_taken : (p : Judging) (place : After) (permanent : Bool) (rule : Rule) (m : Mark) (lines : List (List ℕ)) → m ≡ ordered_mark permanent → if_taken place p.rules ≡ None → lines ≡ decimal p.next ∷ [] → changing (change.Rules (Insert place rule m)) (deed.Tell lines) ≡ by_rule p place permanent (Ok rule)
+pub rule_taken : (p : Judging) (place : After) (permanent : Bool) (rule : Rule) (m : Mark) (lines : List (List ℕ)) → m ≡ ordered_mark permanent → if_taken place (ordered_mark permanent) p.rules ≡ None → lines ≡ decimal p.next ∷ [] → changing (change.Rules (Insert place rule m)) (deed.Tell lines) ≡ by_rule p place permanent (Ok rule)
 rule_taken p place permanent rule m lines marked room is =
     ap (λ (k : Mark). changing (change.Rules (Insert place rule k)) (deed.Tell lines)) marked
     ∙ ap (λ (ls : List (List ℕ)). changing (change.Rules (Insert place rule (ordered_mark permanent))) (deed.Tell ls)) is
-    ∙ taken (if_taken place p.rules) (changing (change.Rules (Insert place rule (ordered_mark permanent))) (deed.Tell (decimal p.next ∷ []))) room
+    ∙ taken (if_taken place (ordered_mark permanent) p.rules) (changing (change.Rules (Insert place rule (ordered_mark permanent))) (deed.Tell (decimal p.next ∷ []))) room

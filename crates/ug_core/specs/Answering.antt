@@ -148,7 +148,7 @@ by_setting (Some name) value = by_value (parameter_with name value)
 abbrev pub by_rule : Judging → After → Bool → Result Rule Fault → Choice
 by_rule p after permanent (Err bad) = refusing (refusal.BadRule (kind_number bad.kind) bad.place)
 by_rule p after permanent (Ok rule) =
-    unless (if_taken after p.rules)
+    unless (if_taken after (ordered_mark permanent) p.rules)
     (changing (Rules (Insert after rule (ordered_mark permanent)))
     (deed.Tell (decimal p.next ∷ [])))
 

@@ -49,7 +49,7 @@ use Rattle.ug_table.specs.declared.standing.Settled.{Settled}
 use Rattle.ug_table.specs.declared.standing.Standing.{Standing}
 use Rattle.ug_core.specs.Bindings.{BindsJudged}
 use Rattle.ug_core.specs.Answering.{acting, answered_with, asking, deed_after, replying}
-use Rattle.ug_core.specs.Changes.{CanChange, change_asked, change_lines, changed_by, is_saved, change_lines_of, parameter_at}
+use Rattle.ug_core.specs.Changes.{CanChange, change_asked, change_lines, changed_by, is_saved, change_lines_of, ordered_mark, parameter_at}
 use Rattle.ug_core.specs.Storing.{TellsStored, noted_store, refused_by, stored_with, storing, with_changes}
 use Rattle.ug_ruleset.specs.RuleFile.{FitsFile, IsSaveable}
 use Rattle.ug_ruleset.specs.RulePlaces.{IsOpen, has_folder_rule, has_rule}
@@ -170,10 +170,9 @@ pub data Refuses (d : DaemonState) : Request → Refusal → Type 0 where
   No_place : (id : ℕ) (permanent : Bool) (text : List ℕ) (rule : Rule) → rule_read text ≡ Ok rule
       → has_rule id d.sweep.judge.rules ≡ false
       → Refuses d (request.AppendRule (after.Rule id) permanent text) (refusal.NoRule id)
-  Before_folder : (id : ℕ) (permanent : Bool) (text : List ℕ) (rule : Rule)
-      → rule_read text ≡ Ok rule
+  Before_folder : (id : ℕ) (text : List ℕ) (rule : Rule) → rule_read text ≡ Ok rule
       → Has (ids d.sweep.judge.rules) id → folder_behind id d.sweep.judge.rules ≡ true
-      → Refuses d (request.AppendRule (after.Rule id) permanent text) (refusal.FolderRule id)
+      → Refuses d (request.AppendRule (after.Rule id) true text) (refusal.FolderRule id)
   Of_folder : (id : ℕ) → has_folder_rule id d.sweep.judge.rules ≡ true
       → Refuses d (request.RemoveRule id) (refusal.FolderRule id)
   No_rule : (id : ℕ) → has_rule id d.sweep.judge.rules ≡ false
@@ -186,7 +185,8 @@ pub data Refuses (d : DaemonState) : Request → Refusal → Type 0 where
       → parameter_with set value ≡ None
       → Refuses d (request.SetParameter name value) refusal.BadValue
   Full : (place : After) (permanent : Bool) (text : List ℕ) (rule : Rule) → rule_read text ≡ Ok rule
-      → IsOpen place d.sweep.judge.rules → most_rules ≤ length d.sweep.judge.rules
+      → IsOpen place (ordered_mark permanent) d.sweep.judge.rules
+      → most_rules ≤ length d.sweep.judge.rules
       → Refuses d (request.AppendRule place permanent text) refusal.RulesFull
 
 -- what is refused before a call: a line that is no request, before a privilege that is missing,

@@ -301,13 +301,10 @@ impl<Z: Zone, R: Rng> Daemon<Z, R> {
     {
         // A rule that is kept reads again from its canonical text.
         stay_readable(&rule);
-        match self.answer_place(alloc, after) {
+        let mark = ordered_mark(permanent);
+        match self.answer_place(alloc, after, mark) {
             Ok(lines) => {
-                let edit = Edit::Insert {
-                    after,
-                    rule,
-                    mark: ordered_mark(permanent),
-                };
+                let edit = Edit::Insert { after, rule, mark };
                 change(Change::Rules(edit), Deed::Tell(lines))
             }
             Err(refusal) => {
@@ -317,17 +314,19 @@ impl<Z: Zone, R: Rng> Daemon<Z, R> {
         }
     }
 
-    // The lines of the reply to one rule more behind that place, or why none is put there.
-    fn answer_place(&self, alloc: Global, after: After) -> Result<List<Text>, Refusal>
-        ensures free { OnOk result (if_taken after (daemon_of self.now).sweep.judge.rules ≡ None) }
+    // The lines of the reply to one rule more with that mark behind that place, or why none is put
+    // there.
+    fn answer_place(&self, alloc: Global, after: After, mark: Mark) -> Result<List<Text>, Refusal>
+        ensures free { OnOk result
+            (if_taken after mark (daemon_of self.now).sweep.judge.rules ≡ None) }
         ensures lines { IfOk result
             (λ lines. lines ≡ decimal (daemon_of self.now).sweep.judge.next ∷ []) }
         ensures whole { IfOk result (λ lines. AreLines lines) }
         ensures refused { IfErr result (λ refused.
-            (if_taken after (daemon_of self.now).sweep.judge.rules ≡ Some refused)
+            (if_taken after mark (daemon_of self.now).sweep.judge.rules ≡ Some refused)
             ⊎ (refused ≡ Refusal.Memory false)) }
     {
-        if let Some(refusal) = self.policy.refuse_rule(after) {
+        if let Some(refusal) = self.policy.refuse_rule(after, mark) {
             return Err(refusal);
         }
         match id_line(alloc, self.policy.next_id()) {

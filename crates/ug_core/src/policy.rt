@@ -143,11 +143,11 @@ impl<Z: Zone, R: Rng> Policy<Z, R> {
         self.rules.refuse_removal(id)
     }
 
-    /// Why no rule is put behind that place.
-    pub fn refuse_rule(&self, after: After) -> Option<Refusal>
-        ensures { result ≡ if_taken after (judging_of Z.clock R.stream self.now).rules }
+    /// Why no rule with that mark is put behind that place.
+    pub fn refuse_rule(&self, after: After, mark: Mark) -> Option<Refusal>
+        ensures { result ≡ if_taken after mark (judging_of Z.clock R.stream self.now).rules }
     {
-        self.rules.refuse_rule(after)
+        self.rules.refuse_rule(after, mark)
     }
 
     /// Why there is no room for the edit.

@@ -7,9 +7,10 @@ use Rattle.ug_types.specs.declared.refusal.Refusal.{Refusal}
 use Rattle.ug_types.specs.declared.refusal.Refusal.TheVariants as refusal
 use Rattle.ug_types.specs.declared.rule.After.{After}
 use Rattle.ug_types.specs.declared.rule.After.TheVariants as after
-use Rattle.ug_policy.specs.Edits.{IsBehindFolder, IsThere, folder_behind, has_id}
+use Rattle.ug_policy.specs.Edits.{IsThere, KeepsMarkOrder, folder_behind, has_id}
 use Rattle.ug_policy.specs.Marks.{is_folder, is_permanent}
 use Rattle.ug_policy.specs.Rules.{most_rules}
+use Rattle.ug_policy.specs.declared.entry.Mark.{Mark}
 use Rattle.ug_policy.specs.declared.entry.RuleEntry.{RuleEntry}
 use Rattle.ug_print.specs.Made.{is_made_of}
 
@@ -37,30 +38,31 @@ first_of None other = other
 abbrev pub if_barred : Bool → ℕ → Option Refusal
 if_barred barred id = if barred then Some (refusal.FolderRule id) else None
 
--- the rule behind which one is put: none of the folder stands behind it
-abbrev pub if_behind : ℕ → List RuleEntry → Option Refusal
-if_behind id rules = first_of (if_there id rules) (if_barred (folder_behind id rules) id)
+-- the rule behind which one with that mark is put: before a permanent one stand all of the folder
+abbrev pub if_behind : ℕ → Mark → List RuleEntry → Option Refusal
+if_behind id mark rules =
+    first_of (if_there id rules) (if_barred (is_permanent mark && folder_behind id rules) id)
 
--- a rule can be put there: behind one that is there, and behind those of the folder
-abbrev pub IsOpen : After → List RuleEntry → Type 0
-IsOpen place rules = IsThere place rules × IsBehindFolder place rules
+-- a rule with that mark can be put there: behind one that is there, and in the marks' order
+abbrev pub IsOpen : After → Mark → List RuleEntry → Type 0
+IsOpen place mark rules = IsThere place rules × KeepsMarkOrder place mark rules
 
 -- the rule that is to go: it isn't one of the folder
 abbrev pub if_removed : ℕ → List RuleEntry → Option Refusal
 if_removed id rules = first_of (if_there id rules) (if_barred (has_folder_rule id rules) id)
 
--- the place behind which a rule is put
-abbrev pub place_refusal : After → List RuleEntry → Option Refusal
-place_refusal after.End rules = None
-place_refusal after.Front rules = None
-place_refusal (after.Rule id) rules = if_behind id rules
+-- the place behind which a rule with that mark is put
+abbrev pub place_refusal : After → Mark → List RuleEntry → Option Refusal
+place_refusal after.End mark rules = None
+place_refusal after.Front mark rules = None
+place_refusal (after.Rule id) mark rules = if_behind id mark rules
 
 abbrev pub if_few : List RuleEntry → Option Refusal
 if_few rules = if nat_lt (length rules) most_rules then None else Some refusal.RulesFull
 
--- why no rule is put behind that place
-abbrev pub if_taken : After → List RuleEntry → Option Refusal
-if_taken after rules = first_of (place_refusal after rules) (if_few rules)
+-- why no rule with that mark is put behind that place
+abbrev pub if_taken : After → Mark → List RuleEntry → Option Refusal
+if_taken after mark rules = first_of (place_refusal after mark rules) (if_few rules)
 
 -- ---- the rule that is made of a device
 

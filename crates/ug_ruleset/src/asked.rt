@@ -14,12 +14,21 @@ fn asked_by(rule: &Rule) -> Option<&Query> {
     None
 }
 
-/// The first query of an `allowed-matches` condition. It is a hint: no verdict depends on it.
-pub fn first_asked(rules: &[RuleEntry]) -> Option<&Query> {
-    for entry in rules {
-        if let Some(query) = asked_by(&entry.rule) {
-            return Some(query);
+/// The place of the first rule with an `allowed-matches` condition.
+pub fn first_asking(rules: &[RuleEntry]) -> Option<usize> {
+    for place in 0..rules.len() {
+        if asked_by(&rules[place].rule).is_some() {
+            return Some(place);
         }
     }
     None
+}
+
+/// The first query of an `allowed-matches` condition of the rule at that place, if it has one.
+pub fn asked_at(rules: &[RuleEntry], place: usize) -> Option<&Query> {
+    if place < rules.len() {
+        asked_by(&rules[place].rule)
+    } else {
+        None
+    }
 }

@@ -12,7 +12,7 @@ ghost use Rattle.ug_policy.specs.Rules.{IsNumbered, rules_in};
 ghost use Rattle.ug_ruleset.specs.RulePlaces.{has_folder_rule, has_permanent, has_rule, if_behind, if_few, place_refusal, if_removed, if_taken, made_rule};
 ghost use Rattle.ug_ruleset.specs.RuleRows.{rule_rows};
 
-use crate::asked::first_asked;
+use crate::asked::{asked_at, first_asking};
 use crate::edit::Edit;
 use crate::file_text::file_text;
 use crate::rule_list::list_rules;
@@ -28,6 +28,9 @@ use ug_types::{After, Cause, DeviceRecord, List, NoMemory, Query, Refusal, Rule,
 #[derive(Drop)]
 pub struct KeptRules {
     list: RuleList,
+    // The first rule that asks for allowed devices, looked up at the start and at each edit, so that
+    // an event doesn't walk over the rules. It is a hint: no verdict depends on it.
+    asking: Option<usize>,
 }
 
 impl Model for KeptRules {
@@ -64,7 +67,8 @@ impl KeptRules {
         requires saves { IsSaveable list.entries }
         ensures { result ≡ list }
     {
-        KeptRules { list }
+        let asking = first_asking(list.as_slice());
+        KeptRules { list, asking }
     }
 
     /// The rows of a list of the rules. None has a newline.
@@ -77,7 +81,10 @@ impl KeptRules {
 
     /// The first query of an `allowed-matches` condition. It is a hint: no verdict depends on it.
     pub fn asked(&self) -> Option<&Query> {
-        first_asked(self.list.as_slice())
+        match self.asking {
+            Some(place) => asked_at(self.list.as_slice(), place),
+            None => None,
+        }
     }
 
     /// The id that the next rule gets.
@@ -126,14 +133,19 @@ impl KeptRules {
         false
     }
 
-    // Why no rule is put behind that of the id.
-    fn refuse_behind(&self, id: u64) -> Option<Refusal>
-        ensures { result ≡ if_behind id self.now.entries }
+    // Why no rule with that mark is put behind that of the id.
+    fn refuse_behind(&self, id: u64, mark: Mark) -> Option<Refusal>
+        ensures { result ≡ if_behind id mark self.now.entries }
     {
         match self.list.has_folder_behind(id) {
             None => Some(Refusal::NoRule { id }),
-            Some(true) => Some(Refusal::FolderRule { id }),
-            Some(false) => None,
+            Some(barred) => {
+                if mark.is_permanent() && barred {
+                    Some(Refusal::FolderRule { id })
+                } else {
+                    None
+                }
+            }
         }
     }
 
@@ -150,13 +162,13 @@ impl KeptRules {
         None
     }
 
-    fn has_place(&self, after: After) -> Option<Refusal>
-        ensures { result ≡ place_refusal after self.now.entries }
+    fn refuse_place(&self, after: After, mark: Mark) -> Option<Refusal>
+        ensures { result ≡ place_refusal after mark self.now.entries }
     {
         match after {
             After::End => None,
             After::Front => None,
-            After::Rule(id) => self.refuse_behind(id),
+            After::Rule(id) => self.refuse_behind(id, mark),
         }
     }
 
@@ -171,11 +183,11 @@ impl KeptRules {
         }
     }
 
-    /// Why no rule is put behind that place.
-    pub fn refuse_rule(&self, after: After) -> Option<Refusal>
-        ensures { result ≡ if_taken after self.now.entries }
+    /// Why no rule with that mark is put behind that place.
+    pub fn refuse_rule(&self, after: After, mark: Mark) -> Option<Refusal>
+        ensures { result ≡ if_taken after mark self.now.entries }
     {
-        match self.has_place(after) {
+        match self.refuse_place(after, mark) {
             Some(refusal) => Some(refusal),
             None => self.refuse_more(),
         }
@@ -274,6 +286,7 @@ impl KeptRules {
                 rule.discard();
             }
         }
+        self.asking = first_asking(self.list.as_slice());
     }
 
     /// The text of a rule file with the permanent rules, which reads as them again.

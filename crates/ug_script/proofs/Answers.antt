@@ -50,6 +50,7 @@ use Rattle.ug_core.specs.declared.storing.Stored.TheVariants as stored
 use Rattle.ug_types.specs.declared.saved.Saved.TheVariants as saved
 use Rattle.ug_core.specs.Changes.{change_entry, change_lines, edit_for, ordered_mark, parameter_at, verdict_edit}
 use Rattle.ug_policy.specs.Edits.{folder_behind}
+use Rattle.ug_policy.specs.Marks.{is_permanent}
 use Rattle.ug_ruleset.specs.RulePlaces.{first_of, has_folder_rule, has_rule, if_barred, if_few, if_removed, if_taken, made_rule}
 use Rattle.ug_ruleset.specs.declared.edit.Edit.TheVariants.{Insert, Remove, Retarget}
 use Rattle.std.specs.Prelude.{decimal}
@@ -154,10 +155,10 @@ few_long false r h = subst (λ (x : Refusal). is_short_reply (Err x) ≡ false) 
 barred_long : (id : ℕ) (r : Refusal) → Some (Refusal.FolderRule id) ≡ Some r → is_short_reply (Err r) ≡ false
 barred_long id r h = subst (λ (x : Refusal). is_short_reply (Err x) ≡ false) (same_Some (Refusal.FolderRule id) r h) refl
 
-taken_long : (place : After) (rules : List RuleEntry) (r : Refusal) → if_taken place rules ≡ Some r → is_short_reply (Err r) ≡ false
-taken_long after.End rules r h = few_long (nat_lt (length rules) 65536) r h
-taken_long after.Front rules r h = few_long (nat_lt (length rules) 65536) r h
-taken_long (after.Rule id) rules r h = by (has_rule id rules) (folder_behind id rules) h
+taken_long : (place : After) (permanent : Bool) (rules : List RuleEntry) (r : Refusal) → if_taken place (ordered_mark permanent) rules ≡ Some r → is_short_reply (Err r) ≡ false
+taken_long after.End permanent rules r h = few_long (nat_lt (length rules) 65536) r h
+taken_long after.Front permanent rules r h = few_long (nat_lt (length rules) 65536) r h
+taken_long (after.Rule id) permanent rules r h = by (has_rule id rules) (is_permanent (ordered_mark permanent) && folder_behind id rules) h
   where
     by : (b c : Bool) → first_of (first_of (cond b None (Some (Refusal.NoRule id))) (if_barred c id)) (if_few rules) ≡ Some r → is_short_reply (Err r) ≡ false
     by false c k = there_long id false r k
@@ -171,7 +172,7 @@ removed_long id true false r h = let none : ⊥ = cc in absurd none
 
 rule_asks : (ss : List Standing) (p : Judging) (place : After) (permanent : Bool) (r : Result Rule Fault) → Asks ss true [] (by_rule p place permanent r)
 rule_asks ss p place permanent (Err bad) = (refl, omega arith)
-rule_asks ss p place permanent (Ok rule) = unless_asks ss (if_taken place p.rules) (Rules (Insert place rule (ordered_mark permanent))) (decimal p.next ∷ []) (taken_long place p.rules)
+rule_asks ss p place permanent (Ok rule) = unless_asks ss (if_taken place (ordered_mark permanent) p.rules) (Rules (Insert place rule (ordered_mark permanent))) (decimal p.next ∷ []) (taken_long place permanent p.rules)
 
 append_asks : (ss : List Standing) (p : Judging) (place : After) (permanent : Bool) (text : List ℕ) (b : Bool) → Ways (if_rule_read p place permanent text b) (λ ok ms c. Asks ss (b && ok) ms c)
 append_asks ss p place permanent text true = rule_asks ss p place permanent (rule_read text)
