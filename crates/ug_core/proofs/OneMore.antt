@@ -284,7 +284,7 @@ module _ (policy : Judging) (first : Kernel) (hs : List Happened) (h : Happened)
     facts_undone _ _ (No_device number verdict permanent none) = refl
     facts_undone _ _ (No_place id permanent text rule read none) = refl
     facts_undone _ _ (No_rule id none) = refl
-    facts_undone _ _ (Before_folder id permanent text rule read there own) = refl
+    facts_undone _ _ (Before_folder id text rule read there own) = refl
     facts_undone _ _ (Of_folder id own) = refl
     facts_undone _ _ (No_parameter name none) = refl
     facts_undone _ _ (No_setting name value none) = refl
