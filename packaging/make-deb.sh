@@ -27,8 +27,11 @@ install -d -m 755 "$root/usr/share/lintian/overrides"
 install -m 644 packaging/lintian-overrides "$root/usr/share/lintian/overrides/$name"
 # What postinst puts where it is missing: dpkg doesn't know settings and rules.
 install -d -m 755 "$root/usr/share/$name"
+install -m 755 packaging/usbguard-keep "$root/usr/libexec/usbguard-keep"
 install -m 644 packaging/usbguard-daemon.conf packaging/usbguard.service "$root/usr/share/$name"
 rm -r "${root:?}/etc"
+install -D -m 644 packaging/dpkg.cfg "$root/etc/dpkg/dpkg.cfg.d/$name"
+echo "/etc/dpkg/dpkg.cfg.d/$name" >"$root/DEBIAN/conffiles"
 
 # The packages of the libraries that ldd names, which is libc6 alone. The program needs the version of glibc whose symbols it cites.
 packages=
@@ -60,6 +63,7 @@ END
 for script in preinst postinst prerm postrm; do
     install -m 755 "packaging/$script" "$root/DEBIAN/$script"
 done
+install -m 644 packaging/triggers "$root/DEBIAN/triggers"
 (cd "$root" && find usr -type f -exec md5sum {} +) >"$root/DEBIAN/md5sums"
 
 SOURCE_DATE_EPOCH=$(git log -1 --format=%ct) dpkg-deb --root-owner-group --build "$root" "$file"

@@ -77,7 +77,7 @@ echo "== The package"
 cp "$package" "$root/tmp/package.deb"
 show 'dpkg -i /tmp/package.deb'
 check 'settings and rules are made, and dpkg asks about neither' \
-    'test -e /etc/usbguard/rules.conf && test ! -s /etc/usbguard/rules.conf && test -e /etc/usbguard/usbguard-daemon.conf && ! grep -q . /var/lib/dpkg/info/$(dpkg-deb -f /tmp/package.deb Package).conffiles'
+    'test -e /etc/usbguard/rules.conf && test ! -s /etc/usbguard/rules.conf && test -e /etc/usbguard/usbguard-daemon.conf && ! grep usbguard/ /var/lib/dpkg/info/$(dpkg-deb -f /tmp/package.deb Package).conffiles'
 check 'usbguard --version tells the version of the package' \
     'dpkg-deb -f /tmp/package.deb Version | grep -q "^$(usbguard --version | cut -d " " -f 2)"'
 show 'dpkg -L $(dpkg-deb -f /tmp/package.deb Package) | xargs ls -ld | grep -v ^d'
@@ -258,16 +258,25 @@ has_rules() {
 mkdir "$root/tmp/rules.d"
 : >"$root/tmp/none"
 printf 'RuleFile=/tmp/none\nRuleFolder=/tmp/rules.d\n' >"$root/tmp/settings"
-has_rules 1 'no rule'
+has_rules 78 'no rule'
 echo 'allow id 1050:*' >"$root/tmp/rules.d/10-site.conf.bak"
-has_rules 1 "a rule in a file of the folder that doesn't count"
+has_rules 78 "a rule in a file of the folder that doesn't count"
 mv "$root/tmp/rules.d/10-site.conf.bak" "$root/tmp/rules.d/10-site.conf"
 has_rules 0 'a rule in the folder alone'
 check 'by which the daemon judges' 'timeout 3 usbguard daemon --conf /tmp/settings | grep -x "judged [0-9]* 1-1 allow rule 1"'
 rm -r "$root/tmp/rules.d"
-has_rules 1 'the folder is absent'
+has_rules 78 'the folder is absent'
 echo allow >"$root/tmp/none"
 has_rules 0 'a rule in the rule file alone'
+: >"$root/tmp/none"
+for line in ImplicitPolicyTarget=allow PresentDevicePolicy=keep PresentDevicePolicy=allow; do
+    printf 'RuleFile=/tmp/none\n%s\n' "$line" >"$root/tmp/settings"
+    has_rules 0 "no rule, and $line"
+done
+for line in ImplicitPolicyTarget=reject PresentDevicePolicy=block PresentControllerPolicy=allow; do
+    printf 'RuleFile=/tmp/none\n%s\n' "$line" >"$root/tmp/settings"
+    has_rules 78 "no rule, and $line"
+done
 
 echo
 echo "== The hubs, as the settings say"
@@ -375,6 +384,45 @@ types zsh 'usbguard list-ru\t--sock\t' 'usbguard list-rules --socket'
 types zsh 'usbguard list-rules --socket=/run/usbguard/r\t' 'usbguard list-rules --socket=/run/usbguard/root.socket'
 types zsh 'usbguard set-parameter Imp\tbl\t' 'usbguard set-parameter ImplicitPolicyTarget block'
 rm -r "$root/run/usbguard"
+
+echo
+echo "== A root hub that isn't there at the start with another kernel, as that of a dock"
+cp -a "$root/sys/bus/usb/devices/usb1" "$root/sys/bus/usb/devices/usb7"
+printf '0000:3a:00.0\n' >"$root/sys/bus/usb/devices/usb7/serial"
+device 7-1 0 "$key"
+show 'usbguard-script | usbguard generate-policy > /etc/usbguard/rules.conf; /usr/libexec/usbguard-prepare hashes'
+mkdir "$root/tmp/dock"
+mv "$root/sys/bus/usb/devices/usb7" "$root/sys/bus/usb/devices/7-1" "$root/tmp/dock"
+kernel 006 022
+show '/usr/libexec/usbguard-prepare hashes'
+mv "$root/tmp/dock/usb7" "$root/tmp/dock/7-1" "$root/sys/bus/usb/devices/"
+kernel 006 022
+check 'its rule has the hash that it has when it comes' \
+    'hash=$(usbguard-script -u | sed -n "s/ .* \"0000:3a:00.0\"$//p"); grep "^allow id 1d6b:0002 serial \"0000:3a:00.0\" .* hash \"$hash\"" /etc/usbguard/rules.conf && grep "^allow id 1050:0011 .* parent-hash \"$hash\"" /etc/usbguard/rules.conf'
+check 'it is allowed where it comes later, and so is the key behind it' \
+    '{ usbguard-script -d /tmp/dock -c /etc/usbguard/usbguard-daemon.conf -r /etc/usbguard/rules.conf; usbguard-script | grep ^plug; echo sweep 5000000000; } >/tmp/later
+    usbguard replay </tmp/later >/tmp/1; grep -q "^judged [0-9]* usb7 allow rule" /tmp/1 && grep -q "^judged [0-9]* 7-1 allow rule" /tmp/1'
+kernel 001 000
+check 'the other way the rules have the hashes of the original USBGuard' \
+    '/usr/libexec/usbguard-carry -o && usbguard-script -u | while read -r own original rest; do ! grep -F "$own" /etc/usbguard/rules.conf && grep -F "$original" /etc/usbguard/rules.conf || exit 1; done'
+check 'and this program knows them again' '/usr/libexec/usbguard-carry; usbguard-script -u | while read -r own rest; do grep -F "$own" /etc/usbguard/rules.conf || exit 1; done'
+rm -r "$root/sys/bus/usb/devices/usb7" "$root/sys/bus/usb/devices/7-1" "$root/tmp/dock"
+
+echo
+echo "== Where another user may write to the folder of the rule file, he plants a link right before the new file is written"
+cat >"$root/tmp/plant" <<'END'
+#!/bin/sh
+ln -sfn /root/precious /srv/theirs/rules.conf.new
+exec /usr/bin/cp "$@"
+END
+check 'nothing of root is overwritten, and the rule file stays' \
+    'usbguard-script | usbguard generate-policy >/root/right
+    install -d -o nobody /srv/theirs; hash=$(usbguard-script -u | cut -d " " -f 1); other=$(usbguard-script -u | cut -d " " -f 2)
+    sed "s|$hash|$other|" /root/right >/srv/theirs/rules.conf; cp /srv/theirs/rules.conf /root/rules.before; echo precious >/root/precious
+    mkdir /tmp/planted && install /tmp/plant /tmp/planted/cp
+    echo RuleFile=/srv/theirs/rules.conf >/tmp/settings
+    PATH=/tmp/planted:$PATH /usr/libexec/usbguard-carry /tmp/settings 2>/tmp/said
+    grep -qx precious /root/precious && cmp /root/rules.before /srv/theirs/rules.conf && grep "another user than root may write to its folder" /tmp/said'
 
 echo
 echo "== The package goes"

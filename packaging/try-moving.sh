@@ -96,6 +96,9 @@ begin() {
     cp -a "$work/base" "$root"
     cp "$package" "$root/root/package.deb"
     cp "$work/next.deb" "$root/root/next.deb"
+    mkdir -p "$root/root/other/DEBIAN" "$root/root/other/etc/usbguard/rules.d"
+    printf 'Package: other\nVersion: 1\nArchitecture: all\nMaintainer: Site <root@localhost>\nDescription: rules of a site\n' >"$root/root/other/DEBIAN/control"
+    echo 'allow id 1050:0078' >"$root/root/other/etc/usbguard/rules.d/50-other.conf"
     fake_sysfs
     boot
 }
@@ -196,9 +199,8 @@ hub 0 'behind the installation'
 check 'it is enabled still' 'systemctl is-enabled usbguard'
 
 echo
-echo "== The original is purged, as docs/moving.md says"
-show 'cp -a /etc/usbguard /root/usbguard.kept && dpkg --purge usbguard
-cp -aT /root/usbguard.kept /etc/usbguard && systemctl enable usbguard'
+echo "== The original is purged"
+show 'cp -a /etc/usbguard /root/usbguard.kept; dpkg --purge usbguard'
 check 'settings and rules are there, the service is enabled and runs, and nothing of our package is missing' \
     "cmp /etc/usbguard/rules.conf /root/usbguard.kept/rules.conf && cmp /etc/usbguard/usbguard-daemon.conf /root/settings && systemctl is-enabled usbguard && systemctl is-active usbguard && dpkg -V $name"
 show 'systemctl restart usbguard; sleep 1; systemctl is-active usbguard'
@@ -252,6 +254,93 @@ show "$policy; systemctl disable --now usbguard usbguard-dbus 2>&1"
 show 'DEBIAN_FRONTEND=noninteractive apt-get install -y /root/package.deb 2>&1 | grep -v ^Reading'
 ours
 check 'it is disabled still, and not started' '! systemctl is-enabled usbguard && ! systemctl is-active usbguard'
+
+# unharmed: the original was purged, and what it deletes is there again
+unharmed() {
+    check 'the original is purged' '[ "$(dpkg-query -W -f "\${db:Status-Status}" usbguard 2>/dev/null || echo not-installed)" = not-installed ]'
+    check 'rules and settings are as they were right before' \
+        'cmp /etc/usbguard/rules.conf /root/before/rules.conf && cmp /etc/usbguard/usbguard-daemon.conf /root/before/usbguard-daemon.conf && [ "$(stat -c %a /etc/usbguard/rules.conf)" = 600 ]'
+    check 'the service is enabled, and runs' 'systemctl is-enabled usbguard && systemctl is-active usbguard'
+    check 'the package has said so' 'grep "^usbguard-rattle: the original USBGuard was purged. Put back: /etc/usbguard/rules.conf /etc/usbguard/usbguard-daemon.conf" /root/said'
+    check 'nothing of our package is missing' "dpkg -V $name && systemctl cat usbguard | grep '^ExecStart=.*usbguard'"
+}
+
+echo
+echo "== apt-get install --purge over the original"
+begin
+show "$policy; systemctl restart usbguard; sleep 1; cp -a /etc/usbguard /root/before"
+show 'DEBIAN_FRONTEND=noninteractive apt-get install --purge -y /root/package.deb 2>&1 | grep -v ^Reading | tee /root/said'
+run '/usr/bin/usbguard-script -o -r /root/before/rules.conf >/root/carried && cp -p /root/before/rules.conf /root/original-rules && cat /root/carried >/root/before/rules.conf'
+unharmed
+guards
+show 'systemctl restart usbguard'
+guards
+
+echo
+echo "== The original's rests are purged later, behind an order that has changed the rules and an upgrade"
+begin
+show "$policy; systemctl restart usbguard; sleep 1; dpkg -i /root/package.deb && dpkg -i /root/next.deb"
+guards
+show 'usbguard append-rule "allow 1050:0077"; rm -rf /root/before; cp -a /etc/usbguard /root/before'
+show 'DEBIAN_FRONTEND=noninteractive apt-get purge -y "~c" 2>&1 | grep -v ^Reading | tee /root/said'
+unharmed
+check 'the rule of that order among them' 'grep "^allow id 1050:0077" /etc/usbguard/rules.conf'
+show 'rm /etc/usbguard/rules.conf; dpkg-deb --build /root/other /root/other.deb; dpkg -i /root/other.deb'
+check 'what an administrator removes himself stays away' 'test ! -e /etc/usbguard/rules.conf && test -e /etc/usbguard/rules.d/50-other.conf'
+
+echo
+echo "== Both are purged in one run"
+begin
+show "$policy; systemctl restart usbguard; sleep 1; dpkg -i /root/package.deb; dpkg --purge usbguard $name; ls -d /etc/usbguard /var/lib/usbguard; systemctl is-enabled usbguard"
+check 'nothing comes back' 'test ! -e /etc/usbguard/rules.conf && test ! -e /etc/usbguard/usbguard-daemon.conf && test ! -e /var/lib/usbguard && ! systemctl is-enabled usbguard'
+
+echo
+echo "== Moving back, as docs/moving.md says"
+# watched COMMAND: a command line, and each value that the key's authorized has while it runs and five seconds behind it
+watched() {
+    run 'systemd-run --unit=watching sh -c "while :; do cat /sys/bus/usb/devices/1-1/authorized; sleep 0.02; done >/root/values"'
+    show "$1; sleep 5; systemctl is-active usbguard; usbguard list-devices"
+    run 'systemctl stop watching'
+    check 'the original runs' 'systemctl is-active usbguard && grep -a usbguard-daemon /proc/$(systemctl show --value -p MainPID usbguard)/cmdline && ! usbguard --version 2>&1 | grep "^usbguard 0"'
+    check 'by its rule it allows the key, which is on at each moment' \
+        'usbguard list-devices -a | grep " id 1050:0011 " && grep -qx 1 /root/values && ! grep -vx 1 /root/values && grep -x 1 /sys/bus/usb/devices/1-1/authorized'
+}
+back='DEBIAN_FRONTEND=noninteractive apt-get install -y -o Dpkg::Options::=--force-confnew usbguard 2>&1 | tee /root/said'
+begin
+show "$policy; systemctl restart usbguard; sleep 1; dpkg -i /root/package.deb"
+run 'systemctl restart usbguard'
+guards
+watched "$back"
+check 'the package has said what it did with the rules' 'grep "rules.conf has the hashes that the original USBGuard has for root hubs" /root/said && grep usbguard-script.-m /root/said'
+check 'the rules are those of before the move' 'cmp /root/rules /etc/usbguard/rules.conf'
+show 'dpkg -i /root/package.deb'
+guards
+
+echo
+echo "== The same with the rules moved by hand"
+show "usbguard-script -u | awk '{ print \$1, \$2 }' > /root/hashes
+usbguard-script -m /root/hashes -r /etc/usbguard/rules.conf > /root/rules.original
+cp /root/rules.original /etc/usbguard/rules.conf"
+watched "$back"
+
+echo
+echo "== A start without a rule"
+begin
+show "$policy; systemctl disable --now usbguard usbguard-dbus; dpkg -i /root/package.deb; : > /etc/usbguard/rules.conf; echo 1 >/sys/bus/usb/devices/usb1/authorized_default"
+show 'systemctl start usbguard; echo "status $?"; sleep 3; systemctl status --no-pager usbguard'
+check 'it fails, with a status of its own' '! systemctl start usbguard && systemctl is-failed usbguard && systemctl show -p ExecMainStatus usbguard | grep -x ExecMainStatus=78'
+check "it isn't tried again" 'sleep 3; systemctl is-failed usbguard && systemctl show -p NRestarts usbguard | grep -x NRestarts=0'
+check 'systemctl status has the sentence with the two commands' \
+    'systemctl status --no-pager usbguard >/root/status; grep "there is no rule in /etc/usbguard/rules.conf" /root/status && grep "  usbguard-script | usbguard generate-policy > /etc/usbguard/rules.conf" /root/status && grep "  systemctl start usbguard" /root/status'
+hub 1 'it leaves the hubs:'
+for line in ImplicitPolicyTarget=allow PresentDevicePolicy=keep PresentDevicePolicy=allow; do
+    check "with $line it starts without a rule" \
+        "sed -i '/^${line%=*}=/d' /etc/usbguard/usbguard-daemon.conf && echo $line >>/etc/usbguard/usbguard-daemon.conf && systemctl start usbguard && systemctl is-active usbguard; done=\$?; systemctl stop usbguard; cp -p /root/settings /etc/usbguard/usbguard-daemon.conf; exit \$done"
+done
+show 'usbguard-script | usbguard generate-policy > /etc/usbguard/rules.conf
+systemctl start usbguard'
+check 'by the two commands it starts, and is closed against a hangup' \
+    'systemctl is-active usbguard && grep -qa "usbguard.daemon" /proc/$(systemctl show --value -p MainPID usbguard)/cmdline && systemctl kill -s HUP usbguard && sleep 2 && systemctl show -p NRestarts usbguard | grep -x NRestarts=0'
 
 echo
 echo "$failures failed"
