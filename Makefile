@@ -5,6 +5,7 @@
 #   make
 #   make install DESTDIR=/somewhere
 #   make deb
+#   make version
 #
 # With PROGRAM=PATH that program is taken, and nothing is built.
 
@@ -17,7 +18,9 @@ PACKAGE = usbguard-rattle
 RELEASE = $(shell sed -n 's/^const VERSION.*"\(.*\)";/\1/p' crates/usbguard/src/about.rt)
 COMMIT = $(shell git log -1 --date=format:%Y%m%d --format=%cd.%h --abbrev=7)
 VERSION = $(RELEASE)$(shell git describe --exact-match --match v$(RELEASE) >/dev/null 2>&1 || \
-	{ git rev-parse -q --verify v$(RELEASE) >/dev/null && printf + || printf '~'; echo $(COMMIT); })
+	{ git rev-parse -q --verify v$(RELEASE) >/dev/null && printf + || printf '~'; echo $(COMMIT); })$(UNPROVED)
+# Behind the version of a package whose program isn't the one that bin/build-usbguard has proved of these sources.
+UNPROVED = $(shell root="$(CURDIR)" sh -c '. bin/sources.sh; program=$$1; is_proved || echo "~unproved"' sh "$(PROGRAM)")
 
 prefix = /usr
 sysconfdir = /etc
@@ -49,19 +52,19 @@ install: program
 	$(INSTALL) -d -m 755 "$(DESTDIR)$(unitdir)" "$(DESTDIR)$(bashdir)" "$(DESTDIR)$(zshdir)"
 	$(INSTALL) -d -m 755 "$(DESTDIR)$(docdir)" "$(DESTDIR)$(docdir)/docs" "$(DESTDIR)$(docdir)/examples"
 	$(INSTALL) -m 755 "$(PROGRAM)" "$(DESTDIR)$(bindir)/usbguard"
-	$(INSTALL) -m 755 bin/usbguard-script "$(DESTDIR)$(bindir)/usbguard-script"
+	$(INSTALL) -m 755 bin/usbguard-script bin/usbguard-check bin/usbguard-access "$(DESTDIR)$(bindir)"
 	$(INSTALL) -m 755 packaging/usbguard-prepare "$(DESTDIR)$(libexecdir)/usbguard-prepare"
 	$(INSTALL) -m 755 packaging/usbguard-carry "$(DESTDIR)$(libexecdir)/usbguard-carry"
 	$(INSTALL) -m 755 packaging/usbguard-sockets "$(DESTDIR)$(libexecdir)/usbguard-sockets"
 	$(INSTALL) -m 644 man/usbguard.1 "$(DESTDIR)$(mandir)/man1/usbguard.1"
-	ln -sf usbguard.1 "$(DESTDIR)$(mandir)/man1/usbguard-script.1"
+	for page in script check access; do ln -sf usbguard.1 "$(DESTDIR)$(mandir)/man1/usbguard-$$page.1"; done
 	$(INSTALL) -m 644 man/usbguard-daemon.conf.5 man/usbguard-replay.5 man/usbguard-rules.conf.5 \
 		"$(DESTDIR)$(mandir)/man5"
 	sed -e 's|/usr/bin/usbguard|$(bindir)/usbguard|' -e 's|/usr/libexec/|$(libexecdir)/|' packaging/usbguard.service \
 		> "$(DESTDIR)$(unitdir)/usbguard.service"
 	chmod 644 "$(DESTDIR)$(unitdir)/usbguard.service"
 	$(INSTALL) -m 644 packaging/usbguard.bash "$(DESTDIR)$(bashdir)/usbguard"
-	ln -sf usbguard "$(DESTDIR)$(bashdir)/usbguard-script"
+	for page in script check access; do ln -sf usbguard "$(DESTDIR)$(bashdir)/usbguard-$$page"; done
 	$(INSTALL) -m 644 packaging/usbguard.zsh "$(DESTDIR)$(zshdir)/_usbguard"
 	$(INSTALL) -m 644 $(filter-out docs/%,$(DOCS)) "$(DESTDIR)$(docdir)"
 	$(INSTALL) -m 644 $(filter docs/%,$(DOCS)) "$(DESTDIR)$(docdir)/docs"
@@ -82,4 +85,7 @@ install-conf:
 deb: program
 	PROGRAM="$(PROGRAM)" packaging/make-deb.sh "$(PACKAGE)" "$(VERSION)"
 
-.PHONY: all program install install-conf deb
+version:
+	@echo "$(VERSION)"
+
+.PHONY: all program install install-conf deb version

@@ -16,8 +16,10 @@ mkdir -p "$root/DEBIAN"
 make --no-print-directory install PROGRAM="$PROGRAM" PACKAGE="$name" DESTDIR="$root" >/dev/null
 strip --strip-unneeded --remove-section=.comment --remove-section=.note "$root/usr/bin/usbguard"
 gzip -9 -n "$root"/usr/share/man/man5/*.5 "$root/usr/share/man/man1/usbguard.1"
-ln -sf usbguard.1.gz "$root/usr/share/man/man1/usbguard-script.1.gz"
-rm "$root/usr/share/man/man1/usbguard-script.1"
+for page in script check access; do
+    ln -sf usbguard.1.gz "$root/usr/share/man/man1/usbguard-$page.1.gz"
+    rm "$root/usr/share/man/man1/usbguard-$page.1"
+done
 # Debian has the licence's text once for all packages, and the copyright file names it.
 ln -sf ../../common-licenses/GPL-2 "$root/usr/share/doc/$name/LICENSE"
 install -m 644 packaging/copyright "$root/usr/share/doc/$name/copyright"

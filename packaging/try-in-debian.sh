@@ -83,6 +83,15 @@ check 'usbguard --version tells the version of the package' \
 show 'dpkg -L $(dpkg-deb -f /tmp/package.deb Package) | xargs ls -ld | grep -v ^d'
 show 'ls -ld /etc/usbguard/*'
 
+echo
+case $(make -s -C "$(dirname "$0")/.." version PROGRAM=/bin/true 2>&1) in
+*~unproved) echo "ok: the version of a package says so where its program isn't the proved one" ;;
+*)
+    echo "FAILED: the version of a package says so where its program isn't the proved one"
+    failures=$((failures + 1))
+    ;;
+esac
+
 if command -v lintian >/dev/null; then
     echo
     echo "== lintian"
@@ -107,7 +116,7 @@ check 'each link leads to a file' 'test ! -s /tmp/dead'
 
 echo
 echo "== Manual pages"
-for page in '1 usbguard' '1 usbguard-script' '5 usbguard-daemon.conf' '5 usbguard-replay' '5 usbguard-rules.conf'; do
+for page in '1 usbguard' '1 usbguard-script' '1 usbguard-check' '1 usbguard-access' '5 usbguard-daemon.conf' '5 usbguard-replay' '5 usbguard-rules.conf'; do
     check "man $page, with no warning" "man -w $page && LC_ALL=C.UTF-8 man --warnings -E UTF-8 $page 2>&1 >/dev/null | (! grep .)"
     check "mandoc -T lint of $page" 'mandoc -T lint $(man -w '"$page"')'
 done
@@ -237,6 +246,11 @@ done
 check 'not where its input comes from a file' 'usbguard check-rules </dev/null 2>&1 | (! grep terminal)'
 
 echo
+echo "== What usbguard-script says of itself"
+check 'asked for it: on standard output, with status 0' 'usbguard-script --help 2>/dev/null | grep "^usage: usbguard-script" && usbguard-script -h | grep -e "  -w ATTRIBUTE"'
+check 'behind a wrong option: on standard error, with status 1' 'usbguard-script -x 2>/tmp/1 | (! grep .) && grep "^usage:" /tmp/1 && { usbguard-script -x; test $? = 1; }'
+
+echo
 echo "== The commands"
 show 'cd /usr/share/doc/usbguard*/examples && usbguard replay < first.script'
 show 'usbguard read-descriptor < /sys/bus/usb/devices/1-1/descriptors'
@@ -306,6 +320,14 @@ echo
 echo "== Completion"
 mkdir -p "$root/run/usbguard"
 touch "$root/run/usbguard/root.socket"
+# what the daemon would list, at its socket and at another
+listing='usbguard() {
+    case $* in
+    list-devices) printf "2: allow id 1050:0011\n14: block id 1050:0012\n" ;;
+    list-rules) printf "1: allow id 1050:*\n3: block # temporary\n" ;;
+    "list-devices --socket /run/usbguard/joe.socket" | "list-devices --socket=/run/usbguard/joe.socket") echo "7: allow" ;;
+    esac
+}'
 bash='source /usr/share/bash-completion/completions/usbguard
 complete_words() { COMP_WORDS=("$@"); COMP_CWORD=$(($# - 1)); "_${1//-/_}"; echo "${COMPREPLY[*]}"; }'
 # completes WORDS.. WANTED: the last word is completed to this
@@ -350,19 +372,36 @@ completes "usbguard set-parameter ImplicitPolicyTarget ''" 'allow block reject'
 completes "usbguard set-parameter InsertedDevicePolicy ''" 'apply-policy block reject'
 completes "usbguard add-user joe --devices = modify,l" 'modify,list modify,listen'
 completes "usbguard add-user joe --policy ''" 'modify list ALL'
-completes "usbguard-script -" '-c -d -m -o -r -u -w'
+completes "usbguard-script -" '--help -c -d -k -m -o -r -u -w'
+completes "usbguard-script --h" '--help'
 completes "usbguard-script -w ''" 'hash parent-hash'
+bash="$bash
+$listing"
+completes "usbguard allow-device ''" '2 14'
+completes "usbguard block-device -p 1" '14'
+completes "usbguard reject-device --socket = /run/usbguard/joe.socket ''" '7'
+completes "usbguard remove-rule ''" '1 3'
+completes "usbguard append-rule -a ''" '1 3'
+completes "usbguard append-rule ''" ''
+completes "usbguard list-devices ''" ''
+cat >"$root/tmp/numbers.zsh" <<END
+$zsh
+$listing
+[[ \$(_usbguard_words usbguard allow-device '') == '2 14' && \$(_usbguard_words usbguard append-rule -a '') == '1 3' ]] || exit 1
+[[ \$(_usbguard_words usbguard remove-rule '') == '1 3' && \$(_usbguard_words usbguard block-device --socket=/run/usbguard/joe.socket '') == 7 ]]
+END
+check 'zsh: numbers of devices and of rules' 'zsh -f /tmp/numbers.zsh'
 completes "usbguard-script -r /etc/usbguard/rules.c" '/etc/usbguard/rules.conf'
 completes "usbguard-script -r /etc/usbguard/rules.d" '/etc/usbguard/rules.d'
 completes "usbguard-script -d /sys/bus/usb/d" '/sys/bus/usb/devices'
 check 'bash-completion loads both by itself' \
     'source /usr/share/bash-completion/bash_completion
-    for name in usbguard usbguard-script; do
+    for name in usbguard usbguard-script usbguard-check usbguard-access; do
         _completion_loader $name
         complete -p $name
     done'
 check 'zsh knows both' \
-    "zsh -fc 'autoload -Uz compinit && compinit -D -u && (( \$+_comps[usbguard] && \$+_comps[usbguard-script] ))'"
+    "zsh -fc 'autoload -Uz compinit && compinit -D -u && (( \$+_comps[usbguard] && \$+_comps[usbguard-script] && \$+_comps[usbguard-check] && \$+_comps[usbguard-access] ))'"
 
 # types SHELL KEYS WANTED: at the shell's prompt the keys give this command, as a function in the program's place shows it
 types() {
@@ -423,6 +462,42 @@ check 'nothing of root is overwritten, and the rule file stays' \
     echo RuleFile=/srv/theirs/rules.conf >/tmp/settings
     PATH=/tmp/planted:$PATH /usr/libexec/usbguard-carry /tmp/settings 2>/tmp/said
     grep -qx precious /root/precious && cmp /root/rules.before /srv/theirs/rules.conf && grep "another user than root may write to its folder" /tmp/said'
+
+echo
+echo "== What a start would refuse, told at once"
+show 'usbguard-check'
+check 'the settings and rules as they are' 'usbguard-check | grep -x "usbguard-check: a start takes all of it, with [0-9]* rules"'
+mkdir -p "$root/srv/bad/access" "$root/srv/bad/rules.d"
+printf 'RuleFile=/srv/bad/rules\nRuleFolder=/srv/bad/rules.d\nFrob=1\nIPCAccessControlFiles=/srv/bad/access\nImplicitPolicyTarget=frob\nRuleFile=/x\n' >"$root/srv/bad/settings"
+printf 'Devices=frob\nFrob\nPolicy=list\n' >"$root/srv/bad/access/joe"
+: >"$root/srv/bad/access/joe~"
+printf 'allow frob\n\nallow id 1050:*\nblock name "x\n' >"$root/srv/bad/rules.d/10.conf"
+printf '# one\nallow id 1050:0011\npermit\n' >"$root/srv/bad/rules"
+chmod 666 "$root/srv/bad/rules.d/10.conf"
+show 'usbguard-check -c /srv/bad/settings'
+check 'every fault is told, and the status is 1' 'usbguard-check -c /srv/bad/settings >/tmp/said; test $? = 1 && for place in "settings, line 3" "settings, line 5" "settings, line 6" "access/joe, line 1" "access/joe, line 2" "access/joe~" "rules.d/10.conf: it isn" "rules, line 3"; do
+        grep "^/srv/bad/$place" /tmp/said || exit 1; done; ! grep "line 2[^0-9].*rules\|Policy=list" /tmp/said'
+chmod 644 "$root/srv/bad/rules.d/10.conf"
+check 'of a file of rules too' 'usbguard-check -c /srv/bad/settings | grep -c "^/srv/bad/rules.d/10.conf, line [14]," | grep -x 2'
+printf 'RuleFile=/srv/bad/rules\n' >"$root/srv/bad/settings"
+printf 'allow id 1050:*\nallow id 1050:0011\nblock if false\n' >"$root/srv/bad/rules"
+check 'rules that never decide, and a device that would be blocked' 'usbguard-check -c /srv/bad/settings >/tmp/said && grep "^/srv/bad/rules, line 2: this rule never decides, since /srv/bad/rules, line 1 does" /tmp/said && grep "^/srv/bad/rules, line 3: this rule never decides: its conditions" /tmp/said
+    sed -i 1,2d /srv/bad/rules; usbguard-check -c /srv/bad/settings | grep -x "1-1: a device that is there now gets block (implicit)"'
+check 'no rule at all' ': >/srv/bad/rules; usbguard-check -c /srv/bad/settings >/tmp/said; test $? = 1 && grep "there is no rule in /srv/bad/rules" /tmp/said'
+check 'wrong options: 2' 'usbguard-check -x 2>/tmp/1; test $? = 2 && grep ^usage: /tmp/1'
+
+echo
+echo "== Access files by one command"
+show 'usbguard-access add joe --devices list && usbguard-access add joe --devices listen --policy list && usbguard-access set :users --parameters ALL && usbguard-access show; ls -l /etc/usbguard/IPCAccessControl.d'
+check 'what was granted stands in the file, which root alone may read' \
+    'printf "Devices=list,listen\nPolicy=list\n" | cmp - /etc/usbguard/IPCAccessControl.d/joe && [ "$(stat -c "%U %a" /etc/usbguard/IPCAccessControl.d/joe)" = "root 600" ]'
+check 'set grants just that' 'usbguard-access set joe --devices list && echo Devices=list | cmp - /etc/usbguard/IPCAccessControl.d/joe'
+check 'a wrong word or name changes nothing' \
+    '! usbguard-access add joe --devices frob && ! usbguard-access add joe~ --devices list && ! usbguard-access add ../joe --devices list && echo Devices=list | cmp - /etc/usbguard/IPCAccessControl.d/joe && ls /etc/usbguard/IPCAccessControl.d | (! grep -v -x -e joe -e :users)'
+check 'it says when it counts, and who is unknown' 'usbguard-access add nobody9 --devices list 2>&1 | grep "systemctl restart usbguard" && usbguard-access add nobody9 --devices list 2>&1 | grep "knows nobody of the name nobody9"'
+check 'remove takes it away' 'usbguard-access remove joe && usbguard-access remove nobody9 && usbguard-access remove :users && test -z "$(ls -A /etc/usbguard/IPCAccessControl.d)" && ! usbguard-access remove joe'
+check 'nothing is written where another may put a file' \
+    'mkdir -p /srv/open && chmod 777 /srv/open && echo IPCAccessControlFiles=/srv/open >/srv/bad/settings && ! usbguard-access -c /srv/bad/settings add joe --devices list && test -z "$(ls -A /srv/open)"'
 
 echo
 echo "== The package goes"

@@ -30,6 +30,17 @@ _usbguard_sockets() {
     ((${#COMPREPLY[@]})) || _usbguard_files "$1"
 }
 
+# The numbers of devices or of rules, as that command of the daemon lists them at its socket.
+_usbguard_numbers() {
+    local place socket=()
+    for ((place = 2; place < COMP_CWORD; place++)); do
+        [[ ${COMP_WORDS[place]} == --socket ]] || continue
+        [[ ${COMP_WORDS[place + 1]} != '=' ]] || ((place++))
+        socket=(--socket "${COMP_WORDS[place + 1]}")
+    done
+    _usbguard_words "$1" "$(usbguard "$2" "${socket[@]}" 2>/dev/null </dev/null | sed -n 's/^\([0-9]*\): .*/\1/p')"
+}
+
 # Whether the word names a file behind < or >.
 _usbguard_redirects() {
     [[ $1 == '<' || $1 == '>' || $1 == '>>' ]]
@@ -68,8 +79,27 @@ _usbguard_options() {
         _usbguard_privileges "$1" "$2" || [[ $1 != -* ]] ||
             _usbguard_words "$1" --devices --exceptions --parameters --policy
         ;;
-    allow-device | block-device | reject-device) [[ $1 != -* ]] || _usbguard_words "$1" --socket -p ;;
-    append-rule) [[ $1 != -* ]] || _usbguard_words "$1" --socket -a -t ;;
+    allow-device | block-device | reject-device)
+        if [[ $1 == -* ]]; then
+            _usbguard_words "$1" --socket -p
+        else
+            _usbguard_numbers "$1" list-devices
+        fi
+        ;;
+    append-rule)
+        if [[ $2 == -a ]]; then
+            _usbguard_numbers "$1" list-rules
+        elif [[ $1 == -* ]]; then
+            _usbguard_words "$1" --socket -a -t
+        fi
+        ;;
+    remove-rule)
+        if [[ $1 == -* ]]; then
+            _usbguard_words "$1" --socket
+        else
+            _usbguard_numbers "$1" list-rules
+        fi
+        ;;
     lint-rules) [[ $1 != -* ]] || _usbguard_words "$1" --prune ;;
     replay) [[ $1 != -* ]] || _usbguard_words "$1" --summary ;;
     watch) [[ $1 != -* ]] || _usbguard_words "$1" --socket -n ;;
@@ -80,7 +110,7 @@ _usbguard_options() {
             _usbguard_parameter "$1" "$2" "$3"
         fi
         ;;
-    list-devices | list-rules | remove-rule) [[ $1 != -* ]] || _usbguard_words "$1" --socket ;;
+    list-devices | list-rules) [[ $1 != -* ]] || _usbguard_words "$1" --socket ;;
     esac
 }
 
@@ -120,9 +150,34 @@ _usbguard_script() {
     -c | -m | -r) _usbguard_files "$word" ;;
     -d) _usbguard_files "$word" -d ;;
     -w) _usbguard_words "$word" hash parent-hash ;;
-    *) _usbguard_words "$word" -c -d -k -m -o -r -u -w ;;
+    *) _usbguard_words "$word" --help -c -d -k -m -o -r -u -w ;;
+    esac
+}
+
+_usbguard_check() {
+    local word=${COMP_WORDS[COMP_CWORD]} before=${COMP_WORDS[COMP_CWORD - 1]}
+    case $before in
+    -c) _usbguard_files "$word" ;;
+    -d) _usbguard_files "$word" -d ;;
+    *) _usbguard_words "$word" --help -c -d ;;
+    esac
+}
+
+_usbguard_access() {
+    local word=${COMP_WORDS[COMP_CWORD]} before=${COMP_WORDS[COMP_CWORD - 1]}
+    COMPREPLY=()
+    case $before in
+    -c) _usbguard_files "$word" ;;
+    add | set | remove | show) mapfile -t COMPREPLY < <(compgen -u -- "$word") ;;
+    usbguard-access) _usbguard_words "$word" --help -c add set remove show ;;
+    *)
+        _usbguard_privileges "$word" "$before" ||
+            _usbguard_words "$word" --devices --exceptions --parameters --policy
+        ;;
     esac
 }
 
 complete -F _usbguard usbguard
 complete -F _usbguard_script usbguard-script
+complete -F _usbguard_check usbguard-check
+complete -F _usbguard_access usbguard-access

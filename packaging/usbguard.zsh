@@ -1,5 +1,5 @@
-#compdef usbguard usbguard-script
-# Completion of usbguard and usbguard-script for zsh.
+#compdef usbguard usbguard-script usbguard-check usbguard-access
+# Completion of usbguard and its scripts for zsh.
 
 _usbguard_commands() {
     local -a commands=(
@@ -49,6 +49,18 @@ _usbguard_parameter() {
     esac
 }
 
+# The numbers of devices or of rules, as that command of the daemon lists them at its socket.
+_usbguard_numbers() {
+    local -a numbers socket
+    local place=${words[(I)--socket*]}
+    case ${words[place]-} in
+        --socket=*) socket=(${words[place]}) ;;
+        --socket) socket=(--socket ${words[place + 1]}) ;;
+    esac
+    numbers=(${(f)"$(usbguard $1 $socket 2>/dev/null </dev/null | sed -n 's/^\([0-9]*\): /\1:/p')"})
+    _describe number numbers
+}
+
 _usbguard_options() {
     case $words[2] in
         add-user) compadd -- --devices --exceptions --parameters --policy ;;
@@ -64,6 +76,7 @@ _usbguard_options() {
 _usbguard() {
     if [[ $service == usbguard-script ]]; then
         _arguments -s \
+            '(- *)--help[tell how it is used]' \
             '-c[a file of settings]:settings:_files' \
             '-d[the folder of devices]:folder:_files -/' \
             '-k[write a hint line for each uevent of USB]' \
@@ -72,6 +85,18 @@ _usbguard() {
             '*-r[a file of rules, or the folder of RuleFolder]:rules:_files' \
             '-u[write the root hubs]' \
             '-w[write the rules without an attribute]:attribute:(hash parent-hash)'
+    elif [[ $service == usbguard-check ]]; then
+        _arguments '(- *)--help[tell how it is used]' '-c[a file of settings]:settings:_files' '-d[the folder of devices]:folder:_files -/'
+    elif [[ $service == usbguard-access ]]; then
+        if [[ $words[CURRENT-1] == (add|set|remove|show) ]]; then
+            _users
+        elif ((CURRENT == 2)); then
+            compadd -- --help -c add set remove show
+        elif [[ $words[CURRENT-1] == --(devices|policy|exceptions|parameters) ]]; then
+            _usbguard_privileges $words[CURRENT-1]
+        else
+            compadd -- --devices --exceptions --parameters --policy
+        fi
     elif ((CURRENT == 2)) && [[ $words[2] == -* ]]; then
         compadd -- --help --version
     elif ((CURRENT == 2)); then
@@ -91,6 +116,10 @@ _usbguard() {
         _usbguard_privileges $option
     elif [[ $words[CURRENT] == -* ]]; then
         _usbguard_options
+    elif [[ $words[2] == (allow|block|reject)-device ]]; then
+        _usbguard_numbers list-devices
+    elif [[ $words[2] == remove-rule || $words[2] == append-rule && $words[CURRENT-1] == -a ]]; then
+        _usbguard_numbers list-rules
     elif [[ $words[2] == (get|set)-parameter ]]; then
         _usbguard_parameter
     fi
