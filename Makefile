@@ -5,6 +5,7 @@
 #   make
 #   make install DESTDIR=/somewhere
 #   make deb
+#   make rpm
 #   make version
 #
 # With PROGRAM=PATH that program is taken, and nothing is built.
@@ -85,7 +86,10 @@ install-conf:
 deb: program
 	PROGRAM="$(PROGRAM)" packaging/make-deb.sh "$(PACKAGE)" "$(VERSION)"
 
+rpm: program
+	PROGRAM="$(PROGRAM)" packaging/make-rpm.sh "$(PACKAGE)" "$(VERSION)"
+
 version:
 	@echo "$(VERSION)"
 
-.PHONY: all program install install-conf deb version
+.PHONY: all program install install-conf deb rpm version
