@@ -500,6 +500,22 @@ check 'nothing is written where another may put a file' \
     'mkdir -p /srv/open && chmod 777 /srv/open && echo IPCAccessControlFiles=/srv/open >/srv/bad/settings && ! usbguard-access -c /srv/bad/settings add joe --devices list && test -z "$(ls -A /srv/open)"'
 
 echo
+echo "== One policy for many machines, by the commands of docs/fleet.md"
+mkdir "$root/tmp/fleet"
+sed -n '/^## Rules that fit/,/^## Try them/s/^ \{6\}//p' "$root"/usr/share/doc/usbguard*/docs/fleet.md >"$root/tmp/fleet/1"
+sed -n '/^## Try them/,/^## A package/s/^    //p' "$root"/usr/share/doc/usbguard*/docs/fleet.md | grep -v '^desk-2 ' >"$root/tmp/fleet/2"
+sed -n '/^## A package/,/^## The journals/s/^    //p' "$root"/usr/share/doc/usbguard*/docs/fleet.md | sed '/^install -d/,$d' >"$root/tmp/fleet/3"
+sed -n '/^## A package/,/^## The journals/s/^    //p' "$root"/usr/share/doc/usbguard*/docs/fleet.md | sed -n '/^install -d/,$p' >"$root/tmp/fleet/4"
+show 'cd /tmp/fleet && cat 1 2 3 4'
+show 'cd /tmp/fleet && sh -e 1 && cat all.rules && sh -e 2 && sh -e 3'
+check 'the rules name no root hub by parent-hash, and are good' 'grep "^allow id 1050:0011" /tmp/fleet/all.rules && ! grep parent-hash /tmp/fleet/all.rules && usbguard check-rules </tmp/fleet/all.rules'
+echo 'block' >"$root/tmp/fleet/all.rules"
+check 'where a policy is rehearsed, a device that would be blocked is told with its machine' "cd /tmp/fleet && sh -e 2 | grep \"^\$(hostname) judged [0-9]* 1-1 block rule 1\""
+check 'the package puts the policy in its place' 'cd /tmp/fleet && sh -e 1 && sh -e 3 && dpkg -i site-usb-policy_1_all.deb && cmp all.rules /etc/usbguard/rules.conf && [ "$(stat -c "%U %a" /etc/usbguard/rules.conf)" = "root 600" ]'
+check 'and not where it is bad' 'cd /tmp/fleet && echo frob >all.rules && cp /etc/usbguard/rules.conf before && sh -e 3 && ! dpkg -i site-usb-policy_1_all.deb && cmp before /etc/usbguard/rules.conf; dpkg -P site-usb-policy'
+check 'a policy in the folder of rules' 'cd /tmp/fleet && sh -e 4 && ls /etc/usbguard/rules.d | grep -x 50-site.conf && usbguard-check | grep "a start takes all"; rm /etc/usbguard/rules.d/50-site.conf'
+
+echo
 echo "== The package goes"
 show 'dpkg -r $(dpkg-deb -f /tmp/package.deb Package)'
 check 'settings and rules stay' 'test -e /etc/usbguard/rules.conf && test -e /etc/usbguard/usbguard-daemon.conf'

@@ -343,5 +343,25 @@ check 'by the two commands it starts, and is closed against a hangup' \
     'systemctl is-active usbguard && grep -qa "usbguard.daemon" /proc/$(systemctl show --value -p MainPID usbguard)/cmdline && systemctl kill -s HUP usbguard && sleep 2 && systemctl show -p NRestarts usbguard | grep -x NRestarts=0'
 
 echo
+echo "== The steps of docs/moving.md before the installation, with a disk of two storage interfaces that the original keeps out"
+begin
+sys=$root/root/sys
+disk=$sys/devices/pci0000:00/0000:00:14.0/usb1/1-2
+device "$disk" 1050:0012 Disk 7 \
+    '\022\001\000\002\000\000\000\100\120\020\022\000\000\001\001\002\003\001\011\002\033\000\002\001\000\200\062\011\004\000\000\000\010\006\120\000\011\004\001\000\000\010\006\120\000'
+mkdir "$disk/port"
+echo hotplug >"$disk/port/connect_type"
+ln -s ../../../devices/pci0000:00/0000:00:14.0/usb1/1-2 "$sys/bus/usb/devices/1-2"
+show "$policy; sed -i '/ 1050:0012 /d' /etc/usbguard/rules.conf; echo 'allow with-interface equals { 08:06:50 }' >> /etc/usbguard/rules.conf; systemctl restart usbguard; sleep 1; usbguard list-devices"
+# steps: the commands of steps 1 to 3 that stand in the page, with the package at its place
+dpkg-deb --fsys-tarfile "$package" | tar -xO "./usr/share/doc/$name/docs/moving.md" |
+    awk '/^## How to move$/ { inside = 1 } /^4\. / { inside = 0 } inside && /^       / { sub(/^       /, ""); print }' |
+    sed 's|usbguard-rattle_\*\.deb|/root/package.deb|' >"$root/root/steps"
+show 'cat /root/steps; cd /root && sh steps'
+check 'they say that the rules are good, and which device is judged otherwise' \
+    'cd /root && sh steps >said; grep -x "rules 3" said && grep -x "< 1-2 block" said && grep -x "> 1-2 allow" said && ! grep -e "^[<>] 1-1" -e ^bad said'
+check 'the original runs on' 'systemctl is-active usbguard && grep -a usbguard-daemon /proc/$(systemctl show --value -p MainPID usbguard)/cmdline'
+
+echo
 echo "$failures failed"
 [ "$failures" -eq 0 ]
