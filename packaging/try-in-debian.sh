@@ -445,7 +445,18 @@ kernel 001 000
 check 'the other way the rules have the hashes of the original USBGuard' \
     '/usr/libexec/usbguard-carry -o && usbguard-script -u | while read -r own original rest; do ! grep -F "$own" /etc/usbguard/rules.conf && grep -F "$original" /etc/usbguard/rules.conf || exit 1; done'
 check 'and this program knows them again' '/usr/libexec/usbguard-carry; usbguard-script -u | while read -r own rest; do grep -F "$own" /etc/usbguard/rules.conf || exit 1; done'
-rm -r "$root/sys/bus/usb/devices/usb7" "$root/sys/bus/usb/devices/7-1" "$root/tmp/dock"
+mkdir "$root/tmp/away"
+mv "$root/sys/bus/usb/devices/usb7" "$root/sys/bus/usb/devices/7-1" "$root/tmp/away"
+show 'usbguard-script | usbguard generate-policy > /etc/usbguard/rules.conf'
+start
+sleep 2
+mv "$root/tmp/away/usb7" "$root/sys/bus/usb/devices/"
+sleep 2
+show 'usbguard list-devices; cat /sys/bus/usb/devices/usb7/authorized'
+check 'one that no rule allows is off, and by the commands of docs/locked-out.md it is on, with a rule' \
+    'grep -x 0 /sys/bus/usb/devices/usb7/authorized && number=$(usbguard list-devices | grep " id 1d6b:" | sed -n "s/^\([0-9]*\): block .*/\1/p") && usbguard allow-device "$number" -p && grep -x 1 /sys/bus/usb/devices/usb7/authorized && grep "^allow id 1d6b:0002 serial \"0000:3a:00.0\"" /etc/usbguard/rules.conf'
+stop
+rm -r "$root/sys/bus/usb/devices/usb7" "$root/tmp/away" "$root/tmp/dock" "$root/run/usbguard"
 
 echo
 echo "== Where another user may write to the folder of the rule file, he plants a link right before the new file is written"
@@ -475,7 +486,8 @@ printf 'allow frob\n\nallow id 1050:*\nblock name "x\n' >"$root/srv/bad/rules.d/
 printf '# one\nallow id 1050:0011\npermit\n' >"$root/srv/bad/rules"
 chmod 666 "$root/srv/bad/rules.d/10.conf"
 show 'usbguard-check -c /srv/bad/settings'
-check 'every fault is told, and the status is 1' 'usbguard-check -c /srv/bad/settings >/tmp/said; test $? = 1 && for place in "settings, line 3" "settings, line 5" "settings, line 6" "access/joe, line 1" "access/joe, line 2" "access/joe~" "rules.d/10.conf: it isn" "rules, line 3"; do
+check 'every fault is told, and the status is 1' 'usbguard-check -c /srv/bad/settings >/tmp/said; test $? = 1 || exit 1
+    for place in "settings, line 3" "settings, line 5" "settings, line 6" "access/joe, line 1" "access/joe, line 2" "access/joe~" "rules.d/10.conf: it isn" "rules, line 3"; do
         grep "^/srv/bad/$place" /tmp/said || exit 1; done; ! grep "line 2[^0-9].*rules\|Policy=list" /tmp/said'
 chmod 644 "$root/srv/bad/rules.d/10.conf"
 check 'of a file of rules too' 'usbguard-check -c /srv/bad/settings | grep -c "^/srv/bad/rules.d/10.conf, line [14]," | grep -x 2'
@@ -497,7 +509,7 @@ check 'a wrong word or name changes nothing' \
 check 'it says when it counts, and who is unknown' 'usbguard-access add nobody9 --devices list 2>&1 | grep "systemctl restart usbguard" && usbguard-access add nobody9 --devices list 2>&1 | grep "knows nobody of the name nobody9"'
 check 'remove takes it away' 'usbguard-access remove joe && usbguard-access remove nobody9 && usbguard-access remove :users && test -z "$(ls -A /etc/usbguard/IPCAccessControl.d)" && ! usbguard-access remove joe'
 check 'nothing is written where another may put a file' \
-    'mkdir -p /srv/open && chmod 777 /srv/open && echo IPCAccessControlFiles=/srv/open >/srv/bad/settings && ! usbguard-access -c /srv/bad/settings add joe --devices list && test -z "$(ls -A /srv/open)"'
+    'usbguard-access --help && mkdir -p /srv/open && chmod 777 /srv/open && echo IPCAccessControlFiles=/srv/open >/srv/bad/settings && ! usbguard-access -c /srv/bad/settings add joe --devices list && test -z "$(ls -A /srv/open)"'
 
 echo
 echo "== One policy for many machines, by the commands of docs/fleet.md"

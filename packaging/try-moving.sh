@@ -343,6 +343,11 @@ check 'by the two commands it starts, and is closed against a hangup' \
     'systemctl is-active usbguard && grep -qa "usbguard.daemon" /proc/$(systemctl show --value -p MainPID usbguard)/cmdline && systemctl kill -s HUP usbguard && sleep 2 && systemctl show -p NRestarts usbguard | grep -x NRestarts=0'
 
 echo
+echo "== An upgrade where the settings have a bad line by now"
+show 'echo Frob=1 >> /etc/usbguard/usbguard-daemon.conf; dpkg -i /root/next.deb 2>&1 | tee /root/said'
+check 'it says which, and is done all the same' 'grep "^usbguard-rattle: a restart of the service would fail" /root/said && grep "^usbguard-rattle: /etc/usbguard/usbguard-daemon.conf, line [0-9]*" /root/said && grep "Frob=1" /root/said && dpkg -s usbguard-rattle | grep "^Status: install ok installed"'
+
+echo
 echo "== The steps of docs/moving.md before the installation, with a disk of two storage interfaces that the original keeps out"
 begin
 sys=$root/root/sys
