@@ -501,6 +501,8 @@ check 'wrong options: 2' 'usbguard-check -x 2>/tmp/1; test $? = 2 && grep ^usage
 echo
 echo "== Access files by one command"
 show 'usbguard-access add joe --devices list && usbguard-access add joe --devices listen --policy list && usbguard-access set :users --parameters ALL && usbguard-access show; ls -l /etc/usbguard/IPCAccessControl.d'
+check 'a text that goes to no file is told to grant nothing' 'usbguard add-user joe --devices list </dev/null 2>&1 >/dev/null | grep "IPCAccessControl.d, where usbguard-access add puts it.*systemctl restart usbguard" && usbguard add-user joe --devices list </dev/null 2>&1 | grep -x Devices=list'
+check 'and one that goes to a file is not, nor is a wrong word' 'usbguard add-user joe --devices list </dev/null 2>/tmp/2 >/tmp/1 && test ! -s /tmp/2 && ! usbguard add-user joe --devices frob 2>&1 </dev/null | grep "grants nothing"'
 check 'what was granted stands in the file, which root alone may read' \
     'printf "Devices=list,listen\nPolicy=list\n" | cmp - /etc/usbguard/IPCAccessControl.d/joe && [ "$(stat -c "%U %a" /etc/usbguard/IPCAccessControl.d/joe)" = "root 600" ]'
 check 'set grants just that' 'usbguard-access set joe --devices list && echo Devices=list | cmp - /etc/usbguard/IPCAccessControl.d/joe'
@@ -525,7 +527,7 @@ echo 'block' >"$root/tmp/fleet/all.rules"
 check 'where a policy is rehearsed, a device that would be blocked is told with its machine' "cd /tmp/fleet && sh -e 2 | grep \"^\$(hostname) judged [0-9]* 1-1 block rule 1\""
 check 'the package puts the policy in its place' 'cd /tmp/fleet && sh -e 1 && sh -e 3 && dpkg -i site-usb-policy_1_all.deb && cmp all.rules /etc/usbguard/rules.conf && [ "$(stat -c "%U %a" /etc/usbguard/rules.conf)" = "root 600" ]'
 check 'and not where it is bad' 'cd /tmp/fleet && echo frob >all.rules && cp /etc/usbguard/rules.conf before && sh -e 3 && ! dpkg -i site-usb-policy_1_all.deb && cmp before /etc/usbguard/rules.conf; dpkg -P site-usb-policy'
-check 'a policy in the folder of rules' 'cd /tmp/fleet && sh -e 4 && ls /etc/usbguard/rules.d | grep -x 50-site.conf && usbguard-check | grep "a start takes all"; rm /etc/usbguard/rules.d/50-site.conf'
+check 'a policy in the folder of rules' 'cd /tmp/fleet && sh -e 1 && sh -e 3 && dpkg -i site-usb-policy_1_all.deb && sh -e 4 && ls /etc/usbguard/rules.d | grep -x 50-site.conf && usbguard-check | grep "a start takes all"; good=$?; rm /etc/usbguard/rules.d/50-site.conf; dpkg -P site-usb-policy; exit $good'
 
 echo
 echo "== The package goes"

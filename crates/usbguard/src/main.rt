@@ -10,6 +10,7 @@ mod serve;
 mod shown;
 mod texts;
 mod told;
+mod unkept;
 mod usage;
 mod waiting;
 mod words;
@@ -19,6 +20,7 @@ use crate::last_line::{LastLine, tell_line};
 use crate::link_words::tell_link;
 use crate::serve::serve;
 use crate::texts::{TextsFault, read_texts, words_of};
+use crate::unkept::tell_unkept;
 use crate::usage::{tell, tell_unreadable};
 use crate::waiting::tell_waiting;
 use std::io;
@@ -77,6 +79,7 @@ fn run_and_tell(rt: HostRuntime, words: &[&str]) -> u8 {
     tell_line(&rt, lines.text());
     drop(lines);
     tell(&rt, words, status);
+    tell_unkept(&rt, words, status);
     status
 }
 
