@@ -25,6 +25,7 @@ from pathlib import Path
 HERE = Path(__file__).resolve().parent
 sys.path.insert(0, str(HERE.parent / "bench"))
 from daemon import DEVICES, KEY, Machine  # noqa: E402
+import edge_files  # noqa: E402
 
 RUN = Path("/run/usbguard")
 failures = []
@@ -545,7 +546,9 @@ def trial_root_hubs(o, machine, folder):
 
 
 def main():
-    trials = {name[6:].replace("_", "-"): value for name, value in globals().items() if name.startswith("trial_")}
+    edge_files.edge = sys.modules[__name__]
+    all_here = {**globals(), **vars(edge_files)}
+    trials = {name[6:].replace("_", "-"): value for name, value in all_here.items() if name.startswith("trial_")}
     a = argparse.ArgumentParser(description=__doc__, formatter_class=argparse.RawDescriptionHelpFormatter)
     a.add_argument("--program", default=str(HERE.parent / "crates/usbguard/out/usbguard"))
     a.add_argument("trial", nargs="*", help=", ".join(trials))

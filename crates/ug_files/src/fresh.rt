@@ -1,11 +1,11 @@
 // A new file that is to take another's place: rename(2), fsync(2).
-use crate::file::{FileFault, plain};
 use crate::linked::{folder_of, resolve};
+use crate::opening::open_plain;
 use crate::status::check_status;
-use std::alloc::Global;
+use std::alloc::{AllocError, Global};
 use std::fs;
 use std::fs::{Metadata, OpenFile, OpenOptions};
-use std::io::Write;
+use std::io::{self, ErrorKind, Write};
 use std::os::fd::AsRawFd;
 use std::os::unix::fs::{MetadataExt, OpenOptionsExt, PermissionsExt};
 use std::rt::Files;
@@ -30,51 +30,51 @@ pub struct Fresh<F> {
 
 impl<F> Fresh<F> {
     /// Puts the file in the other's place, and makes that durable.
-    pub fn swap<R: Files>(&self, rt: &R) -> Result<(), FileFault> {
+    pub fn swap<R: Files>(&self, rt: &R) -> io::Result<()> {
         let places = &self.places;
-        plain(fs::rename(rt, places.path.as_str(), places.target.as_str()))?;
-        let folder = plain(fs::open(rt, places.folder.as_str()))?;
-        plain(folder.sync_all())
+        fs::rename(rt, places.path.as_str(), places.target.as_str())?;
+        let folder = open_plain(rt, places.folder.as_str())?;
+        folder.sync_all()
     }
 }
 
 impl<F: OpenFile> Fresh<F> {
     /// Makes the file's bytes durable, and its owner and mode.
-    pub fn sync(&self) -> Result<(), FileFault> {
-        plain(self.file.sync_all())
+    pub fn sync(&self) -> io::Result<()> {
+        self.file.sync_all()
     }
 }
 
-fn take_owner<F: OpenFile + AsRawFd>(file: &F, old: &Metadata) -> Result<(), FileFault> {
-    let new = plain(file.metadata())?;
+fn take_owner<F: OpenFile + AsRawFd>(file: &F, old: &Metadata) -> io::Result<()> {
+    let new = file.metadata()?;
     if old.uid() == new.uid() && old.gid() == new.gid() {
         return Ok(());
     }
-    plain(check_status(libc::fchown(file.as_raw_fd(), old.uid(), old.gid())))
+    check_status(libc::fchown(file.as_raw_fd(), old.uid(), old.gid()))
 }
 
-fn take_mode<F: OpenFile>(file: &F, old: &Metadata) -> Result<(), FileFault> {
+fn take_mode<F: OpenFile>(file: &F, old: &Metadata) -> io::Result<()> {
     let mut mode = old.permissions();
     mode.set_mode(old.mode() & 0o7777);
-    plain(file.set_permissions(mode))
+    file.set_permissions(mode)
 }
 
 // Gives a file the owner and the mode of the one at the other path. Where there is none, it keeps those that it was made with.
-fn take_over<R: Files>(rt: &R, file: &R::File, target: &str) -> Result<(), FileFault>
+fn take_over<R: Files>(rt: &R, file: &R::File, target: &str) -> io::Result<()>
 where
     R::File: AsRawFd,
 {
-    match plain(fs::metadata(rt, target)) {
+    match fs::metadata(rt, target) {
         Ok(old) => {
             take_owner(file, &old)?;
             take_mode(file, &old)
         }
-        Err(FileFault::Missing) => Ok(()),
-        Err(fault) => Err(fault),
+        Err(error) if error.kind() == ErrorKind::NotFound => Ok(()),
+        Err(error) => Err(error),
     }
 }
 
-fn places_of(alloc: Global, target: String) -> Result<Places, FileFault> {
+fn places_of(alloc: Global, target: String) -> Result<Places, AllocError> {
     let path = [target.as_str(), ENDING].concat(alloc)?;
     let folder = [folder_of(target.as_str()), "."].concat(alloc)?;
     Ok(Places {
@@ -85,26 +85,26 @@ fn places_of(alloc: Global, target: String) -> Result<Places, FileFault> {
 }
 
 // Makes a file at the path, from which it removes what an earlier run left.
-fn create<R: Files>(rt: &R, path: &str) -> Result<R::File, FileFault> {
-    match plain(fs::remove_file(rt, path)) {
-        Ok(()) | Err(FileFault::Missing) => plain(
-            OpenOptions::new()
-                .write(true)
-                .create_new(true)
-                .mode(0o600)
-                .open(rt, path),
-        ),
-        Err(fault) => Err(fault),
+fn create<R: Files>(rt: &R, path: &str) -> io::Result<R::File> {
+    if let Err(error) = fs::remove_file(rt, path)
+        && error.kind() != ErrorKind::NotFound
+    {
+        return Err(error);
     }
+    OpenOptions::new()
+        .write(true)
+        .create_new(true)
+        .mode(0o600)
+        .open(rt, path)
 }
 
-fn make_at<R: Files>(rt: &R, places: &Places, bytes: &[u8]) -> Result<R::File, FileFault>
+fn make_at<R: Files>(rt: &R, places: &Places, bytes: &[u8]) -> io::Result<R::File>
 where
     R::File: AsRawFd,
 {
     let mut file = create(rt, places.path.as_str())?;
     take_over(rt, &file, places.target.as_str())?;
-    plain(file.write_all(bytes))?;
+    file.write_all(bytes)?;
     Ok(file)
 }
 
@@ -115,7 +115,7 @@ pub fn make_fresh<R: Files>(
     alloc: Global,
     path: &str,
     bytes: &[u8],
-) -> Result<Fresh<R::File>, FileFault>
+) -> io::Result<Fresh<R::File>>
 where
     R::File: AsRawFd,
 {

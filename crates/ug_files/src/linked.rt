@@ -1,7 +1,7 @@
 // Links in a file's place: symlink(7).
-use crate::file::{FileFault, plain};
 use std::alloc::{AllocError, Global};
 use std::fs;
+use std::io::{self, ErrorKind};
 use std::path::AsPath;
 use std::rt::Files;
 
@@ -25,19 +25,20 @@ fn whole_path(alloc: Global, folder: &str, target: &str) -> Result<String, Alloc
 }
 
 /// Where the link at a path leads, or None where no link is there.
-fn follow<R: Files>(rt: &R, alloc: Global, path: &str) -> Result<Option<String>, FileFault> {
-    match plain(fs::symlink_metadata(rt, path)) {
+fn follow<R: Files>(rt: &R, alloc: Global, path: &str) -> io::Result<Option<String>> {
+    match fs::symlink_metadata(rt, path) {
         Ok(metadata) if metadata.is_symlink() => {}
-        Ok(_) | Err(FileFault::Missing) => return Ok(None),
-        Err(fault) => return Err(fault),
+        Ok(_) => return Ok(None),
+        Err(error) if error.kind() == ErrorKind::NotFound => return Ok(None),
+        Err(error) => return Err(error),
     }
-    let target = plain(rt.read_link(alloc, path))?;
+    let target = rt.read_link(alloc, path)?;
     let whole = whole_path(alloc, folder_of(path), target.path_text())?;
     Ok(Some(whole))
 }
 
 /// The path behind all links in a file's place, whether or not a file is there.
-pub fn resolve<R: Files>(rt: &R, alloc: Global, path: &str) -> Result<String, FileFault> {
+pub fn resolve<R: Files>(rt: &R, alloc: Global, path: &str) -> io::Result<String> {
     let mut at = String::from_str(alloc, path)?;
     for _ in 0..MOST {
         match follow(rt, alloc, at.as_str())? {
@@ -45,5 +46,5 @@ pub fn resolve<R: Files>(rt: &R, alloc: Global, path: &str) -> Result<String, Fi
             None => return Ok(at),
         }
     }
-    Err(FileFault::Failed)
+    Err(io::Error::from(ErrorKind::FilesystemLoop))
 }

@@ -1,11 +1,11 @@
 // Whether a file has a text, which takes no memory.
-use crate::file::{FileFault, plain, read_piece};
-use std::fs;
-use std::io::Read;
+use crate::file::read_piece;
+use crate::opening::open_plain;
+use std::io::{self, ErrorKind, Read};
 use std::rt::Files;
 
 // Whether what is left of a file is that text.
-fn ends_with<F: Read>(file: &mut F, text: &[u8]) -> Result<bool, FileFault> {
+fn ends_with<F: Read>(file: &mut F, text: &[u8]) -> io::Result<bool> {
     let mut rest = text;
     let mut piece = [0u8; 4096];
     for _ in 0..u64::MAX {
@@ -18,14 +18,14 @@ fn ends_with<F: Read>(file: &mut F, text: &[u8]) -> Result<bool, FileFault> {
             None => return Ok(false),
         }
     }
-    Err(FileFault::Failed)
+    Err(io::Error::from(ErrorKind::FileTooLarge))
 }
 
 /// Whether the file at a path has that text, or isn't there.
-pub fn has_text<R: Files>(rt: &R, path: &str, text: &[u8]) -> Result<bool, FileFault> {
-    match plain(fs::open(rt, path)) {
+pub fn has_text<R: Files>(rt: &R, path: &str, text: &[u8]) -> io::Result<bool> {
+    match open_plain(rt, path) {
         Ok(mut file) => ends_with(&mut file, text),
-        Err(FileFault::Missing) => Ok(true),
-        Err(fault) => Err(fault),
+        Err(error) if error.kind() == ErrorKind::NotFound => Ok(true),
+        Err(error) => Err(error),
     }
 }

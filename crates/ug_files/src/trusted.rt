@@ -2,6 +2,7 @@
 use crate::at_once::tell;
 use crate::file::{FileFault, plain};
 use crate::linked::{folder_of, resolve};
+use crate::opening::open_plain;
 use std::alloc::Global;
 use std::fs::{self, Metadata, OpenFile};
 use std::io::{self, ErrorKind};
@@ -12,6 +13,9 @@ use std::rt::Files;
 const WRITABLE: u32 = 0o022;
 
 const STICKY: u32 = 0o1000;
+
+/// How often a file is opened in whose place there is another by then.
+const TRIES: u32 = 100;
 
 /// Whether root or the daemon's user owns it.
 fn is_owned(metadata: &Metadata) -> bool {
@@ -56,58 +60,72 @@ fn check_folder<R: Files>(rt: &R, alloc: Global, folder: &str) -> Result<(), Fil
     }
 }
 
-// Whether the file stands at the path.
-fn check_place<R: Files>(rt: &R, path: &str, file: &Metadata) -> Result<(), FileFault> {
-    let there = plain(fs::metadata(rt, path))?;
-    if there.dev() != file.dev() || there.ino() != file.ino() {
-        return Err(FileFault::Failed);
-    }
-    Ok(())
-}
-
-// Whether the file stands behind the links at the path, and nobody else can put another one there.
-fn check_target<R: Files>(
-    rt: &R,
-    alloc: Global,
-    path: &str,
-    file: &Metadata,
-) -> Result<(), FileFault> {
-    let target = resolve(rt, alloc, path)?;
-    match check_folder(rt, alloc, folder_of(target.as_str())) {
-        Ok(()) => check_place(rt, target.as_str(), file),
+// Whether the file stands at the path still.
+fn is_at<R: Files>(rt: &R, path: &str, file: &Metadata) -> Result<bool, FileFault> {
+    match plain(fs::metadata(rt, path)) {
+        Ok(there) => Ok(there.dev() == file.dev() && there.ino() == file.ino()),
+        Err(FileFault::Missing) => Ok(false),
         Err(fault) => Err(fault),
     }
 }
 
-fn check_file<R: Files>(
+// Whether the file stands behind the links at the path still. It fails where somebody else can put another one there.
+fn is_target<R: Files>(
+    rt: &R,
+    alloc: Global,
+    path: &str,
+    file: &Metadata,
+) -> Result<bool, FileFault> {
+    let target = plain(resolve(rt, alloc, path))?;
+    match check_folder(rt, alloc, folder_of(target.as_str())) {
+        Ok(()) => is_at(rt, target.as_str(), file),
+        Err(fault) => Err(fault),
+    }
+}
+
+// The same of a file that nobody else may write to. It fails where somebody may.
+fn is_safe_target<R: Files>(
     rt: &R,
     alloc: Global,
     path: &str,
     file: &R::File,
-) -> Result<(), FileFault> {
+) -> Result<bool, FileFault> {
     let metadata = plain(file.metadata())?;
     if is_safe_file(&metadata) {
-        return check_target(rt, alloc, path, &metadata);
+        return is_target(rt, alloc, path, &metadata);
     }
     tell_unsafe(alloc, path, &metadata);
     Err(FileFault::Failed)
 }
 
-// Whether it is neither a file nor a folder. Opening a pipe would wait for its writer.
-fn is_other<R: Files>(rt: &R, path: &str) -> bool {
-    match fs::metadata(rt, path) {
-        Ok(metadata) => !metadata.is_file() && !metadata.is_dir(),
-        Err(_) => false,
+fn tell_replaced(alloc: Global, path: &str) {
+    if let Ok(sentence) = format!(in alloc;
+        "usbguard: {path} isn't taken: another file takes its place again and again.\n"
+    ) {
+        tell(sentence.as_str());
+    }
+}
+
+fn tell_other_kind(alloc: Global, path: &str) {
+    if let Ok(sentence) = format!(in alloc; "usbguard: {path} isn't taken: it is no file.\n") {
+        tell(sentence.as_str());
+    }
+}
+
+// Tells why the file can't be opened, if there is one.
+fn tell_unopened(alloc: Global, path: &str, error: &io::Error) {
+    match error.kind() {
+        ErrorKind::NotFound => {}
+        ErrorKind::InvalidInput => tell_other_kind(alloc, path),
+        _ => tell_failed(alloc, "opened", path, error),
     }
 }
 
 // Opens the file at a path, and gives None where there is none. What else failed is told on standard error.
 fn open_told<R: Files>(rt: &R, alloc: Global, path: &str) -> Result<Option<R::File>, FileFault> {
-    let opened = fs::open(rt, path);
-    if let Err(error) = &opened
-        && error.kind() != ErrorKind::NotFound
-    {
-        tell_failed(alloc, "opened", path, error);
+    let opened = open_plain(rt, path);
+    if let Err(error) = &opened {
+        tell_unopened(alloc, path, error);
     }
     match plain(opened) {
         Ok(file) => Ok(Some(file)),
@@ -117,20 +135,21 @@ fn open_told<R: Files>(rt: &R, alloc: Global, path: &str) -> Result<Option<R::Fi
 }
 
 /// Opens the file at a path, and gives None where there is none. It fails where another user than root and the daemon's own may have
-/// written the file, or may put another in its place; why, or what else failed, is told on standard error.
+/// written the file, or may put another in its place, and where it is neither a file nor a folder; why, or what else failed, is told on
+/// standard error. A file whose place another one takes meanwhile is let go, and that one opened.
 pub fn open_trusted<R: Files>(
     rt: &R,
     alloc: Global,
     path: &str,
 ) -> Result<Option<R::File>, FileFault> {
-    if is_other(rt, path) {
-        let error = io::Error::from(ErrorKind::InvalidInput);
-        tell_failed(alloc, "read: it is no file", path, &error);
-        return Err(FileFault::Failed);
+    for _ in 0..TRIES {
+        let Some(file) = open_told(rt, alloc, path)? else {
+            return Ok(None);
+        };
+        if is_safe_target(rt, alloc, path, &file)? {
+            return Ok(Some(file));
+        }
     }
-    let Some(file) = open_told(rt, alloc, path)? else {
-        return Ok(None);
-    };
-    check_file(rt, alloc, path, &file)?;
-    Ok(Some(file))
+    tell_replaced(alloc, path);
+    Err(FileFault::Failed)
 }

@@ -4,6 +4,7 @@ ghost use Rattle.std.specs.List.{list_any};
 ghost use Rattle.ug_conf.specs.Files.{FitsFolder, pointwise};
 ghost use Rattle.ug_host.specs.Names.{AreFewNames};
 
+use crate::names::is_unreadable;
 use std::alloc::Global;
 use std::fs::{self, DirEntry, ReadDir};
 use std::io;
@@ -50,7 +51,17 @@ fn add_bytes(alloc: Global, names: &mut List<Text>, name: &[u8]) -> Result<(), F
     }
 }
 
+// Whether a folder stands there, or a link to one.
+fn is_folder<R: Files + Drop>(rt: &R, entry: &DirEntry<R>) -> bool {
+    match fs::metadata(rt, entry.path()) {
+        Ok(metadata) => metadata.is_dir(),
+        Err(_) => false,
+    }
+}
+
+// The name of an entry that is no folder. One that isn't UTF-8 is passed over.
 fn add_entry<R: Files + Drop>(
+    rt: &R,
     alloc: Global,
     names: &mut List<Text>,
     entry: io::Result<DirEntry<R>>,
@@ -58,13 +69,18 @@ fn add_entry<R: Files + Drop>(
     requires { AreFewNames names.old }
     ensures { OnOk result (AreFewNames names.new) }
 {
+    if is_unreadable(&entry) {
+        return Ok(());
+    }
     match plain(entry) {
+        Ok(entry) if is_folder(rt, &entry) => Ok(()),
         Ok(entry) => add_bytes(alloc, names, entry.file_name().as_bytes()),
         Err(fault) => Err(fault),
     }
 }
 
 fn add_entries<R: Files + AllocGlobal + Clone + Drop>(
+    rt: &R,
     alloc: Global,
     names: &mut List<Text>,
     entries: ReadDir<R>,
@@ -73,7 +89,7 @@ fn add_entries<R: Files + AllocGlobal + Clone + Drop>(
     ensures { OnOk result (AreFewNames names.new) }
 {
     for entry in entries {
-        add_entry(alloc, names, entry)?;
+        add_entry(rt, alloc, names, entry)?;
     }
     Ok(())
 }
@@ -90,7 +106,7 @@ fn add_folder<R: Files + AllocGlobal + Clone + Drop>(
 {
     match plain(fs::read_dir(rt, folder)) {
         Ok(entries) => {
-            add_entries(alloc, names, entries)?;
+            add_entries(rt, alloc, names, entries)?;
             Ok(true)
         }
         Err(FileFault::Missing) => Ok(false),
@@ -98,7 +114,7 @@ fn add_folder<R: Files + AllocGlobal + Clone + Drop>(
     }
 }
 
-/// All names in a folder.
+/// All names in a folder, but those of folders, and those that aren't UTF-8.
 pub fn list_entries<R: Files + AllocGlobal + Clone + Drop>(
     rt: &R,
     alloc: Global,

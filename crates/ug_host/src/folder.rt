@@ -2,12 +2,14 @@
 ghost use Rattle.ug_kernel.specs.Few.{HasFew, AreDistinct};
 
 use crate::first_byte::{read_first, write_byte};
+use crate::listing_told::ListingTold;
 use crate::names::list_devices;
 use crate::port::read_connect_type;
 use std::alloc::Global;
 use std::collections::BTreeMap;
+use std::fs;
 use std::rt::Files;
-use ug_files::{Content, FileFault, open_to_write, read_file, read_number, word_of};
+use ug_files::{Content, FileFault, folder_of, open_to_write, read_file, read_number, word_of};
 use ug_kernel::{Attr, Control, Held, Listing, Opened, Probe, ReadOut, Write, Wrote};
 use ug_types::NodeName;
 
@@ -26,6 +28,7 @@ pub struct Folder<R: Files> {
     root: String,
     open: BTreeMap<u64, OpenControl<R::File>>,
     next: u64,
+    told: ListingTold,
 }
 
 impl<R: Files + AllocGlobal + Clone + Drop> Folder<R> {
@@ -35,6 +38,7 @@ impl<R: Files + AllocGlobal + Clone + Drop> Folder<R> {
             root,
             open: BTreeMap::new(alloc),
             next: 0,
+            told: ListingTold::new(alloc),
         }
     }
 
@@ -78,7 +82,25 @@ impl<R: Files + AllocGlobal + Clone + Drop> Folder<R> {
         })
     }
 
+    // The same. Where a file is missing though its device's folder stands, it is looked for once more: then the device is coming or
+    // going, or the call failed.
     fn open(
+        &self,
+        alloc: Global,
+        name: &NodeName,
+        control: Control,
+    ) -> Result<OpenControl<R::File>, FileFault> {
+        match self.open_once(alloc, name, control) {
+            Err(FileFault::Missing) if self.has_folder(alloc, name)? => {}
+            opened => return opened,
+        }
+        match self.open_once(alloc, name, control) {
+            Err(FileFault::Missing) if self.has_folder(alloc, name)? => Err(FileFault::Failed),
+            opened => opened,
+        }
+    }
+
+    fn open_once(
         &self,
         alloc: Global,
         name: &NodeName,
@@ -86,6 +108,12 @@ impl<R: Files + AllocGlobal + Clone + Drop> Folder<R> {
     ) -> Result<OpenControl<R::File>, FileFault> {
         let devnum_path = self.path_of(alloc, name, "devnum")?;
         self.open_numbered(alloc, name, control, devnum_path)
+    }
+
+    // Whether a device's folder stands.
+    fn has_folder(&self, alloc: Global, name: &NodeName) -> Result<bool, FileFault> {
+        let path = self.path_of(alloc, name, "")?;
+        Ok(is_there(&self.rt, path.as_str()))
     }
 
     fn hold(&mut self, file: OpenControl<R::File>) -> Opened {
@@ -108,20 +136,41 @@ impl<R: Files + AllocGlobal + Clone + Drop> Folder<R> {
         read_file(&self.rt, alloc, path.as_str(), limit)
     }
 
+    // The same of a file that each device has. Where it is missing, it is looked for as a control is.
+    fn read_sure(
+        &self,
+        alloc: Global,
+        name: &NodeName,
+        file: &str,
+        limit: usize,
+    ) -> Result<Content, FileFault> {
+        match self.read_text(alloc, name, file, limit) {
+            Err(FileFault::Missing) if self.has_folder(alloc, name)? => {}
+            read => return read,
+        }
+        match self.read_text(alloc, name, file, limit) {
+            Err(FileFault::Missing) if self.has_folder(alloc, name)? => Err(FileFault::Failed),
+            read => read,
+        }
+    }
+
     fn read_attr(&self, alloc: Global, name: &NodeName, attr: Attr) -> Result<Content, FileFault> {
         match attr {
-            Attr::Descriptors => self.read_text(alloc, name, "descriptors", 131072),
+            Attr::Descriptors => self.read_sure(alloc, name, "descriptors", 131072),
             Attr::Product => self.read_text(alloc, name, "product", 4096),
             Attr::Serial => self.read_text(alloc, name, "serial", 4096),
             Attr::Connect => read_connect_type(&self.rt, alloc, self.root.as_str(), name),
         }
     }
 
-    pub fn list(&self) -> Listing
+    pub fn list(&mut self) -> Listing
         ensures few { HasFew result }
         ensures distinct { AreDistinct result }
     {
-        list_devices(&self.rt, self.root.as_str())
+        let listing = list_devices(&self.rt, self.root.as_str());
+        let failed = matches!(listing, Listing::Failed);
+        self.told.look(&self.rt, self.root.as_str(), failed);
+        listing
     }
 
     pub fn open_control(&mut self, alloc: Global, name: &NodeName, control: Control) -> Opened {
@@ -167,11 +216,20 @@ fn read_out_of(read: Result<Content, FileFault>) -> ReadOut {
     }
 }
 
+// Whether something stands at a path, as far as that can be told.
+fn is_there<R: Files>(rt: &R, path: &str) -> bool {
+    match fs::metadata(rt, path) {
+        Ok(_) => true,
+        Err(error) => !matches!(FileFault::from(error), FileFault::Missing),
+    }
+}
+
 // Whether the device of a control is gone, as its name tells: its folder is missing, or its device has another number.
 fn is_replaced<R: Files>(rt: &R, control: &OpenControl<R::File>) -> bool {
-    match read_number(rt, control.devnum_path.as_str()) {
+    let path = control.devnum_path.as_str();
+    match read_number(rt, path) {
         Ok(devnum) => devnum != control.devnum,
-        Err(FileFault::Missing) => true,
+        Err(FileFault::Missing) => !is_there(rt, folder_of(path)),
         Err(_) => false,
     }
 }

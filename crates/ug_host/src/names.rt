@@ -6,17 +6,29 @@ ghost use Rattle.ug_types.specs.Names.{sweep_cmp};
 ghost use Rattle.ug_kernel.specs.Few.{HasFew, AreDistinct};
 
 use std::fs::{self, DirEntry};
-use std::io;
+use std::io::{self, ErrorKind};
 use std::rt::Files;
 use ug_files::FileFault;
 use ug_kernel::{Listing, MAX_DEVICES};
 use ug_types::{List, NodeName, sort_names};
 
-/// A name more, where the entry has that of a device. Others are passed over, as interfaces, which have a colon.
+/// Whether the entry has a name that isn't UTF-8.
+pub fn is_unreadable<R: Files + Drop>(entry: &io::Result<DirEntry<R>>) -> bool {
+    match entry {
+        Ok(_) => false,
+        Err(error) => error.kind() == ErrorKind::InvalidFilename,
+    }
+}
+
+/// A name more, where the entry has that of a device. Others are passed over, as interfaces, which have a colon, and names that aren't
+/// UTF-8.
 fn add_device<R: Files + Drop>(
     names: &mut Vec<NodeName>,
     entry: io::Result<DirEntry<R>>,
 ) -> Result<(), FileFault> {
+    if is_unreadable(&entry) {
+        return Ok(());
+    }
     let entry = entry?;
     if let Ok(name) = NodeName::parse(entry.file_name().as_bytes()) {
         if names.push(name).is_err() {

@@ -1,4 +1,5 @@
 // A journal's output, which never waits.
+use crate::repeats::Repeats;
 use std::alloc::{AllocError, Global};
 use std::io::{self, Write};
 use ug_files::{put_at_once, tell};
@@ -88,7 +89,8 @@ impl Waiting {
 /// standard error. So no write fails, and none waits.
 ///
 /// Where idle events are omitted, the first line of a sweep's event goes out with the line behind it; where that is the event's last,
-/// neither does.
+/// neither does. Nor does an event of which each line but these tells a trouble that the event before told: a save or a listing that
+/// fails still.
 #[derive(Drop)]
 pub struct JournalOutput {
     omits_idle: bool,
@@ -96,8 +98,9 @@ pub struct JournalOutput {
     line: Vec<u8>,
     /// Whether there was no memory for a part of it.
     cut: bool,
-    /// An event's first line.
+    /// An event's first line, and those behind it that the event before had too.
     held: Vec<u8>,
+    repeats: Repeats,
     waiting: Waiting,
 }
 
@@ -121,6 +124,7 @@ impl JournalOutput {
             line: Vec::new(alloc),
             cut: false,
             held: Vec::new(alloc),
+            repeats: Repeats::new(),
             waiting: Waiting {
                 alloc,
                 output,
@@ -137,20 +141,44 @@ impl JournalOutput {
             && self.held.extend_from_slice(self.line.as_slice()).is_ok()
     }
 
+    // Whether the line is kept back behind an event's first one.
+    fn holds_repeated(&mut self) -> bool {
+        self.repeats.is_repeated(self.line.as_slice())
+            && !self.held.is_empty()
+            && self.held.extend_from_slice(self.line.as_slice()).is_ok()
+    }
+
+    // Passes the lines on that were kept back.
+    fn pass_held(&mut self) {
+        if !self.held.is_empty() {
+            self.waiting.pass(self.held.as_slice());
+            self.held.clear();
+        }
+    }
+
+    // Passes a whole line on, or keeps it back.
+    fn pass_line(&mut self) {
+        if self.holds_repeated() {
+            return;
+        }
+        self.pass_held();
+        if !self.holds_back() {
+            self.waiting.pass(self.line.as_slice());
+        }
+    }
+
     // A line has ended.
     fn end_line(&mut self) {
+        let is_end = self.line.starts_with(END);
         if self.cut {
             self.waiting.lose();
-        } else if !self.held.is_empty() && self.line.starts_with(END) {
+        } else if is_end && !self.held.is_empty() {
             self.held.clear();
         } else {
-            if !self.held.is_empty() {
-                self.waiting.pass(self.held.as_slice());
-                self.held.clear();
-            }
-            if !self.holds_back() {
-                self.waiting.pass(self.line.as_slice());
-            }
+            self.pass_line();
+        }
+        if is_end {
+            self.repeats.end_event();
         }
         self.line.clear();
         self.cut = false;

@@ -1,4 +1,5 @@
 // The connect type of the port at which a device hangs: sysfs-bus-usb, `portX/connect_type`.
+use crate::names::is_unreadable;
 use std::alloc::{AllocError, Global};
 use std::fs::{self, DirEntry};
 use std::io;
@@ -69,6 +70,9 @@ fn path_by<R: Files + Drop>(
     hub: &str,
     port: &str,
 ) -> Result<Option<String>, FileFault> {
+    if is_unreadable(&entry) {
+        return Ok(None);
+    }
     let entry = entry?;
     if !is_hub_interface(entry.file_name(), hub) {
         return Ok(None);

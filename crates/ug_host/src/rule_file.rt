@@ -5,10 +5,13 @@ ghost use Rattle.ug_store.specs.DiskCalls.{CountsOnDisk, FitsLoaded, NeedsNoMemo
 ghost use Rattle.ug_host.specs.RuleFiles.{CallsAt, same_path};
 ghost use Rattle.ug_files.specs.Untold.{untold};
 
-use std::alloc::{AllocError, Global};
+use crate::known_texts::{FoundText, KnownTexts};
+use crate::saves_told::SavesTold;
+use std::alloc::Global;
+use std::io::{self, ErrorKind};
 use std::os::fd::AsRawFd;
 use std::rt::Files;
-use ug_files::{Content, FileFault, Fresh, has_text, make_fresh, read_at, tell, text_of};
+use ug_files::{Content, FileFault, Fresh, make_fresh, read_at, text_of};
 use ug_store::{DiskAnswer, Loaded, RuleDisk};
 use ug_types::{NoMemory, Text};
 
@@ -19,22 +22,35 @@ struct Coming<F> {
     text: Text,
 }
 
+/// Why a step of a save isn't done.
+#[derive(Clone, Copy)]
+enum Unsaved {
+    /// Another hand changed the file.
+    Changed,
+    /// It did so before, and nothing has changed since.
+    AsBefore,
+    Failed(io::Error),
+}
+
+impl From<io::Error> for Unsaved {
+    fn from(error: io::Error) -> Unsaved {
+        Unsaved::Failed(error)
+    }
+}
+
 /// A rule file of this machine. A save writes a new file beside it, which has its owner and mode, and then takes its place; a link in
 /// the rule file's place is followed, and stays. What it answers is told by the machine alone.
 ///
 /// A text that the daemon doesn't know is never overwritten: where the file has neither the text that was loaded, nor the one that was
-/// saved since, nor the one that a failed save tried to write, a save fails. That is told on standard error, once for each text. A file
-/// that is gone is written anew.
+/// saved since, nor the one that a failed save tried to write, a save fails. That is told on standard error, once for each change of the
+/// file. A file that is gone is written anew. Where a save fails for another reason, that is told once, and when the next one is done.
 #[derive(Drop)]
 pub struct RuleFile<R: Files> {
     rt: R,
     path: Text,
     coming: Option<Coming<R::File>>,
-    /// The text that the file had when it was last known, and the one that a save since then tried to write.
-    known: Text,
-    tried: Option<Text>,
-    /// The last text of which a person was told.
-    told: Option<Text>,
+    texts: KnownTexts,
+    told: SavesTold,
     faults: u64,
 }
 
@@ -50,9 +66,8 @@ where
             rt,
             path: Text::new(alloc),
             coming: None,
-            known: Text::new(alloc),
-            tried: None,
-            told: None,
+            texts: KnownTexts::new(alloc),
+            told: SavesTold::new(alloc),
             faults: 0,
         }
     }
@@ -89,7 +104,7 @@ where
         }
     }
 
-    // Keeps the text that was loaded, as far as there is memory: else the next save finds another one.
+    // Keeps the text that was loaded.
     fn keep_loaded(&mut self, alloc: Global, loaded: &Loaded)
         ensures faults { self.new.faults ≡ self.old.faults }
         ensures path { self.new.path ≡ self.old.path }
@@ -98,174 +113,111 @@ where
             Loaded::Bytes(text) => text.bytes(),
             _ => b"".as_slice(),
         };
-        self.tried = None;
-        self.known = match Text::of(alloc, bytes) {
-            Ok(text) => text,
-            Err(_) => Text::new(alloc),
-        };
+        self.texts.begin(alloc, bytes);
     }
 
-    // Whether the file has that text, or is gone.
-    fn has(&self, text: &Text) -> Result<bool, FileFault> {
-        has_text(&self.rt, text_of(self.path.bytes())?, text.bytes())
-    }
-
-    // Whether the file may be overwritten: it has the known text, or the one that was tried, which is then the known one.
-    fn is_known(&mut self) -> Result<bool, FileFault>
+    // Fails where the file may not be overwritten.
+    fn check_known(&mut self) -> Result<(), Unsaved>
         ensures faults { self.new.faults ≡ self.old.faults }
         ensures path { self.new.path ≡ self.old.path }
     {
-        if self.has(&self.known)? {
-            return Ok(true);
+        let path = path_of(self.path.bytes())?;
+        match self.texts.look(&self.rt, path)? {
+            FoundText::Known => Ok(()),
+            FoundText::NewStrange => Err(Unsaved::Changed),
+            FoundText::Strange => Err(Unsaved::AsBefore),
         }
-        match self.tried.take() {
-            Some(tried) => self.is_tried(tried),
-            None => Ok(false),
-        }
-    }
-
-    // Whether the file has the text that was tried, which is then the known one.
-    fn is_tried(&mut self, tried: Text) -> Result<bool, FileFault>
-        ensures faults { self.new.faults ≡ self.old.faults }
-        ensures path { self.new.path ≡ self.old.path }
-    {
-        let is = self.has(&tried);
-        match is {
-            Ok(true) => self.known = tried,
-            Ok(false) => self.tried = Some(tried),
-            Err(_) => {}
-        }
-        is
-    }
-
-    // Whether a person was told of just this text.
-    fn was_told(&self, found: &Text) -> bool {
-        match &self.told {
-            Some(told) => told.bytes() == found.bytes(),
-            None => false,
-        }
-    }
-
-    // Tells a person that the file at the path has that text, and gives it, unless it was told before.
-    fn tell_found(
-        &self,
-        alloc: Global,
-        path: &str,
-        found: Text,
-    ) -> Result<Option<Text>, FileFault> {
-        if self.was_told(&found) {
-            return Ok(None);
-        }
-        tell_changed(alloc, path)?;
-        Ok(Some(found))
-    }
-
-    // Tells a person what became of the file, and gives what it has, unless that was told before.
-    fn find_untold(&self, alloc: Global) -> Result<Option<Text>, FileFault> {
-        let path = text_of(self.path.bytes())?;
-        match read_at(&self.rt, alloc, path)? {
-            Some(Content::Whole(found)) => self.tell_found(alloc, path, found),
-            _ => Ok(None),
-        }
-    }
-
-    // Tells a person that the file has another text, once for each.
-    fn tell_other(&mut self, alloc: Global) -> Result<(), FileFault>
-        ensures faults { self.new.faults ≡ self.old.faults }
-        ensures path { self.new.path ≡ self.old.path }
-    {
-        if let Some(found) = self.find_untold(alloc)? {
-            self.told = Some(found);
-        }
-        Ok(())
-    }
-
-    // Fails where the file may not be overwritten, and tells that.
-    fn check_known_or_tell(&mut self, alloc: Global) -> Result<(), FileFault>
-        ensures faults { self.new.faults ≡ self.old.faults }
-        ensures path { self.new.path ≡ self.old.path }
-    {
-        if self.is_known()? {
-            return Ok(());
-        }
-        self.tell_other(alloc)?;
-        Err(FileFault::Failed)
     }
 
     // A new file of that text.
-    fn make_new(&self, alloc: Global, text: &[u8]) -> Result<Coming<R::File>, FileFault> {
-        let path = text_of(self.path.bytes())?;
-        let kept = Text::of(alloc, text)?;
+    fn make_new(&self, alloc: Global, text: &[u8]) -> io::Result<Coming<R::File>> {
+        let path = path_of(self.path.bytes())?;
+        let kept = Text::of(alloc, text).map_err(no_memory)?;
         let file = make_fresh(&self.rt, alloc, path, text)?;
         Ok(Coming { file, text: kept })
     }
 
-    fn write(&mut self, alloc: Global, text: &[u8]) -> Result<(), FileFault>
+    fn write(&mut self, alloc: Global, text: &[u8]) -> Result<(), Unsaved>
         ensures faults { self.new.faults ≡ self.old.faults }
         ensures path { self.new.path ≡ self.old.path }
     {
         self.coming = None;
-        self.check_known_or_tell(alloc)?;
+        self.check_known()?;
         self.coming = Some(self.make_new(alloc, text)?);
         Ok(())
     }
 
-    // Whether the file has the known text still.
-    fn check_known(&self) -> Result<(), FileFault> {
-        if self.has(&self.known)? {
-            Ok(())
-        } else {
-            Err(FileFault::Failed)
+    fn sync(&self) -> Result<(), Unsaved> {
+        match &self.coming {
+            Some(coming) => Ok(coming.file.sync()?),
+            None => Err(Unsaved::Failed(io::Error::from(ErrorKind::NotFound))),
         }
     }
 
-    // Puts the new file in the other's place, if that has the known text still. From then on the file has the new text, or may have it.
-    fn put(&mut self, coming: Coming<R::File>) -> Result<(), FileFault>
+    // Puts the new file in the other's place, if that has a known text still. From then on the file has the new text, or may have it.
+    fn put(&mut self, coming: Coming<R::File>) -> Result<(), Unsaved>
         ensures faults { self.new.faults ≡ self.old.faults }
         ensures path { self.new.path ≡ self.old.path }
     {
         self.check_known()?;
-        let swapped = coming.file.swap(&self.rt);
-        if swapped.is_ok() {
-            self.known = coming.text;
-            self.tried = None;
-        } else {
-            self.tried = Some(coming.text);
+        match coming.file.swap(&self.rt) {
+            Ok(()) => {
+                self.texts.set(coming.text);
+                Ok(())
+            }
+            Err(error) => {
+                self.texts.set_tried(coming.text);
+                Err(Unsaved::Failed(error))
+            }
         }
-        swapped
     }
 
     // The same of the file that was written last.
-    fn replace(&mut self) -> Result<(), FileFault>
+    fn replace(&mut self) -> Result<(), Unsaved>
         ensures faults { self.new.faults ≡ self.old.faults }
         ensures path { self.new.path ≡ self.old.path }
     {
         match self.coming.take() {
             Some(coming) => self.put(coming),
-            None => Err(FileFault::Missing),
+            None => Err(Unsaved::Failed(io::Error::from(ErrorKind::NotFound))),
+        }
+    }
+
+    // Tells a person that a step of a save failed, and why.
+    fn tell_failed(&mut self, done: &Result<(), Unsaved>)
+        ensures faults { self.new.faults ≡ self.old.faults }
+        ensures path { self.new.path ≡ self.old.path }
+    {
+        match done {
+            Ok(()) | Err(Unsaved::AsBefore) => {}
+            Err(Unsaved::Changed) => self.told.find_changed(self.path.bytes()),
+            Err(Unsaved::Failed(error)) => self.told.fail(self.path.bytes(), error),
         }
     }
 }
 
-// Tells a person that the file isn't the daemon's any more.
-fn tell_changed(alloc: Global, path: &str) -> Result<(), AllocError> {
-    let sentence = format!(in alloc;
-        "usbguard: {path} was changed by another hand, so rules aren't saved in it. To take what stands there, restart the daemon; to go on with the daemon's rules, move the file away.\n"
-    )?;
-    tell(sentence.as_str());
-    Ok(())
+fn no_memory(_error: NoMemory) -> io::Error {
+    io::Error::from(ErrorKind::OutOfMemory)
 }
 
-fn answer_of(done: Result<(), FileFault>) -> DiskAnswer {
+// A path as text. One that isn't UTF-8 can't be opened by the library.
+fn path_of(path: &[u8]) -> io::Result<&str> {
+    match text_of(path) {
+        Ok(path) => Ok(path),
+        Err(_) => Err(io::Error::from(ErrorKind::InvalidFilename)),
+    }
+}
+
+fn answer_of(done: Result<(), Unsaved>) -> DiskAnswer {
     match done {
         Ok(()) => DiskAnswer::Done,
-        Err(FileFault::Memory) => DiskAnswer::Memory,
+        Err(Unsaved::Failed(error)) if error.kind() == ErrorKind::OutOfMemory => DiskAnswer::Memory,
         Err(_) => DiskAnswer::Failed,
     }
 }
 
 // The same of a call that takes no memory of its own: where the machine lacks it, the call failed.
-fn answer_without_memory(done: Result<(), FileFault>) -> DiskAnswer
+fn answer_without_memory(done: Result<(), Unsaved>) -> DiskAnswer
     ensures { NeedsNoMemory result }
 {
     match done {
@@ -319,22 +271,28 @@ where
     }
 
     fn write_new(&mut self, alloc: Global, text: &[u8]) -> DiskAnswer {
-        let answer = answer_of(self.write(alloc, text));
+        let done = self.write(alloc, text);
+        self.tell_failed(&done);
+        let answer = answer_of(done);
         self.count(is_failed(answer));
         answer
     }
 
     fn sync_new(&mut self) -> DiskAnswer {
-        let answer = answer_without_memory(match &self.coming {
-            Some(coming) => coming.file.sync(),
-            None => Err(FileFault::Missing),
-        });
+        let done = self.sync();
+        self.tell_failed(&done);
+        let answer = answer_without_memory(done);
         self.count(is_failed(answer));
         answer
     }
 
     fn swap(&mut self) -> DiskAnswer {
-        let answer = answer_without_memory(self.replace());
+        let done = self.replace();
+        self.tell_failed(&done);
+        if done.is_ok() {
+            self.told.succeed(self.path.bytes());
+        }
+        let answer = answer_without_memory(done);
         self.count(is_failed(answer));
         answer
     }

@@ -2,7 +2,8 @@
 use std::alloc::Global;
 use std::io::Read;
 use std::rt::Files;
-use std::{fs, str};
+use std::str;
+use ug_files::open_plain;
 use ug_types::TEXT_LIMIT;
 
 /// How much of a line is shown before the fault and behind it.
@@ -64,7 +65,7 @@ fn first_of(text: &str) -> &str {
 
 /// The bytes of a file, as far as they are looked at. None where they can't be had.
 pub fn read_text(rt: &HostRuntime, path: &str) -> Option<Vec<u8>> {
-    let file = fs::open(rt, path).ok()?;
+    let file = open_plain(rt, path).ok()?;
     let mut text = Vec::new(rt.alloc());
     match file.take(TEXT_LIMIT as u64).read_to_end(&mut text) {
         Ok(_) => Some(text),
