@@ -3,6 +3,8 @@
 
 mod about;
 mod folder;
+mod hub_parameter;
+mod hubs_watch;
 mod last_line;
 mod link_words;
 mod open_hubs;

@@ -9,11 +9,11 @@ use ug_arguments::read_daemon_words;
 use ug_conf::{AuthDefault, Settings, parse_conf};
 use ug_types::Text;
 
-/// Whether a daemon with these settings leaves the default of each root hub as it is.
-fn leaves_defaults(settings: &Settings) -> bool
-    ensures { result ≡ is_none (hub_default settings.now.default) }
+/// Whether a daemon with this setting leaves the default of each root hub as it is.
+fn leaves_defaults(default: AuthDefault) -> bool
+    ensures { result ≡ is_none (hub_default default) }
 {
-    matches!(settings.default, AuthDefault::Keep | AuthDefault::Internal)
+    matches!(default, AuthDefault::Keep | AuthDefault::Internal)
 }
 
 // Whether a root hub whose `authorized_default` has this text switches on what comes to it, or some of it.
@@ -71,27 +71,21 @@ fn settings_at(rt: &HostRuntime, path: &Text) -> Option<Settings> {
     settings
 }
 
-// Whether the settings of a daemon with these words are good ones, and leave the default of each root hub as it is.
-fn leave_defaults(rt: &HostRuntime, words: &[&str]) -> bool {
-    let Ok(path) = read_daemon_words(rt.alloc(), words) else {
-        return false;
-    };
+/// AuthorizedDefault in the settings of a daemon with these words, where they are good ones. It is read before the start, which reads the
+/// settings anew.
+pub fn find_default(rt: &HostRuntime, words: &[&str]) -> Option<AuthDefault> {
+    let path = read_daemon_words(rt.alloc(), words).ok()?;
     let found = settings_at(rt, &path);
     drop(path);
-    match found {
-        Some(settings) => {
-            let leaves = leaves_defaults(&settings);
-            drop(settings);
-            leaves
-        }
-        None => false,
-    }
+    let settings = found?;
+    let default = settings.default;
+    drop(settings);
+    Some(default)
 }
 
-/// Tells on standard error how many root hubs switch on what comes to them, where the settings of a daemon with these words leave them so.
-/// It is called before the start, which reads the settings anew. Where they aren't good ones nothing is told.
-pub fn tell_open_hubs(rt: &HostRuntime, words: &[&str], devices: &str) {
-    if !leave_defaults(rt, words) {
+/// Tells on standard error how many root hubs switch on what comes to them, where the setting leaves them so.
+pub fn tell_open_hubs(rt: &HostRuntime, default: AuthDefault, devices: &str) {
+    if !leaves_defaults(default) {
         return;
     }
     if let Some(count) = count_open(rt, devices)

@@ -1,11 +1,14 @@
 // The daemon over this machine.
-use crate::open_hubs::tell_open_hubs;
+use crate::hub_parameter::tell_parameter;
+use crate::hubs_watch::HubsWatch;
+use crate::open_hubs::{find_default, tell_open_hubs};
 use crate::told::{LastPaths, tell_end};
 use std::alloc::AllocError;
 use std::cell::Cell;
 use std::rc::Rc;
 use std::{env, io, mem};
 use ug_audit::{Auditor, Panel};
+use ug_conf::AuthDefault;
 use ug_host::{
     ConfFolder, JournalOutput, LocalZone, RefusalReader, RuleFile, StartRefusal, SysfsFolder,
     SystemClock, WriterAuditor, read_seed,
@@ -52,18 +55,29 @@ fn make_links(
     SocketFolder::new(rt, rt.alloc(), folder, waiter)
 }
 
-// The journal goes to standard output, and is read along for a refusal.
-fn make_auditors(
+// The journal goes to standard output, and is read along for a refusal, and for when to look at the root hubs.
+fn add_auditors(
     rt: &HostRuntime,
+    default: Option<AuthDefault>,
     found: &Found,
-) -> Result<(Box<WriterAuditor<JournalOutput>>, Box<RefusalReader>), AllocError> {
+    members: &mut Vec<Box<dyn Auditor>>,
+) -> Result<(), AllocError> {
     let alloc = rt.alloc();
     let output = JournalOutput::new(alloc, OUTPUT, omits_idle(rt));
-    let reader = RefusalReader::new(alloc, found.clone()?);
-    Ok((
-        Box::new(alloc, WriterAuditor::new(output))?,
-        Box::new(alloc, reader)?,
-    ))
+    members.push(Box::new(alloc, WriterAuditor::new(output))?)?;
+    members.push(Box::new(alloc, RefusalReader::new(alloc, found.clone()?))?)?;
+    let devices = String::from_str(alloc, DEVICES)?;
+    let closes = matches!(default, Some(AuthDefault::None));
+    members.push(Box::new(alloc, HubsWatch::new(*rt, devices, closes))?)?;
+    Ok(())
+}
+
+// What there is to tell of root hubs before the start.
+fn tell_hubs(rt: &HostRuntime, default: Option<AuthDefault>) {
+    if let Some(default) = default {
+        tell_open_hubs(rt, default, DEVICES);
+        tell_parameter(rt, default);
+    }
 }
 
 fn make_found(rt: &HostRuntime) -> Result<Found, AllocError> {
@@ -92,18 +106,14 @@ fn serve_with(
     words: &[&str],
     seed: [u8; 32],
     devices: String,
+    default: Option<AuthDefault>,
     waiter: &mut SocketWaiter<HostRuntime>,
     links: &mut SocketFolder<HostRuntime>,
     found: Found,
 ) -> u8 {
     let alloc = rt.alloc();
-    let Ok((output, reader)) = make_auditors(&rt, &found) else {
-        drop(found);
-        drop(devices);
-        return 6;
-    };
     let mut members: Vec<Box<dyn Auditor>> = Vec::new(alloc);
-    if members.push(output).is_err() || members.push(reader).is_err() {
+    if add_auditors(&rt, default, &found, &mut members).is_err() {
         drop(members);
         drop(found);
         drop(devices);
@@ -177,8 +187,18 @@ pub fn serve(rt: HostRuntime, words: &[&str]) -> u8 {
             return status_without(&e);
         }
     };
-    tell_open_hubs(&rt, words, DEVICES);
-    let status = serve_with(rt, words, seed, devices, &mut waiter, &mut links, found);
+    let default = find_default(&rt, words);
+    tell_hubs(&rt, default);
+    let status = serve_with(
+        rt,
+        words,
+        seed,
+        devices,
+        default,
+        &mut waiter,
+        &mut links,
+        found,
+    );
     mem::forget(links);
     drop(waiter);
     status
