@@ -12,8 +12,8 @@ fn check_kind(metadata: &Metadata) -> io::Result<()> {
 }
 
 /// Opens a file or a folder to read it, without waiting for anybody. What stands at the path is
-/// looked at first, and what was opened is looked at again. Where it is neither a file nor a folder,
-/// the error is `InvalidInput`.
+/// looked at first, and what was opened is looked at again. Where it is neither a file nor a
+/// folder, the error is `InvalidInput`.
 pub fn open_plain<R: Files>(rt: &R, path: &str) -> io::Result<R::File> {
     check_kind(&fs::metadata(rt, path)?)?;
     let file = fs::open(rt, path)?;

@@ -4,7 +4,8 @@ use std::io::{self, ErrorKind};
 use std::os::unix::fs::MetadataExt;
 use std::rt::Files;
 
-/// Which file it is, its size, and when it changed last: inode(7). Another text of it has another one.
+/// Which file it is, its size, and when it changed last: inode(7). Another text of it has another
+/// one.
 #[derive(Clone, Copy, PartialEq, Eq)]
 pub struct FileStamp {
     device: u64,

@@ -69,7 +69,8 @@ fn is_at<R: Files>(rt: &R, path: &str, file: &Metadata) -> Result<bool, FileFaul
     }
 }
 
-// Whether the file stands behind the links at the path still. It fails where somebody else can put another one there.
+// Whether the file stands behind the links at the path still. It fails where somebody else can put
+// another one there.
 fn is_target<R: Files>(
     rt: &R,
     alloc: Global,
@@ -135,8 +136,9 @@ fn open_told<R: Files>(rt: &R, alloc: Global, path: &str) -> Result<Option<R::Fi
 }
 
 /// Opens the file at a path, and gives None where there is none. It fails where another user than root and the daemon's own may have
-/// written the file, or may put another in its place, and where it is neither a file nor a folder; why, or what else failed, is told on
-/// standard error. A file whose place another one takes meanwhile is let go, and that one opened.
+/// written the file, or may put another in its place, and where it is neither a file nor a folder;
+/// why, or what else failed, is told on standard error. A file whose place another one takes
+/// meanwhile is let go, and that one opened.
 pub fn open_trusted<R: Files>(
     rt: &R,
     alloc: Global,

@@ -82,8 +82,8 @@ impl<R: Files + AllocGlobal + Clone + Drop> Folder<R> {
         })
     }
 
-    // The same. Where a file is missing though its device's folder stands, it is looked for once more: then the device is coming or
-    // going, or the call failed.
+    // The same. Where a file is missing though its device's folder stands, it is looked for once
+    // more: then the device is coming or going, or the call failed.
     fn open(
         &self,
         alloc: Global,
@@ -136,7 +136,8 @@ impl<R: Files + AllocGlobal + Clone + Drop> Folder<R> {
         read_file(&self.rt, alloc, path.as_str(), limit)
     }
 
-    // The same of a file that each device has. Where it is missing, it is looked for as a control is.
+    // The same of a file that each device has. Where it is missing, it is looked for as a control
+    // is.
     fn read_sure(
         &self,
         alloc: Global,

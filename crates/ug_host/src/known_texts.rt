@@ -5,8 +5,8 @@ use std::rt::Files;
 use ug_files::{FileStamp, has_text, stamp_at};
 use ug_types::Text;
 
-/// The text that the file had when it was last known, and the one that a save since then tried to write. A file with another text is
-/// strange, and isn't read again until it changes.
+/// The text that the file had when it was last known, and the one that a save since then tried to
+/// write. A file with another text is strange, and isn't read again until it changes.
 #[derive(Drop)]
 pub struct KnownTexts {
     known: Text,
@@ -35,7 +35,8 @@ impl KnownTexts {
         }
     }
 
-    /// The file has that text, as far as there is memory to keep it: else the next save finds another one.
+    /// The file has that text, as far as there is memory to keep it: else the next save finds
+    /// another one.
     pub fn begin(&mut self, alloc: Global, text: &[u8]) {
         self.tried = None;
         self.strange = None;
@@ -69,7 +70,8 @@ impl KnownTexts {
         Ok(FoundText::NewStrange)
     }
 
-    // Whether the file has the known text, or the one that was tried, which is then the known one, or is gone.
+    // Whether the file has the known text, or the one that was tried, which is then the known one,
+    // or is gone.
     fn is_own<R: Files>(&mut self, rt: &R, path: &str) -> io::Result<bool> {
         if has_text(rt, path, self.known.bytes())? {
             return Ok(true);

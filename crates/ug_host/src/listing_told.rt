@@ -20,7 +20,8 @@ impl ListingTold {
         }
     }
 
-    /// Tells that a listing of the folder at that path failed where the one before didn't, and that it was done where that failed.
+    /// Tells that a listing of the folder at that path failed where the one before didn't, and that
+    /// it was done where that failed.
     pub fn look<R: Files>(&mut self, rt: &R, path: &str, failed: bool) {
         if failed == self.fails {
             return;

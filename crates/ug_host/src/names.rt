@@ -20,8 +20,8 @@ pub fn is_unreadable<R: Files + Drop>(entry: &io::Result<DirEntry<R>>) -> bool {
     }
 }
 
-/// A name more, where the entry has that of a device. Others are passed over, as interfaces, which have a colon, and names that aren't
-/// UTF-8.
+/// A name more, where the entry has that of a device. Others are passed over, as interfaces, which
+/// have a colon, and names that aren't UTF-8.
 fn add_device<R: Files + Drop>(
     names: &mut Vec<NodeName>,
     entry: io::Result<DirEntry<R>>,

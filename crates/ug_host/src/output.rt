@@ -89,8 +89,8 @@ impl Waiting {
 /// standard error. So no write fails, and none waits.
 ///
 /// Where idle events are omitted, the first line of a sweep's event goes out with the line behind it; where that is the event's last,
-/// neither does. Nor does an event of which each line but these tells a trouble that the event before told: a save or a listing that
-/// fails still.
+/// neither does. Nor does an event of which each line but these tells a trouble that the event
+/// before told: a save or a listing that fails still.
 #[derive(Drop)]
 pub struct JournalOutput {
     omits_idle: bool,

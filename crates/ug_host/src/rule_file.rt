@@ -42,8 +42,9 @@ impl From<io::Error> for Unsaved {
 /// the rule file's place is followed, and stays. What it answers is told by the machine alone.
 ///
 /// A text that the daemon doesn't know is never overwritten: where the file has neither the text that was loaded, nor the one that was
-/// saved since, nor the one that a failed save tried to write, a save fails. That is told on standard error, once for each change of the
-/// file. A file that is gone is written anew. Where a save fails for another reason, that is told once, and when the next one is done.
+/// saved since, nor the one that a failed save tried to write, a save fails. That is told on
+/// standard error, once for each change of the file. A file that is gone is written anew. Where a
+/// save fails for another reason, that is told once, and when the next one is done.
 #[derive(Drop)]
 pub struct RuleFile<R: Files> {
     rt: R,
@@ -154,7 +155,8 @@ where
         }
     }
 
-    // Puts the new file in the other's place, if that has a known text still. From then on the file has the new text, or may have it.
+    // Puts the new file in the other's place, if that has a known text still. From then on the file
+    // has the new text, or may have it.
     fn put(&mut self, coming: Coming<R::File>) -> Result<(), Unsaved>
         ensures faults { self.new.faults ≡ self.old.faults }
         ensures path { self.new.path ≡ self.old.path }

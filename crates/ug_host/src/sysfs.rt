@@ -13,6 +13,8 @@ use ug_types::NodeName;
 /// The folder in which sysfs lists the USB devices, `/sys/bus/usb/devices` (sysfs-bus-usb), or one like it. What it answers is told
 /// by the machine alone. A held file is taken for one of a device that is gone where reading it answers ENODEV; and where it answers
 /// another error, but the name's folder is missing, or the number in its `devnum` is another than at the opening.
+/// A control, `devnum` or `descriptors` that is missing though its device's folder stands is a failed
+/// call.
 /// A hub's descriptors, product and serial are read once for as long as its `authorized` is held, and given again where that answers.
 #[derive(Drop)]
 pub struct SysfsFolder<R: Files> {
