@@ -10,6 +10,7 @@ run; exit status 0 where all held. Needs root, unshare(1), mount(8), prlimit(1) 
 
 import argparse
 import array
+import fcntl
 import os
 import resource
 import shutil
@@ -146,6 +147,14 @@ def pass_file(peer, file, data):
     file.close()
 
 
+def ask_often(peer, count):
+    """Asks so often for what is refused, and takes the replies."""
+    peer.sendall(b"allow-device 999\n" * count)
+    replies = 0
+    while replies < count:
+        replies += peer.recv(65536).count(b"\n")
+
+
 def trial_lingering(o, machine, folder):
     """A peer passes a descriptor whose closing lingers for twelve seconds."""
     guard = Guard(o, folder, access={"nobody": "Devices=list\n"})
@@ -193,10 +202,10 @@ def trial_output(o, machine, folder):
     guard = Guard(o, folder, output=write)
     os.close(write)
     time.sleep(1)
-    peers = [guard.connect() for _ in range(8)]
-    for k in range(8000):
-        peers[k % 8].sendall(b"allow-device 999\n")
-        peers[k % 8].recv(4096)
+    peer = guard.connect()
+    peer.settimeout(60)
+    for _ in range(8):
+        ask_often(peer, 1000)
     judges(machine, "a pipe that nobody reads")
     check("lost lines are told on standard error", "Lines of the journal that were lost" in guard.told())
     taken = 0
@@ -207,7 +216,7 @@ def trial_output(o, machine, folder):
             taken += len(os.read(read, 65536))
         except BlockingIOError:
             time.sleep(0.05)
-    check("what waited goes out once the pipe is read", taken > 300000, "%d bytes" % taken)
+    check("what waited goes out once the pipe is read", taken > 190000, "%d bytes" % taken)
     check("it is told that lines go out again", "takes lines again" in guard.told())
     os.close(read)
     judges(machine, "a pipe whose reader is gone")
@@ -255,25 +264,245 @@ def trial_places(o, machine, folder):
     guard = Guard(o, folder, access={"nobody": "Devices=list\n", "daemon": "Devices=list\n", "bin": "Devices=list\n",
                                      "sys": "Devices=list\n"})
     guard.await_line("end ")
-    peers = [guard.connect(name) for name in ("nobody", "daemon", "bin", "sys") for _ in range(40)]
+    users = ("nobody", "daemon", "bin", "sys")
+    peers = [guard.connect(name) for name in users for _ in range(40)]
     time.sleep(1)
     root = [guard.connect() for _ in range(8)]
     for peer in root:
         peer.sendall(b"list-devices\n")
     check("eight sessions of root are answered beside 160 of others", all(peer.recv(4096).startswith(b"ok ") for peer in root))
-    last = guard.connect("nobody")
-    last.sendall(b"list-devices\n")
-    peers[0].close()
-    for peer in peers[1:16]:
-        peer.close()
-    waiting = peers[16:40]
-    for peer in waiting:
-        peer.close()
-    try:
-        check("one who waited is answered once places are free", last.recv(4096).startswith(b"ok "))
-    except TimeoutError:
-        check("one who waited is answered once places are free", False, "nothing came")
+    stay = [peer for peer in peers if is_open(peer)]
+    check("of 40 sessions each user keeps 14", [sum(peer in stay for peer in peers[k:k + 40]) for k in (0, 40, 80, 120)] == [14] * 4, len(stay))
+    stay[0].close()
+    time.sleep(0.5)
+    check("one more is answered once a place is free", *is_answered(guard.connect("nobody"), 10))
     judges(machine, "full places")
+    guard.end()
+
+
+class Flood(threading.Thread):
+    """Sixteen sessions of a user that send requests as fast as they can, each anew once it was closed."""
+
+    def __init__(self, guard, name, data=b"\n" * 65536):
+        super().__init__(daemon=True)
+        self.guard, self.name_of, self.data, self.sent, self.over = guard, name, data, 0, False
+        self.start()
+
+    def come(self):
+        peer = self.guard.connect(self.name_of)
+        peer.setblocking(False)
+        return peer
+
+    def run(self):
+        peers = [self.come() for _ in range(16)]
+        while not self.over:
+            for k, peer in enumerate(peers):
+                try:
+                    self.sent += peer.send(self.data)
+                    while peer.recv(65536):
+                        pass
+                except BlockingIOError:
+                    pass
+                except OSError:
+                    peer.close()
+                    peers[k] = self.come()
+            time.sleep(0.001)
+        for peer in peers:
+            peer.close()
+
+
+class SlowReader(threading.Thread):
+    """Takes a journal from a pipe, so many bytes a second at most, and keeps its lines with their seconds."""
+
+    def __init__(self, read, rate):
+        super().__init__(daemon=True)
+        self.read, self.rate, self.text, self.seconds = read, rate, bytearray(), {}
+        self.start()
+
+    def run(self):
+        while piece := os.read(self.read, self.rate // 100):
+            self.text += piece
+            second = int(time.monotonic())
+            self.seconds[second] = self.seconds.get(second, 0) + piece.count(b"\n")
+            time.sleep(0.01)
+
+    def lines(self):
+        return self.text.decode(errors="replace").splitlines()
+
+    def await_line(self, start, patience=20):
+        until = time.monotonic() + patience
+        while time.monotonic() < until:
+            if any(line.startswith(start) for line in self.lines()):
+                return True
+            time.sleep(0.01)
+        return False
+
+
+def ask(peer, request):
+    """Asks, and tells the first line of the reply and the time that it took."""
+    began, reply = time.monotonic(), b""
+    try:
+        peer.sendall(request + b"\n")
+        while not reply.endswith(b"\n"):
+            reply += peer.recv(65536)
+    except TimeoutError:
+        reply = b"none"
+    return reply.decode().splitlines()[0], time.monotonic() - began
+
+
+def trial_flood(o, machine, folder):
+    """A user with an empty access file sends newlines on sixteen sessions, beside root's orders, plugs and a slow reader of the journal."""
+    read, write = os.pipe()
+    guard = Guard(o, folder, rules="block\n", output=write, access={"nobody": ""})
+    os.close(write)
+    journal = SlowReader(read, 1000000)
+    journal.await_line("end ")
+    flood = Flood(guard, "nobody")
+    time.sleep(2)
+    root = guard.connect()
+    took = []
+    for k in range(10):
+        machine.plug("1-%d" % (20 + k), 20 + k)
+        time.sleep(0.2)
+        reply, seconds = ask(root, b"block-device %d" % (2 + k))
+        took.append(seconds)
+        check("root's order is carried out: %s" % reply, reply.startswith("ok "))
+    check("each of root's orders is answered within half a second", max(took) < 0.5, "%.0f ms at most" % (1000 * max(took)))
+    time.sleep(1)
+    flood.over = True
+    flood.join()
+    judges(machine, "behind a flood")
+    time.sleep(1)
+    names = ["1-%d" % (20 + k) for k in range(10)]
+    for word in ("judged", "wrote"):
+        there = {line.split()[2] for line in journal.lines() if line.startswith(word + " ")}
+        check("each of ten plugs has its line %s" % word, all(name in there for name in names), "%d of 10" % sum(x in there for x in names))
+    most = max(journal.seconds.values())
+    check("at most 1,000 lines a second", most <= 1000, "%d, of %d bytes sent" % (most, flood.sent))
+    for name in names:
+        machine.unplug(name)
+    guard.end()
+
+
+def trial_lost(o, machine, folder):
+    """Lines of orders fill what waits for the journal's output, and devices come meanwhile."""
+    read, write = os.pipe()
+    guard = Guard(o, folder, rules="block\n", output=write)
+    os.close(write)
+    time.sleep(1)
+    root = guard.connect()
+    root.settimeout(60)
+    for _ in range(12):
+        ask_often(root, 1000)
+    names = ["1-%d" % (20 + k) for k in range(10)]
+    for k, name in enumerate(names):
+        machine.plug(name, 20 + k)
+        time.sleep(0.1)
+    time.sleep(0.5)
+    journal = SlowReader(read, 1000000)
+    time.sleep(2)
+    lines = journal.lines()
+    for word in ("judged", "wrote"):
+        there = {line.split()[2] for line in lines if line.startswith(word + " ")}
+        check("each of ten plugs has its line %s" % word, all(x in there for x in names), "%d of 10" % sum(x in there for x in names))
+    gaps = [int(line.split()[1]) for line in lines if line.startswith("lost ")]
+    sweeps = max(int(line.split()[1]) for line in lines if line.startswith("end ")) - 12000
+    kept, written = len(lines) - len(gaps), 3 * 12000 + 2 * sweeps + 31
+    check("the journal says how many lines are lost", gaps and abs(sum(gaps) + kept - written) < 10, "%d lost, %d there, of %d" % (sum(gaps), kept, written))
+    for name in names:
+        machine.unplug(name)
+    guard.end()
+
+
+def trial_whole_journal(o, machine, folder):
+    """With USBGUARD_JOURNAL=wait no write is made whose intent isn't out, and no line is lost."""
+    read, write = os.pipe()
+    fcntl.fcntl(write, fcntl.F_SETPIPE_SZ, 4096)
+    guard = Guard(o, folder, output=write, environment={"USBGUARD_JOURNAL": "wait"})
+    os.close(write)
+    time.sleep(1)
+    root = guard.connect()
+    root.settimeout(5)
+    root.sendall(b"allow-device 999\n" * 200)
+    time.sleep(3)
+    took = time_of_verdict(machine, "1-20", 20, patience=3)
+    check("the daemon waits for its output", took >= 3, "%.1f s" % took)
+    journal = SlowReader(read, 1000000)
+    check("behind that, the device is judged", journal.await_line("judged 2 1-20 "))
+    time.sleep(2)
+    numbers = [int(line.split()[1]) for line in journal.lines() if line.startswith("event ")]
+    check("no event is missing", numbers == list(range(1, len(numbers) + 1)), len(numbers))
+    check("no line is lost", not any(line.startswith("lost ") for line in journal.lines()))
+    judges(machine, "a journal that is waited for")
+    machine.unplug("1-20")
+    guard.end()
+
+
+def is_open(peer):
+    """Whether the daemon hasn't closed a session to which nothing was sent."""
+    peer.setblocking(False)
+    try:
+        return peer.recv(1) != b""
+    except BlockingIOError:
+        return True
+
+
+def is_answered(peer, patience):
+    """Whether a session is answered, by how long it took; else what became of it."""
+    peer.settimeout(patience)
+    began = time.monotonic()
+    try:
+        peer.sendall(b"list-devices\n")
+        answer = peer.recv(4096)
+        return answer.startswith(b"ok ") or answer.startswith(b"refused "), "%s in %.2f s" % (answer.split(b"\n")[0], time.monotonic() - began)
+    except OSError as fault:
+        return False, "%s in %.2f s" % (fault, time.monotonic() - began)
+
+
+def comes_in(guard, name, patience):
+    """Whether a newcomer is answered within that time, however often it has to come."""
+    began = time.monotonic()
+    while time.monotonic() < began + patience:
+        answered, seen = is_answered(guard.connect(name), 2)
+        if answered:
+            return True, "%.1f s" % (time.monotonic() - began)
+        time.sleep(0.5)
+    return False, seen
+
+
+def trial_idle_sessions(o, machine, folder):
+    """Four users sit idle on all their sessions; a fifth and root come. One who sits idle comes once more."""
+    users = ("nobody", "daemon", "bin", "sys", "mail")
+    guard = Guard(o, folder, access={name: "Devices=list\n" for name in users})
+    guard.await_line("end ")
+    idle = [guard.connect(name) for name in users[:4] for _ in range(40)]
+    time.sleep(1)
+    check("a fifth user is answered", *is_answered(guard.connect("mail"), 5))
+    check("so is root", *is_answered(guard.connect(), 5))
+    answered, seen = is_answered(guard.connect("nobody"), 5)
+    check("one more of a user whose places are taken is closed at once", not answered and "in 0." in seen, seen)
+    client = subprocess.run([o.program, "list-devices", "--socket", str(RUN / "nobody.socket")], capture_output=True, text=True, timeout=20)
+    check("and the client says why", client.returncode == 8 and "as many" in client.stderr, client.stderr)
+    check("within a minute and a bit it comes in", *comes_in(guard, "nobody", 65))
+    judges(machine, "idle sessions")
+    del idle
+    guard.end()
+
+
+def trial_left_descriptors(o, machine, folder):
+    """One of a group sends a descriptor on each session that the group may have, and leaves."""
+    guard = Guard(o, folder, access={":daemon": "Devices=list\n"})
+    guard.await_line("end ")
+    kept = []
+    for _ in range(16):
+        peer = guard.connect(":daemon")
+        sender, rest = lingering_socket(120)
+        kept.append(rest)
+        pass_file(peer, sender, b"list-devices\n")
+        peer.close()
+    time.sleep(1)
+    judges(machine, "16 sessions that left a descriptor")
+    check("another of the group is answered within a minute and a bit", *comes_in(guard, ":daemon", 65))
     guard.end()
 
 

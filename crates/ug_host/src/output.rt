@@ -1,17 +1,27 @@
-// A journal's output, which never waits.
+// A journal's output, which waits for nobody unless it is asked to.
 use crate::repeats::Repeats;
+use libc::net::poll;
+use libc::types::pollfd;
 use std::alloc::{AllocError, Global};
 use std::io::{self, Write};
 use ug_files::{put_at_once, tell};
 
-/// The most bytes that wait for the output.
+/// The most bytes that wait for the output, and the most where a line is put that tells of no device.
 const MOST: usize = 262_144;
+
+const MOST_OF_OTHERS: usize = 131_072;
+
+/// How a line begins that tells of a device.
+const OF_DEVICES: [&[u8]; 5] = [b"judged ", b"intent ", b"wrote ", b"gone ", b"unsettled "];
 
 /// The most pieces that are written of it at once.
 const PIECES: u32 = 256;
 
 /// How many lines are lost from one sentence to the next.
 const STEP: u64 = 1000;
+
+/// Milliseconds from one try of an output that takes nothing to the next.
+const PAUSE: i32 = 10;
 
 /// How an event's first line begins, and its last.
 const EVENT: &[u8] = b"event ";
@@ -24,7 +34,24 @@ struct Waiting {
     alloc: Global,
     output: i32,
     bytes: Vec<u8>,
+    /// How many lines were lost since the output took all.
     lost: u64,
+    /// How many of them since the last line that wasn't.
+    gap: u64,
+}
+
+fn is_of_device(line: &[u8]) -> bool {
+    for word in OF_DEVICES {
+        if line.starts_with(word) {
+            return true;
+        }
+    }
+    false
+}
+
+fn sleep(millis: i32) {
+    let mut nothing: [pollfd; 0] = [];
+    let _slept = poll(&mut nothing, millis);
 }
 
 impl Waiting {
@@ -38,12 +65,37 @@ impl Waiting {
         true
     }
 
-    // Writes as much as the output takes.
-    fn send(&mut self) {
+    fn send_pieces(&mut self) {
         for _ in 0..PIECES {
             if !self.send_piece() {
                 break;
             }
+        }
+    }
+
+    // Writes all, however long the output takes nothing.
+    fn send_all(&mut self) {
+        let mut is_told = false;
+        for _ in 0..u64::MAX {
+            self.send_pieces();
+            if self.bytes.is_empty() {
+                break;
+            }
+            if !is_told {
+                tell(
+                    "usbguard: standard output takes nothing. The daemon waits for it, as USBGUARD_JOURNAL says.\n",
+                );
+                is_told = true;
+            }
+            sleep(PAUSE);
+        }
+    }
+
+    // Writes as much as the output takes.
+    fn send(&mut self) {
+        self.send_pieces();
+        if self.bytes.is_empty() && self.gap > 0 && self.add(b"").is_ok() {
+            self.send_pieces();
         }
         if self.bytes.is_empty() && self.lost > 0 {
             self.tell_lost(
@@ -53,14 +105,40 @@ impl Waiting {
         }
     }
 
-    fn add(&mut self, line: &[u8]) -> Result<(), AllocError> {
-        if line.len() > MOST.saturating_sub(self.bytes.len()) {
-            return Err(AllocError);
+    // The line that stands in the place of those that were lost.
+    fn mark(&self) -> Result<String, AllocError> {
+        if self.gap == 0 {
+            return Ok(String::new(self.alloc));
         }
-        self.bytes.extend_from_slice(line)
+        let gap = self.gap;
+        format!(in self.alloc; "lost {gap}\n")
     }
 
-    // Puts a line behind the others. Where there is no room for it, it is lost.
+    // How many bytes more may wait where such a line is put.
+    fn room_for(&self, line: &[u8]) -> usize {
+        let most = if is_of_device(line) {
+            MOST
+        } else {
+            MOST_OF_OTHERS
+        };
+        most.saturating_sub(self.bytes.len())
+    }
+
+    // Puts a line behind the others, and before it the mark of what was lost there.
+    fn add(&mut self, line: &[u8]) -> Result<(), AllocError> {
+        let mark = self.mark()?;
+        let size = mark.len().saturating_add(line.len());
+        if size > self.room_for(line) {
+            return Err(AllocError);
+        }
+        self.bytes.reserve(size)?;
+        self.bytes.extend_from_slice(mark.as_bytes())?;
+        self.bytes.extend_from_slice(line)?;
+        self.gap = 0;
+        Ok(())
+    }
+
+    // The same. Where there is no room for it, it is lost.
     fn pass(&mut self, line: &[u8]) {
         if self.add(line).is_err() {
             self.lose();
@@ -74,6 +152,7 @@ impl Waiting {
             );
         }
         self.lost = self.lost.saturating_add(1);
+        self.gap = self.gap.saturating_add(1);
     }
 
     fn tell_lost(&self, what: &str) {
@@ -85,8 +164,11 @@ impl Waiting {
 }
 
 /// Takes each line of a journal at once, and writes it to an open descriptor as soon as that takes it: what isn't taken waits, and goes
-/// out before later lines. A line for which there is no room is lost, and the next one is tried anew; how many were lost is told on
-/// standard error. So no write fails, and none waits.
+/// out before later lines. A line for which there is no room is lost, and the next one is tried anew. A line `lost N` stands where N were
+/// lost, and standard error tells it too. Of the 262,144 bytes that may wait, lines that tell of no device take the first 131,072
+/// alone. So no write fails, and none waits.
+///
+/// Where it is asked to wait, each line is out before the call that flushes it returns, whatever becomes of the output.
 ///
 /// Where idle events are omitted, the first line of a sweep's event goes out with the line behind it; where that is the event's last,
 /// neither does. Nor does an event of which each line but these tells a trouble that the event
@@ -94,6 +176,7 @@ impl Waiting {
 #[derive(Drop)]
 pub struct JournalOutput {
     omits_idle: bool,
+    waits: bool,
     /// A line that hasn't ended yet.
     line: Vec<u8>,
     /// Whether there was no memory for a part of it.
@@ -121,6 +204,7 @@ impl JournalOutput {
     pub fn new(alloc: Global, output: i32, omits_idle: bool) -> JournalOutput {
         JournalOutput {
             omits_idle,
+            waits: false,
             line: Vec::new(alloc),
             cut: false,
             held: Vec::new(alloc),
@@ -130,8 +214,14 @@ impl JournalOutput {
                 output,
                 bytes: Vec::new(alloc),
                 lost: 0,
+                gap: 0,
             },
         }
+    }
+
+    /// Has each line be out before the call that flushes it returns.
+    pub fn set_waits(&mut self, waits: bool) {
+        self.waits = waits;
     }
 
     // Whether the line is kept back until the next one comes.
@@ -197,7 +287,11 @@ impl Write for JournalOutput {
     }
 
     fn flush(&mut self) -> io::Result<()> {
-        self.waiting.send();
+        if self.waits {
+            self.waiting.send_all();
+        } else {
+            self.waiting.send();
+        }
         Ok(())
     }
 }

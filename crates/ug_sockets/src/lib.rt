@@ -2,10 +2,13 @@
 #![tactic(auto)]
 
 mod announced;
+mod gathering;
 mod listener;
 mod listening;
+mod pace;
 mod passed_files;
 mod peer;
+mod places;
 mod reached;
 mod readiness;
 mod socket_folder;

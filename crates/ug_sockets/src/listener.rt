@@ -6,7 +6,8 @@ ghost use Rattle.ug_types.specs.Principals.{principal_text};
 ghost use Rattle.ug_sockets.specs.Sockets.{has_listener_number, socket_path};
 
 use crate::listening::{listen_at, make_folder};
-use crate::tokens::token_of;
+use crate::pace::Sent;
+use crate::tokens::{patient_token, token_of};
 use mio::net::{UnixListener, UnixStream};
 use mio::{Interest, Registry};
 use std::alloc::{AllocError, Global};
@@ -24,6 +25,8 @@ pub struct Listener {
     pub principal: Principal,
     /// Whether somebody may wait who wasn't accepted for want of a place.
     pub is_full: bool,
+    /// What its sessions have sent of late.
+    pub sent: Sent,
     socket: UnixListener,
 }
 
@@ -55,6 +58,7 @@ impl Listener {
                 number,
                 principal: *principal,
                 is_full: false,
+                sent: Sent::new(),
                 socket,
             }),
             Err(e) => Err(FileFault::from(e)),
@@ -74,6 +78,12 @@ impl Listener {
     {
         self.is_full = false;
         let token = token_of(Ready::Listener(self.number));
+        let _again = registry.reregister(&mut self.socket, token, Interest::READABLE);
+    }
+
+    /// The same, of one that can wait.
+    pub fn watch_patiently(&mut self, registry: &Registry) {
+        let token = patient_token(Ready::Listener(self.number));
         let _again = registry.reregister(&mut self.socket, token, Interest::READABLE);
     }
 
@@ -117,6 +127,25 @@ pub fn note_full(listeners: &mut [Listener], number: u32) {
     if let Some(listener) = listeners.get_mut(number as usize) {
         listener.is_full = true;
     }
+}
+
+/// The same, and has a wait tell of it that ends a while later.
+pub fn watch_later(listeners: &mut [Listener], number: u32, registry: &Registry) {
+    if let Some(listener) = listeners.get_mut(number as usize) {
+        listener.is_full = true;
+        listener.watch_patiently(registry);
+    }
+}
+
+/// How many listeners aren't root's.
+pub fn count_others(listeners: &[Listener]) -> usize {
+    let mut count = 0usize;
+    for listener in listeners {
+        if !listener.is_roots() {
+            count = count.saturating_add(1);
+        }
+    }
+    count
 }
 
 /// Has the next wait tell of each listener at which somebody may wait for a place.

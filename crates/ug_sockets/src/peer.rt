@@ -5,8 +5,9 @@ ghost use Rattle.ug_links.specs.Steps.{FitsRead, FitsWrite};
 ghost use Rattle.ug_sockets.specs.Sockets.{is_session_open};
 
 use crate::listener::Arrival;
+use crate::pace::{Sent, front_with};
 use crate::passed_files::{has_none, peek};
-use crate::tokens::token_of;
+use crate::tokens::{patient_token, token_of};
 use mio::event::Source;
 use mio::net::UnixStream;
 use mio::{Interest, Registry};
@@ -15,6 +16,7 @@ use std::io::{self, ErrorKind, Write};
 use std::net::Shutdown;
 use std::os::fd::AsRawFd;
 use std::rt::Files;
+use std::time::Instant;
 use ug_files::{FileFault, read_piece};
 use ug_links::{LinkId, LinkRead, LinkWrote, Ready};
 
@@ -29,9 +31,17 @@ pub struct Peer {
     pub listener: u32,
     /// Whether the session is over, and the stream is kept for a descriptor in its queue.
     pub over: bool,
+    /// Whether it was shut for want of places, and waits to be read to its end.
+    pub leaves: bool,
+    /// When a line of it was taken last, or something was sent to it; or when it was over. None where no clock told.
+    pub touched: Option<Instant>,
+    /// What it has sent of late.
+    pub sent: Sent,
     stream: UnixStream,
     /// Whether bytes wait until the stream takes more.
     waits: bool,
+    /// Whether what it sends can wait.
+    patient: bool,
 }
 
 // What a reading answers that has room for so many bytes.
@@ -69,8 +79,8 @@ fn write_answer(written: io::Result<usize>, size: usize) -> LinkWrote
 }
 
 impl Peer {
-    /// A session over that stream. No wait tells of it yet.
-    pub fn new(id: LinkId, arrival: Arrival) -> Peer
+    /// A session over that stream, which came at that moment. No wait tells of it yet.
+    pub fn new(id: LinkId, arrival: Arrival, now: Option<Instant>) -> Peer
         ensures id { result.id ≡ id }
         ensures listener { result.listener ≡ arrival.listener }
     {
@@ -78,8 +88,12 @@ impl Peer {
             id,
             listener: arrival.listener,
             over: false,
+            leaves: false,
+            touched: now,
+            sent: Sent::new(),
             stream: arrival.stream,
             waits: false,
+            patient: false,
         }
     }
 
@@ -114,12 +128,32 @@ impl Peer {
         } else {
             Interest::READABLE
         };
-        let token = token_of(Ready::Session(self.id));
+        let ready = Ready::Session(self.id);
+        let token = if self.patient {
+            patient_token(ready)
+        } else {
+            token_of(ready)
+        };
         let _again = registry.reregister(&mut self.stream, token, interests);
     }
 
-    // Takes what has come, if no descriptor came along. What is looked at first was there before the look for descriptors.
-    fn take<R: Files>(&mut self, rt: &R, alloc: Global, into: &mut [u8]) -> io::Result<usize>
+    /// Leaves what has come for a later turn, which it doesn't call for at once.
+    pub fn hold_back(&mut self, registry: &Registry)
+        ensures id { self.new.id ≡ self.old.id }
+    {
+        self.patient = true;
+        self.watch_again(registry);
+    }
+
+    // Takes at most so many lines of what has come, if no descriptor came along. What is looked at first was there before the look for
+    // descriptors.
+    fn take<R: Files>(
+        &mut self,
+        rt: &R,
+        alloc: Global,
+        lines: usize,
+        into: &mut [u8],
+    ) -> io::Result<usize>
         ensures bound { IfOk result (λ n. n ≤ length into.old) }
         ensures length { length into.new ≡ length into.old }
         ensures id { self.new.id ≡ self.old.id }
@@ -128,15 +162,17 @@ impl Peer {
         if count > 0 && !has_none(rt, alloc, self.stream.as_raw_fd()) {
             return Err(io::Error::from(ErrorKind::PermissionDenied));
         }
-        read_piece(&mut self.stream, &mut into[..count])
+        let front = front_with(&into[..count], lines);
+        read_piece(&mut self.stream, &mut into[..front])
     }
 
-    /// Reads what has come. Where a descriptor came along it fails.
+    /// Reads at most so many lines of what has come. Where a descriptor came along it fails.
     pub fn read<R: Files>(
         &mut self,
         rt: &R,
         alloc: Global,
         registry: &Registry,
+        lines: usize,
         into: &mut [u8],
     ) -> LinkRead
         requires { 0 < length into.old }
@@ -145,8 +181,9 @@ impl Peer {
         ensures id { self.new.id ≡ self.old.id }
     {
         let room = into.len();
-        let answer = read_answer(self.take(rt, alloc, into), room);
+        let answer = read_answer(self.take(rt, alloc, lines, into), room);
         if matches!(answer, LinkRead::Took(_)) {
+            self.patient = false;
             self.watch_again(registry);
         }
         answer
@@ -179,6 +216,16 @@ impl Peer {
         self.over = true;
         let _shut = self.stream.shutdown(Shutdown::Both);
         let _unwatched = registry.deregister(&mut self.stream);
+    }
+
+    /// Shuts the session, so that the next reading finds its end.
+    pub fn shut(&mut self, registry: &Registry)
+        ensures id { self.new.id ≡ self.old.id }
+    {
+        self.leaves = true;
+        self.patient = false;
+        let _shut = self.stream.shutdown(Shutdown::Both);
+        self.watch_again(registry);
     }
 
     /// Whether the stream of a session that is over may be closed.

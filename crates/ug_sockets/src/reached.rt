@@ -8,9 +8,11 @@ pub enum Reached {
     Nowhere,
     /// The system made none: its number, as in errno(3), or 0 where it gave none.
     Refused(i32),
-    /// It was made, and no call on it has failed.
+    /// It was made, and neither ended nor failed before something came.
     Connected,
-    /// It was made, and a call on it has failed.
+    /// It was made, and ended or failed before anything came.
+    TurnedAway,
+    /// It was made, and a call on it has failed behind what came.
     Broken,
 }
 

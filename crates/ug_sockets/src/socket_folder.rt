@@ -6,9 +6,12 @@ ghost use Rattle.ug_sockets.specs.Sockets.{is_session_open};
 ghost use Rattle.ug_files.specs.Untold.{untold};
 
 use crate::listener::{
-    Arrival, Listener, find_listener, listen_told, note_full, path_of, watch_at, watch_full,
+    Arrival, Listener, count_others, find_listener, listen_told, note_full, path_of, watch_at,
+    watch_full, watch_later,
 };
+use crate::pace::{Pace, count_ends, lines_of, lines_of_session, moment};
 use crate::peer::Peer;
+use crate::places::{Place, count_at, find_place};
 use crate::socket_waiter::SocketWaiter;
 use crate::tokens::FIRST_SESSION;
 use mio::Registry;
@@ -17,24 +20,31 @@ use std::alloc::Global;
 use std::io;
 use std::net::Net;
 use std::rt::Files;
+use std::time::{Clock, Instant};
 use ug_files::FileFault;
 use ug_links::{Accepted, LinkId, LinkRead, LinkWrote, Links, Listening};
 use ug_types::Principal;
 
-/// The most sessions of one listener, and of all but root's.
-const MOST_OF_ONE: usize = 16;
+/// How many newcomers are turned away by one call.
+const TURNED_AWAY: u32 = 64;
 
-const MOST_OF_OTHERS: usize = 56;
+/// The id of a client that was turned away.
+const NOBODY: LinkId = LinkId(0);
 
 /// Unix sockets in a folder, each named by its principal's text and `.socket`. What they answer is told by the machine alone.
 ///
 /// The folder is made where it is missing, with mode 0700, and a socket with mode 0600: owner and mode of both are the
 /// administrator's to give. A socket that a dead daemon left is replaced; one at which a program listens is not.
 ///
-/// No call waits for a peer. A session to which a descriptor was sent fails, and its stream is neither read nor closed.
+/// No call waits for a peer. A session to which a descriptor was sent fails, and its stream is neither read nor closed. It keeps its place
+/// for a minute, and its stream for good; of these there are at most 16,384, and each listener has its share of them.
 ///
-/// At a listener with 16 sessions nobody more is accepted, nor at one other than root's where these together have 56: so no user or
-/// group takes all places, and root finds some. Who waits there is told again once a session has been closed.
+/// Each listener has places of its own: 16, or its share of 56 where all but root's together would have more; root has what is left of 64,
+/// 8 at least. Beyond 56 listeners those that are full share them. A newcomer that finds no place is turned away at once. Where a session of
+/// that listener was idle for a minute, that one ends, and the newcomer waits for its place.
+///
+/// In 240 milliseconds the listeners other than root's have 40 lines, each its share, and each session its share of that, one at
+/// least. What is sent beyond that is left where it is, and no wait ends at once for it.
 #[derive(Drop)]
 pub struct SocketFolder<R> {
     rt: R,
@@ -44,6 +54,9 @@ pub struct SocketFolder<R> {
     last: Option<String>,
     listeners: Vec<Listener>,
     peers: Vec<Peer>,
+    pace: Pace,
+    /// The place of the next kept stream to look at again.
+    looked: usize,
     next: u64,
     faults: u64,
 }
@@ -66,13 +79,15 @@ impl<R: Files + Net + Copy> SocketFolder<R> {
             last: None,
             listeners: Vec::new(alloc),
             peers: Vec::new(alloc),
+            pace: Pace::new(),
+            looked: 0,
             next: FIRST_SESSION,
             faults: 0,
         })
     }
 }
 
-impl<R: Files + Net> SocketFolder<R> {
+impl<R: Files + Net + Clock> SocketFolder<R> {
     /// The path of a socket that couldn't be had; else the folder's.
     pub fn last_path(&self) -> &str {
         match &self.last {
@@ -128,53 +143,6 @@ impl<R: Files + Net> SocketFolder<R> {
         self.begin_listener(number, principal, socket)
     }
 
-    // How many sessions a listener has.
-    fn count_of(&self, listener: u32) -> usize {
-        let mut count = 0usize;
-        for peer in self.peers.as_slice() {
-            if peer.listener == listener {
-                count = count.saturating_add(1);
-            }
-        }
-        count
-    }
-
-    // How many sessions all listeners but root's have.
-    fn count_of_others(&self) -> usize {
-        let mut count = 0usize;
-        for peer in self.peers.as_slice() {
-            if !self.is_roots(peer.listener) {
-                count = count.saturating_add(1);
-            }
-        }
-        count
-    }
-
-    fn is_roots(&self, listener: u32) -> bool {
-        match find_listener(self.listeners.as_slice(), listener) {
-            Some(listener) => listener.is_roots(),
-            None => false,
-        }
-    }
-
-    // Whether a session more finds a place at the listener.
-    fn has_place(&self, listener: u32) -> bool {
-        self.count_of(listener) < MOST_OF_ONE
-            && (self.is_roots(listener) || self.count_of_others() < MOST_OF_OTHERS)
-    }
-
-    // Whether a session more finds a place at the listener, once those that are over have left theirs.
-    fn finds_place(&mut self, listener: u32) -> bool
-        ensures faults { self.new.faults ≡ self.old.faults }
-        ensures next { self.new.next ≡ self.old.next }
-    {
-        if self.has_place(listener) {
-            return true;
-        }
-        close_done(&mut self.peers, &self.rt, self.alloc);
-        self.has_place(listener)
-    }
-
     // Keeps the session of a client that came to the listener, as there is room for it.
     fn begin_session(
         &mut self,
@@ -189,7 +157,7 @@ impl<R: Files + Net> SocketFolder<R> {
     {
         let id = LinkId(self.next);
         self.next = next;
-        let mut peer = Peer::new(id, arrival);
+        let mut peer = Peer::new(id, arrival, moment(&self.rt));
         let begun = peer.begin(&self.registry);
         self.peers.push_reserved(peer);
         begun?;
@@ -224,23 +192,182 @@ impl<R: Files + Net> SocketFolder<R> {
         ensures grows { self.old.next ≤ self.new.next }
         ensures faults { self.new.faults ≡ self.old.faults }
     {
-        if self.finds_place(listener) {
-            return self.accept_next(listener);
+        let now = moment(&self.rt);
+        match find_place(
+            self.listeners.as_slice(),
+            self.peers.as_slice(),
+            listener,
+            now,
+        ) {
+            Place::Free => return self.accept_next(listener),
+            Place::After(place) => self.shut(place),
+            Place::Later => {}
+            Place::Taken => return self.turn_away(listener),
         }
-        note_full(self.listeners.as_mut_slice(), listener);
+        watch_later(self.listeners.as_mut_slice(), listener, &self.registry);
         Ok(None)
     }
-}
 
-// Closes the streams of sessions that are over, but for those that bear a descriptor.
-fn close_done<R: Files>(peers: &mut Vec<Peer>, rt: &R, alloc: Global) {
-    let mut place = 0;
-    while place < peers.len() {
-        if peers[place].is_done(rt, alloc) {
-            drop(peers.remove(place));
-        } else {
-            place += 1;
+    // Has the session of that place end.
+    fn shut(&mut self, place: usize)
+        ensures faults { self.new.faults ≡ self.old.faults }
+        ensures next { self.new.next ≡ self.old.next }
+    {
+        if let Some(peer) = self.peers.get_mut(place) {
+            peer.shut(&self.registry);
         }
+    }
+
+    // Closes the connections of those that wait at the listener, up to one that can't be closed.
+    fn turn_away(&mut self, listener: u32) -> Result<Option<LinkId>, FileFault>
+        ensures none { IfOk result (λ found. found ≡ None) }
+        ensures faults { self.new.faults ≡ self.old.faults }
+        ensures next { self.new.next ≡ self.old.next }
+    {
+        for _ in 0..TURNED_AWAY {
+            if !self.turns_away(listener)? {
+                return Ok(None);
+            }
+        }
+        watch_later(self.listeners.as_mut_slice(), listener, &self.registry);
+        Ok(None)
+    }
+
+    // Closes the connection of the next that waits at the listener, and tells whether there may be another.
+    fn turns_away(&mut self, listener: u32) -> Result<bool, FileFault>
+        ensures faults { self.new.faults ≡ self.old.faults }
+        ensures next { self.new.next ≡ self.old.next }
+    {
+        let Some(at) = find_listener(self.listeners.as_slice(), listener) else {
+            return Err(FileFault::Failed);
+        };
+        self.peers.reserve(1)?;
+        match at.accept() {
+            Ok(Some(arrival)) => {
+                let mut peer = Peer::new(NOBODY, arrival, moment(&self.rt));
+                peer.end(&self.registry);
+                let done = peer.is_done(&self.rt, self.alloc);
+                if !done {
+                    self.peers.push_reserved(peer);
+                    watch_later(self.listeners.as_mut_slice(), listener, &self.registry);
+                }
+                Ok(done)
+            }
+            Ok(None) => Ok(false),
+            Err(fault) => Err(fault),
+        }
+    }
+
+    // Ends the session of that place, whose stream is closed unless it bears a descriptor.
+    fn end_at(&mut self, place: usize, now: Option<Instant>)
+        ensures faults { self.new.faults ≡ self.old.faults }
+    {
+        let Some(peer) = self.peers.get_mut(place) else {
+            return;
+        };
+        peer.end(&self.registry);
+        peer.touched = now;
+        self.close_if_done(place);
+    }
+
+    fn close_if_done(&mut self, place: usize)
+        ensures faults { self.new.faults ≡ self.old.faults }
+    {
+        if place < self.peers.len() && self.peers[place].is_done(&self.rt, self.alloc) {
+            drop(self.peers.remove(place));
+        }
+    }
+
+    // Looks whether one stream that was kept can be closed by now: another by each call.
+    fn look_again(&mut self)
+        ensures faults { self.new.faults ≡ self.old.faults }
+    {
+        if self.looked >= self.peers.len() {
+            self.looked = 0;
+        }
+        self.close_if_done(self.looked);
+        self.looked = self.looked.saturating_add(1);
+    }
+
+    // How many lines more a session may send now.
+    fn lines_left(&mut self, place: usize) -> usize
+        ensures faults { self.new.faults ≡ self.old.faults }
+        ensures next { self.new.next ≡ self.old.next }
+        ensures peers { self.new.peers ≡ self.old.peers }
+    {
+        let now = moment(&self.rt);
+        self.pace.renew(now);
+        let Some(peer) = self.peers.get(place) else {
+            return 0;
+        };
+        let Some(at) = find_listener(self.listeners.as_slice(), peer.listener) else {
+            return 0;
+        };
+        if at.is_roots() {
+            return usize::MAX;
+        }
+        let others = count_others(self.listeners.as_slice());
+        let sessions = count_at(self.peers.as_slice(), peer.listener, now);
+        let slice = self.pace.slice;
+        let of_all = lines_of(others, sessions).saturating_sub(at.sent.lines_in(slice));
+        let own = lines_of_session(others, sessions).saturating_sub(peer.sent.lines_in(slice));
+        own.min(of_all)
+    }
+
+    // So many lines of a session were taken.
+    fn count_lines(&mut self, place: usize, lines: usize)
+        ensures faults { self.new.faults ≡ self.old.faults }
+        ensures next { self.new.next ≡ self.old.next }
+    {
+        let slice = self.pace.slice;
+        let Some(peer) = self.peers.get_mut(place) else {
+            return;
+        };
+        if lines > 0 {
+            peer.touched = moment(&self.rt);
+        }
+        peer.sent.add(slice, lines);
+        if let Some(at) = self.listeners.get_mut(peer.listener as usize) {
+            at.sent.add(slice, lines);
+        }
+    }
+
+    // Reads what the session of that place may send now.
+    fn read_at(&mut self, place: usize, into: &mut [u8]) -> LinkRead
+        requires room { 0 < length into.old }
+        ensures size { FitsRead (length into.old) result }
+        ensures length { length into.new ≡ length into.old }
+        ensures faults { self.new.faults ≡ self.old.faults }
+    {
+        let lines = self.lines_left(place);
+        let Some(peer) = self.peers.get_mut(place) else {
+            return LinkRead::Failed;
+        };
+        if lines == 0 {
+            peer.hold_back(&self.registry);
+            return LinkRead::NotYet;
+        }
+        let answer = peer.read(&self.rt, self.alloc, &self.registry, lines, into);
+        if let LinkRead::Took(n) = answer {
+            self.count_lines(place, count_ends(&into[..n]));
+        }
+        answer
+    }
+
+    // Writes to the session of that place.
+    fn write_at(&mut self, place: usize, bytes: &[u8]) -> LinkWrote
+        requires room { 0 < length bytes.now }
+        ensures size { FitsWrite (length bytes.now) result }
+        ensures faults { self.new.faults ≡ self.old.faults }
+    {
+        let Some(peer) = self.peers.get_mut(place) else {
+            return LinkWrote::Failed;
+        };
+        let answer = peer.write(&self.registry, bytes);
+        if matches!(answer, LinkWrote::Sent(_)) {
+            peer.touched = moment(&self.rt);
+        }
+        answer
     }
 }
 
@@ -256,18 +383,7 @@ fn place_of(peers: &[Peer], id: LinkId) -> Option<usize>
     None
 }
 
-// A session that isn't over.
-#[tactic(auto, using(crate::proofs::Looked::open_at))]
-fn open_peer(peers: &mut [Peer], id: LinkId) -> Option<&mut Peer>
-    ensures { IfSome result (λ peer. is_session_open id peer.now ≡ true) }
-{
-    match place_of(peers, id) {
-        Some(i) => Some(&mut peers[i]),
-        None => None,
-    }
-}
-
-impl<R: Files + Net> Links for SocketFolder<R> {
+impl<R: Files + Net + Clock> Links for SocketFolder<R> {
     ghost gives = { λ s step t. Unit {0} };
 
     ghost told = { λ s. None };
@@ -301,8 +417,8 @@ impl<R: Files + Net> Links for SocketFolder<R> {
     }
 
     fn read(&mut self, id: LinkId, into: &mut [u8]) -> LinkRead {
-        let answer = match open_peer(&mut self.peers, id) {
-            Some(peer) => peer.read(&self.rt, self.alloc, &self.registry, into),
+        let answer = match place_of(self.peers.as_slice(), id) {
+            Some(place) => self.read_at(place, into),
             None => LinkRead::Failed,
         };
         self.count(matches!(answer, LinkRead::Failed));
@@ -310,8 +426,8 @@ impl<R: Files + Net> Links for SocketFolder<R> {
     }
 
     fn write(&mut self, id: LinkId, bytes: &[u8]) -> LinkWrote {
-        let answer = match open_peer(&mut self.peers, id) {
-            Some(peer) => peer.write(&self.registry, bytes),
+        let answer = match place_of(self.peers.as_slice(), id) {
+            Some(place) => self.write_at(place, bytes),
             None => LinkWrote::Failed,
         };
         self.count(matches!(answer, LinkWrote::Failed));
@@ -319,10 +435,11 @@ impl<R: Files + Net> Links for SocketFolder<R> {
     }
 
     fn close(&mut self, id: LinkId) {
-        if let Some(peer) = open_peer(&mut self.peers, id) {
-            peer.end(&self.registry);
+        let now = moment(&self.rt);
+        if let Some(place) = place_of(self.peers.as_slice(), id) {
+            self.end_at(place, now);
         }
-        close_done(&mut self.peers, &self.rt, self.alloc);
+        self.look_again();
         watch_full(self.listeners.as_mut_slice(), &self.registry);
     }
 

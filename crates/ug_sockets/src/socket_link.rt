@@ -18,6 +18,8 @@ pub struct SocketLink<R> {
     faults: u64,
     path: Option<Text>,
     reached: Reached,
+    /// Whether anything came on the connection.
+    heard: bool,
 }
 
 fn receive_from(stream: &mut UnixStream, into: &mut [u8]) -> Taken
@@ -42,6 +44,7 @@ impl<R: Net> SocketLink<R> {
             faults: 0,
             path: None,
             reached: Reached::Nowhere,
+            heard: false,
         }
     }
 
@@ -68,12 +71,28 @@ impl<R: Net> SocketLink<R> {
         }
     }
 
-    // A call on the connection failed, if it is one that did.
-    fn note_break(&mut self, failed: bool)
+    // A call on the connection failed.
+    fn note_break(&mut self)
         ensures faults { self.new.faults ≡ self.old.faults }
     {
-        if failed && self.stream.is_some() {
-            self.reached = Reached::Broken;
+        if self.stream.is_some() {
+            self.reached = if self.heard {
+                Reached::Broken
+            } else {
+                Reached::TurnedAway
+            };
+        }
+    }
+
+    // What a call that receives has answered.
+    fn note_taken(&mut self, taken: Taken)
+        ensures faults { self.new.faults ≡ self.old.faults }
+    {
+        match taken {
+            Taken::Bytes(_) => self.heard = true,
+            Taken::End if !self.heard => self.reached = Reached::TurnedAway,
+            Taken::End => {}
+            Taken::Failed => self.note_break(),
         }
     }
 
@@ -82,6 +101,7 @@ impl<R: Net> SocketLink<R> {
         ensures faults { self.new.faults ≡ self.old.faults }
     {
         self.stream = None;
+        self.heard = false;
         self.reached = Reached::Nowhere;
         self.path = Some(Text::of(alloc, path)?);
         let text = text_of(path)?;
@@ -123,7 +143,9 @@ impl<R: Net> Link for SocketLink<R> {
             Some(stream) => put_all(stream, bytes),
             None => Put::Failed,
         };
-        self.note_break(put == Put::Failed);
+        if put == Put::Failed {
+            self.note_break();
+        }
         self.count(put == Put::Failed);
         put
     }
@@ -133,7 +155,7 @@ impl<R: Net> Link for SocketLink<R> {
             Some(stream) => receive_from(stream, into),
             None => Taken::Failed,
         };
-        self.note_break(matches!(taken, Taken::Failed));
+        self.note_taken(taken);
         self.count(matches!(taken, Taken::Failed));
         taken
     }

@@ -1,8 +1,8 @@
 // Sockets as numbers, by which the system names those that are ready.
-ghost use Rattle.std.specs.Prelude.{◌≡◌, ◌<◌, ◌≤◌, ◌^◌, length};
+ghost use Rattle.std.specs.Prelude.{◌≡◌, ◌<◌, ◌^◌};
 ghost use Rattle.ug_sockets.specs.Tokens.{token_number};
 
-use mio::{Events, Token};
+use mio::Token;
 use ug_links::{LinkId, Ready};
 
 /// Sessions are numbered from here, and below it are the listeners' numbers.
@@ -29,17 +29,19 @@ pub fn ready_of(token: Token) -> Ready
     }
 }
 
-/// Puts what is ready at the front, as far as there is room, and tells how much that is.
-pub fn put_tokens(events: &Events, into: &mut [Ready]) -> usize
-    ensures length { length into.new ≡ length into.old }
-    ensures bound { result ≤ length into.old }
-{
-    let mut count = 0;
-    for event in events.iter() {
-        if count < into.len() {
-            into[count] = ready_of(event.token());
-            count += 1;
-        }
-    }
-    count
+/// The bit of a token that calls for no turn at once.
+const PATIENT: usize = 1 << 62;
+
+/// The token of what can wait for a turn that comes anyway, or a while.
+pub fn patient_token(ready: Ready) -> Token {
+    Token(token_of(ready).0 | PATIENT)
+}
+
+pub fn is_patient(token: Token) -> bool {
+    token.0 & PATIENT != 0
+}
+
+/// The token of the same socket that calls for a turn at once.
+pub fn without_patience(token: Token) -> Token {
+    Token(token.0 & !PATIENT)
 }

@@ -27,7 +27,10 @@ fn outcome(reached: Reached) -> &'static str {
         Reached::Nowhere => "the path can't be that of a socket.",
         Reached::Refused(errno) => reason(errno),
         Reached::Connected => {
-            "the connection ended without a whole reply: the daemon has as many connections as it takes, a list would be too long, or it isn't the daemon."
+            "the connection ended without a whole reply: a list would be too long, the daemon has ended, or it isn't the daemon."
+        }
+        Reached::TurnedAway => {
+            "the connection was closed without an answer: there are as many at this socket as the daemon takes. Close one of them, or try again in a minute. Else a list would be too long, or the daemon has ended."
         }
         Reached::Broken => "the connection broke: the daemon has ended, or has closed it.",
     }
@@ -82,7 +85,7 @@ fn tell_reached(rt: &HostRuntime, path: &str, reached: Reached) -> std::io::Resu
         Reached::Refused(errno) => {
             eprintln!(rt; "usbguard: {path}: {outcome} (error {errno} of errno(3))")
         }
-        Reached::Nowhere | Reached::Connected | Reached::Broken => {
+        Reached::Nowhere | Reached::Connected | Reached::TurnedAway | Reached::Broken => {
             eprintln!(rt; "usbguard: {path}: {outcome}")
         }
     }

@@ -28,12 +28,21 @@ const OUTPUT: i32 = 1;
 
 type Found = Rc<Cell<Option<StartRefusal>>>;
 
-// Whether the environment asks that an event in which nothing happened leaves nothing in the journal.
-fn omits_idle(rt: &HostRuntime) -> bool {
-    match env::var(rt, "USBGUARD_IDLE_EVENTS") {
-        Ok(value) => value.as_str() == "omit",
+// Whether the environment has that variable with that value.
+fn has_variable(rt: &HostRuntime, name: &str, wanted: &str) -> bool {
+    match env::var(rt, name) {
+        Ok(value) => value.as_str() == wanted,
         Err(_) => false,
     }
+}
+
+// The journal's output. The environment may ask that an event in which nothing happened leaves nothing there, and that the daemon waits
+// until each line is out.
+fn make_output(rt: &HostRuntime) -> JournalOutput {
+    let omits_idle = has_variable(rt, "USBGUARD_IDLE_EVENTS", "omit");
+    let mut output = JournalOutput::new(rt.alloc(), OUTPUT, omits_idle);
+    output.set_waits(has_variable(rt, "USBGUARD_JOURNAL", "wait"));
+    output
 }
 
 // A waiter that tells the service manager which the environment names.
@@ -63,8 +72,7 @@ fn add_auditors(
     members: &mut Vec<Box<dyn Auditor>>,
 ) -> Result<(), AllocError> {
     let alloc = rt.alloc();
-    let output = JournalOutput::new(alloc, OUTPUT, omits_idle(rt));
-    members.push(Box::new(alloc, WriterAuditor::new(output))?)?;
+    members.push(Box::new(alloc, WriterAuditor::new(make_output(rt)))?)?;
     members.push(Box::new(alloc, RefusalReader::new(alloc, found.clone()?))?)?;
     let devices = String::from_str(alloc, DEVICES)?;
     let closes = matches!(default, Some(AuthDefault::None));
