@@ -293,6 +293,9 @@ class Flood(threading.Thread):
         peer.setblocking(False)
         return peer
 
+    def end(self):
+        self.over = True
+
     def run(self):
         peers = [self.come() for _ in range(16)]
         while not self.over:
@@ -369,7 +372,7 @@ def trial_flood(o, machine, folder):
         check("root's order is carried out: %s" % reply, reply.startswith("ok "))
     check("each of root's orders is answered within half a second", max(took) < 0.5, "%.0f ms at most" % (1000 * max(took)))
     time.sleep(1)
-    flood.over = True
+    flood.end()
     flood.join()
     judges(machine, "behind a flood")
     time.sleep(1)

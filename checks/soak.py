@@ -4,7 +4,8 @@
     checks/soak.py [--program PATH] [--sweeps N] [--plugs N] [--requests N]
 
 On the machine of checks/edge.py: 200,000 sweeps that announcements call for and requests bring along, 20,000 plugs and as many unplugs, and 50,000
-requests of 64 sessions at once, of which 16 are root's and 16 each of three groups. Memory (VmRSS), its peak and the number of open files are
+requests of 50 sessions at once, of which 8 are root's and 14 each of three groups. For a minute, from the sixth tenth on, a user floods its socket by 16
+sessions beside that. Memory (VmRSS), its peak and the number of open files are
 printed as they are behind each tenth of the plugs. Exit status 0 where the last three tenths have no more open files, and no more than
 256 kB more memory, than the three before them. Needs what checks/edge.py needs.
 """
@@ -22,7 +23,7 @@ import time
 from pathlib import Path
 
 import edge
-from edge import Guard, check
+from edge import Flood, Guard, check
 from daemon import Machine
 
 
@@ -85,7 +86,7 @@ def main():
         place.mkdir()
         read, write = os.pipe()
         groups = (":bin", ":daemon", ":sys")
-        guard = Guard(o, place, output=write, access={name: "Devices=list\n" for name in groups})
+        guard = Guard(o, place, output=write, access={"nobody": "", **{name: "Devices=list\n" for name in groups}})
         os.close(write)
         counted = {"event": 0, "end": 0, "judged": 0, "gone": 0, "unsettled": 0, "rest": 0}
 
@@ -98,12 +99,16 @@ def main():
         threading.Thread(target=count, daemon=True).start()
         while counted["end"] < 1:
             time.sleep(0.01)
-        askers = [Asker(guard, name, o.requests // 64) for name in ("root", *groups) for _ in range(16)]
+        names = 8 * ["root"] + 14 * list(groups)
+        askers = [Asker(guard, name, o.requests // len(names)) for name in names]
         for asker in askers:
             asker.start()
         points = []
         for tenth in range(10):
             until_sweeps = o.sweeps * (tenth + 1) // 10
+            if tenth == 5:
+                flood = Flood(guard, "nobody")
+                threading.Timer(60, flood.end).start()
             for k in range(o.plugs // 10):
                 plug = tenth * (o.plugs // 10) + k
                 machine.plug("1-1", 2 + plug % 120)
@@ -131,9 +136,9 @@ def main():
             print("%3d %%, %4.0f s: %d events, %d verdicts, %d requests; memory %d kB, peak %d kB, open files %d" % (
                 10 * (tenth + 1), time.monotonic() - began, counted["end"], counted["judged"], sum(x.asked for x in askers), *points[-1]),
                 flush=True)
-        for asker in askers:
-            asker.join()
-        check("each request was answered", sum(x.asked for x in askers) >= o.requests // 64 * 64 and not any(x.wrong for x in askers),
+        for thread in (*askers, flood):
+            thread.join()
+        check("each request was answered", sum(x.asked for x in askers) >= o.requests // len(names) * len(names) and not any(x.wrong for x in askers),
               "%d, %d wrong" % (sum(x.asked for x in askers), sum(x.wrong for x in askers)))
         check("nothing was unsettled", counted["unsettled"] == 0, counted["unsettled"])
         late, before = points[7:], points[4:7]

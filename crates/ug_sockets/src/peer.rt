@@ -189,8 +189,8 @@ impl Peer {
         answer
     }
 
-    /// Writes as much as it takes.
-    pub fn write(&mut self, registry: &Registry, bytes: &[u8]) -> LinkWrote
+    /// Writes as much as it takes at that moment.
+    pub fn write(&mut self, registry: &Registry, now: Option<Instant>, bytes: &[u8]) -> LinkWrote
         requires { 0 < length bytes.now }
         ensures size { FitsWrite (length bytes.now) result }
         ensures id { self.new.id ≡ self.old.id }
@@ -201,6 +201,9 @@ impl Peer {
             LinkWrote::NotYet => true,
             LinkWrote::Failed => false,
         };
+        if matches!(answer, LinkWrote::Sent(_)) {
+            self.touched = now;
+        }
         if waits != self.waits {
             self.waits = waits;
             self.watch_again(registry);

@@ -353,22 +353,6 @@ impl<R: Files + Net + Clock> SocketFolder<R> {
         }
         answer
     }
-
-    // Writes to the session of that place.
-    fn write_at(&mut self, place: usize, bytes: &[u8]) -> LinkWrote
-        requires room { 0 < length bytes.now }
-        ensures size { FitsWrite (length bytes.now) result }
-        ensures faults { self.new.faults ≡ self.old.faults }
-    {
-        let Some(peer) = self.peers.get_mut(place) else {
-            return LinkWrote::Failed;
-        };
-        let answer = peer.write(&self.registry, bytes);
-        if matches!(answer, LinkWrote::Sent(_)) {
-            peer.touched = moment(&self.rt);
-        }
-        answer
-    }
 }
 
 // The place of a session that isn't over.
@@ -381,6 +365,17 @@ fn place_of(peers: &[Peer], id: LinkId) -> Option<usize>
         }
     }
     None
+}
+
+// A session that isn't over.
+#[tactic(auto, using(crate::proofs::Looked::open_at))]
+fn open_peer(peers: &mut [Peer], id: LinkId) -> Option<&mut Peer>
+    ensures { IfSome result (λ peer. is_session_open id peer.now ≡ true) }
+{
+    match place_of(peers, id) {
+        Some(i) => Some(&mut peers[i]),
+        None => None,
+    }
 }
 
 impl<R: Files + Net + Clock> Links for SocketFolder<R> {
@@ -426,8 +421,9 @@ impl<R: Files + Net + Clock> Links for SocketFolder<R> {
     }
 
     fn write(&mut self, id: LinkId, bytes: &[u8]) -> LinkWrote {
-        let answer = match place_of(self.peers.as_slice(), id) {
-            Some(place) => self.write_at(place, bytes),
+        let now = moment(&self.rt);
+        let answer = match open_peer(&mut self.peers, id) {
+            Some(peer) => peer.write(&self.registry, now, bytes),
             None => LinkWrote::Failed,
         };
         self.count(matches!(answer, LinkWrote::Failed));

@@ -1,5 +1,5 @@
 use Rattle.std.proofs.Common.{◌≡◌, ◌≤◌, length}
-use Rattle.ug_sockets.proofs.tokens.put_tokens.Given as goal
+use Rattle.ug_sockets.proofs.gathering.gather.Given as goal
 
 abbrev pub invariant-loop-event : goal.invariant-loop-event
 invariant-loop-event l = record {
