@@ -4,28 +4,26 @@ ghost use Rattle.std.specs.Prelude.{◌≤◌, length};
 use libc::net::{POLLOUT, poll};
 use libc::types::pollfd;
 
-/// Standard error.
-const STANDARD_ERROR: i32 = 2;
-
 /// The most bytes of one write. A pipe or a socket that has room at all takes so many without waiting: pipe(7), unix(7).
 const PIECE: usize = 4096;
 
 /// Whether a write of a piece would neither wait nor find that nobody reads any more, which can end the process: signal(7), SIGPIPE.
-fn has_room(output: i32) -> bool {
+/// That is awaited for so many milliseconds, or without an end where they are below 0.
+fn has_room(output: i32, wait: i32) -> bool {
     let mut asked = [pollfd {
         fd: output,
         events: POLLOUT,
         revents: 0,
     }];
-    poll(&mut asked, 0) > 0 && asked[0].revents == POLLOUT
+    poll(&mut asked, wait) > 0 && asked[0].revents == POLLOUT
 }
 
-/// Writes a front of the bytes to an open descriptor, as much as it takes at once, and tells how much that was: nothing where it has no
-/// room, or the write fails.
-pub fn put_at_once(output: i32, bytes: &[u8]) -> usize
+/// Writes a front of the bytes to an open descriptor, as much as it takes once it has room, and tells how much that was: nothing where it
+/// has none within so many milliseconds, which have no end where they are below 0, or where the write fails.
+pub fn put_in_time(output: i32, bytes: &[u8], wait: i32) -> usize
     ensures { result ≤ length bytes.now }
 {
-    if bytes.is_empty() || !has_room(output) {
+    if bytes.is_empty() || !has_room(output, wait) {
         return 0;
     }
     let piece = &bytes[..bytes.len().min(PIECE)];
@@ -37,7 +35,9 @@ pub fn put_at_once(output: i32, bytes: &[u8]) -> usize
     }
 }
 
-/// Tells a person a sentence on standard error. Where that takes nothing, the sentence is lost.
-pub fn tell(sentence: &str) {
-    let _told = put_at_once(STANDARD_ERROR, sentence.as_bytes());
+/// The same at once.
+pub fn put_at_once(output: i32, bytes: &[u8]) -> usize
+    ensures { result ≤ length bytes.now }
+{
+    put_in_time(output, bytes, 0)
 }

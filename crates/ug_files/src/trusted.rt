@@ -1,8 +1,8 @@
 // Files that decide what the daemon does: who may have written them.
-use crate::at_once::tell;
 use crate::file::{FileFault, plain};
 use crate::linked::{folder_of, resolve};
 use crate::opening::open_plain;
+use crate::sentence::{Priority, tell};
 use std::alloc::Global;
 use std::fs::{self, Metadata, OpenFile};
 use std::io::{self, ErrorKind};
@@ -113,11 +113,25 @@ fn tell_other_kind(alloc: Global, path: &str) {
     }
 }
 
+// Tells whose a file is that may not be read.
+fn tell_denied<R: Files>(rt: &R, alloc: Global, path: &str, error: &io::Error) {
+    match fs::metadata(rt, path) {
+        Ok(metadata) => {
+            let (owner, mode) = (metadata.uid(), metadata.mode() & 0o7777);
+            eprintln!(Priority::Error;
+                "usbguard: {path} can't be opened: its owner is {owner} and its mode {mode:o}. The daemon's user must own it: chown root {path}"
+            );
+        }
+        Err(_) => tell_failed(alloc, "opened", path, error),
+    }
+}
+
 // Tells why the file can't be opened, if there is one.
-fn tell_unopened(alloc: Global, path: &str, error: &io::Error) {
+fn tell_unopened<R: Files>(rt: &R, alloc: Global, path: &str, error: &io::Error) {
     match error.kind() {
         ErrorKind::NotFound => {}
         ErrorKind::InvalidInput => tell_other_kind(alloc, path),
+        ErrorKind::PermissionDenied => tell_denied(rt, alloc, path, error),
         _ => tell_failed(alloc, "opened", path, error),
     }
 }
@@ -126,7 +140,7 @@ fn tell_unopened(alloc: Global, path: &str, error: &io::Error) {
 fn open_told<R: Files>(rt: &R, alloc: Global, path: &str) -> Result<Option<R::File>, FileFault> {
     let opened = open_plain(rt, path);
     if let Err(error) = &opened {
-        tell_unopened(alloc, path, error);
+        tell_unopened(rt, alloc, path, error);
     }
     match plain(opened) {
         Ok(file) => Ok(Some(file)),
