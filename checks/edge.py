@@ -653,7 +653,7 @@ def at_terminal(words, given=b"", of=None):
 
 
 def trial_terminal(o, machine, folder):
-    """At a terminal commands say in words what their output says in numbers."""
+    """Commands say in words what their output says in numbers, at a terminal and elsewhere."""
     guard = Guard(o, folder)
     guard.await_line("end ")
     told = at_terminal([o.program, "check-rules"], b"allow\nallow name \"a\n")
@@ -661,13 +661,13 @@ def trial_terminal(o, machine, folder):
     told = at_terminal([o.program, "check-rules"], b"allow\n  allow name \"a\n")
     check("check-rules, with blanks before the rule", all(x in told for x in ("line 2, column 14", "      allow name \"a\n                 ^")), told)
     told = at_terminal([o.program, "add-user", "joe", "--devices", "list"], b"Frob=list\n")
-    check("add-user", all(x in told for x in ("line 1, column 1", "no such section", "    Frob=list\n    ^")), told)
+    check("add-user", all(x in told for x in ("line 1, column 1", "a section was expected", "    Frob=list\n    ^")), told)
     told = at_terminal([o.program, "allow-device", "999"])
     check("a refused order", "no device has that number" in told, told)
     told = at_terminal([o.program, "append-rule", "allow frob"])
-    check("a refused rule", "the rule is bad" in told and "no attribute" in told, told)
+    check("a refused rule", "the rule, column 7" in told and "no such attribute" in told, told)
     told = subprocess.run([o.program, "allow-device", "999"], capture_output=True, text=True).stderr
-    check("elsewhere they don't", "no device has that number" not in told, told)
+    check("elsewhere too", "no device has that number" in told, told)
     guard.end()
 
 

@@ -162,9 +162,10 @@ show 'su joe -c "usbguard block-device 2 --socket /run/usbguard/joe.socket"'
 show 'su eve -c "usbguard list-devices --socket /run/usbguard/joe.socket"'
 check 'joe may list devices' 'su joe -c "usbguard list-devices --socket /run/usbguard/joe.socket" | grep -q "^4: allow"'
 check 'and give no order' 'su joe -c "usbguard block-device 2 --socket /run/usbguard/joe.socket" | grep -qx "refused 2 denied Devices modify"'
-check "nor as root" 'su joe -c "usbguard block-device 2" | grep -qx "link fault"'
+check "nor as root" 'su joe -c "usbguard block-device 2 --socket /run/usbguard/root.socket" | grep -qx "link fault"'
+check "without --socket joe asks at his own" 'su joe -c "usbguard list-devices" | grep -q "^4: allow" && su joe -c "usbguard block-device 2" | grep -qx "refused 2 denied Devices modify"'
 check 'standard error says which socket, why, and which sockets are there' \
-    'su joe -c "usbguard list-devices" 2>&1 | grep "^usbguard: /run/usbguard/root.socket: this user may not open it" && su joe -c "usbguard list-devices" 2>&1 | grep -x -e "  --socket=/run/usbguard/joe.socket"'
+    'su joe -c "usbguard list-devices --socket /run/usbguard/root.socket" 2>&1 | grep "^usbguard: /run/usbguard/root.socket: this user may not open it" && su joe -c "usbguard list-devices --socket /run/usbguard/root.socket" 2>&1 | grep -x "usbguard: this one is there: --socket=/run/usbguard/joe.socket" && su eve -c "usbguard list-devices" 2>&1 | (! grep joe.socket)'
 check 'behind a policy of generate-policy a permanent verdict turns the rule of the device' \
     'usbguard block-device 2 -p && grep -q "^block id 1050:0011 " /etc/usbguard/rules.conf && ! grep -q "^allow id 1050:0011 " /etc/usbguard/rules.conf && usbguard allow-device 2 -p && grep -q "^allow id 1050:0011 " /etc/usbguard/rules.conf'
 check "another user can't even connect" 'su eve -c "usbguard list-devices --socket /run/usbguard/joe.socket" | grep -qx "link fault"'

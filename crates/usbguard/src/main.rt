@@ -2,14 +2,21 @@
 #![tactic(auto)]
 
 mod about;
+mod bad_words;
 mod folder;
 mod hub_parameter;
 mod hubs_watch;
+mod input;
 mod last_line;
 mod link_words;
 mod open_hubs;
+mod refusals;
+mod rule_place;
+mod script_place;
 mod serve;
+mod service_words;
 mod shown;
+mod socket_choice;
 mod texts;
 mod told;
 mod unkept;
@@ -18,14 +25,17 @@ mod waiting;
 mod words;
 
 use crate::about::tell_about;
-use crate::last_line::{LastLine, tell_line};
+use crate::input::{KeptInput, LAST_LINES, WHOLE};
+use crate::last_line::LastLine;
 use crate::link_words::tell_link;
+use crate::refusals::tell_last_line;
 use crate::serve::serve;
+use crate::socket_choice::{choose_socket, words_with};
 use crate::texts::{TextsFault, read_texts, words_of};
 use crate::unkept::tell_unkept;
 use crate::usage::{tell, tell_unreadable};
 use crate::waiting::tell_waiting;
-use std::io;
+use std::io::{self, Read};
 use std::process::ExitCode;
 use ug_host::fill_standard_files;
 use ug_sockets::SocketLink;
@@ -42,8 +52,8 @@ fn end_with(rt: &HostRuntime, line: &[u8], status: u8) -> u8 {
 }
 
 // Runs a script over a kernel in memory, and gives its status.
-fn replay<K: Sink>(rt: &HostRuntime, words: &[&str], out: &mut K) -> u8 {
-    let mut input = ReaderSource::new(rt.reader());
+fn replay<R: Read + Drop, K: Sink>(rt: &HostRuntime, words: &[&str], input: R, out: &mut K) -> u8 {
+    let mut input = ReaderSource::new(input);
     let mut kernel = SimKernel::new(rt.alloc());
     let status = run_replay(rt.alloc(), words, &mut input, out, &mut kernel);
     kernel.discard();
@@ -52,8 +62,8 @@ fn replay<K: Sink>(rt: &HostRuntime, words: &[&str], out: &mut K) -> u8 {
 }
 
 // Runs a command that may ask the daemon, and gives its status.
-fn ask<K: Sink>(rt: HostRuntime, words: &[&str], out: &mut K) -> u8 {
-    let mut input = ReaderSource::new(rt.reader());
+fn ask<R: Read + Drop, K: Sink>(rt: HostRuntime, words: &[&str], input: R, out: &mut K) -> u8 {
+    let mut input = ReaderSource::new(input);
     let mut link = SocketLink::new(rt);
     let status = run_tool(rt.alloc(), words, &mut input, out, &mut link);
     if status == 8 {
@@ -64,22 +74,80 @@ fn ask<K: Sink>(rt: HostRuntime, words: &[&str], out: &mut K) -> u8 {
     status
 }
 
-// Runs the command of these words, and gives its status.
-fn run<K: Sink>(rt: HostRuntime, words: &[&str], out: &mut K) -> u8 {
-    match words {
-        ["daemon", behind @ ..] => serve(rt, behind),
-        ["replay", ..] => replay(&rt, words, out),
-        _ => ask(rt, words, out),
+// The same with a path among the words, where there is memory for them.
+fn ask_at<R: Read + Drop, K: Sink>(
+    rt: HostRuntime,
+    words: &[&str],
+    path: &str,
+    input: R,
+    out: &mut K,
+) -> u8 {
+    match words_with(rt.alloc(), words, path) {
+        Some(all) => {
+            let status = ask(rt, &all, input, out);
+            drop(all);
+            status
+        }
+        None => ask(rt, words, input, out),
     }
 }
 
-// The same, and tells a person what to know of its input and its end.
+// The same at the socket of the caller's choice.
+fn ask_chosen<R: Read + Drop, K: Sink>(
+    rt: HostRuntime,
+    words: &[&str],
+    input: R,
+    out: &mut K,
+) -> u8 {
+    match choose_socket(&rt, words) {
+        Some(path) => {
+            let status = ask_at(rt, words, path.as_str(), input, out);
+            drop(path);
+            status
+        }
+        None => ask(rt, words, input, out),
+    }
+}
+
+// Runs a command over its input and its output, and gives its status.
+fn run_over<R: Read + Drop, K: Sink>(
+    rt: HostRuntime,
+    words: &[&str],
+    input: R,
+    out: &mut K,
+) -> u8 {
+    match words {
+        ["replay", ..] => replay(&rt, words, input, out),
+        _ => ask_chosen(rt, words, input, out),
+    }
+}
+
+// How much of its input is kept to show a line of it.
+fn kept_of(words: &[&str]) -> usize {
+    match words {
+        ["replay" | "generate-policy", ..] => LAST_LINES,
+        _ => WHOLE,
+    }
+}
+
+// Runs a command, and tells a person what to know of its input and its output.
 fn run_and_tell(rt: HostRuntime, words: &[&str]) -> u8 {
     tell_waiting(&rt, words);
     let mut lines = LastLine::new(rt.alloc(), io::writer(&rt));
-    let status = run(rt, words, &mut WriterSink::new(&mut lines));
-    tell_line(&rt, lines.text());
+    let mut input = KeptInput::new(rt.alloc(), rt.reader(), kept_of(words));
+    let status = run_over(rt, words, &mut input, &mut WriterSink::new(&mut lines));
+    tell_last_line(&rt, words, lines.text(), &input);
+    drop(input);
     drop(lines);
+    status
+}
+
+// Runs the command of these words, tells a person what to do, and gives its status.
+fn run(rt: HostRuntime, words: &[&str]) -> u8 {
+    let status = match words {
+        ["daemon", behind @ ..] => serve(rt, behind),
+        _ => run_and_tell(rt, words),
+    };
     tell(&rt, words, status);
     tell_unkept(&rt, words, status);
     status
@@ -92,7 +160,7 @@ fn carry_out(rt: HostRuntime, texts: &[String]) -> u8 {
     };
     let status = match tell_about(&rt, &words) {
         Some(status) => status,
-        None => run_and_tell(rt, &words),
+        None => run(rt, &words),
     };
     drop(words);
     status
@@ -108,7 +176,7 @@ fn main(rt: HostRuntime) -> ExitCode {
         }
         Err(TextsFault::Memory) => end_with(&rt, b"no memory\n", 6),
         Err(TextsFault::Unreadable) => {
-            tell_unreadable(&rt);
+            tell_unreadable();
             end_with(&rt, b"bad words\n", 1)
         }
     };

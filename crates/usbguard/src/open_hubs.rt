@@ -7,6 +7,7 @@ use crate::shown::read_text;
 use std::str;
 use ug_arguments::read_daemon_words;
 use ug_conf::{AuthDefault, Settings, parse_conf};
+use ug_files::Priority;
 use ug_types::Text;
 
 /// Whether a daemon with this setting leaves the default of each root hub as it is.
@@ -91,7 +92,7 @@ pub fn tell_open_hubs(rt: &HostRuntime, default: AuthDefault, devices: &str) {
     if let Some(count) = count_open(rt, devices)
         && count > 0
     {
-        let _told = eprintln!(rt;
+        eprintln!(Priority::Warning;
             "usbguard: root hubs that switch on what comes to them: {count}. A device works there before it is judged; with AuthorizedDefault=none it waits."
         );
     }

@@ -3,7 +3,7 @@ use std::alloc::Global;
 use std::io::Read;
 use std::rt::Files;
 use std::str;
-use ug_files::open_plain;
+use ug_files::{Teller, open_plain};
 use ug_types::TEXT_LIMIT;
 
 /// How much of a line is shown before the fault and behind it.
@@ -11,40 +11,66 @@ const BEFORE: usize = 60;
 
 const BEHIND: usize = 40;
 
-/// Where a fault stands in a line.
-#[derive(Clone, Copy)]
-pub struct Spot {
-    /// The line's number, from 1.
-    pub line: u64,
-    /// How many bytes stand before the fault.
-    pub place: u64,
-    /// Whether blanks that begin the line are among them.
-    pub counts_blanks: bool,
-}
-
 fn is_newline(byte: &u8) -> bool {
     *byte == b'\n'
 }
 
-/// The part of a text's line that is counted.
-fn line_of(text: &[u8], spot: Spot) -> Option<&str> {
-    let before = usize::try_from(spot.line.checked_sub(1)?).ok()?;
-    let bytes = text.split(is_newline).nth(before)?;
-    let counted = if spot.counts_blanks {
-        bytes
-    } else {
-        bytes.trim_ascii_start()
-    };
-    str::from_utf8(counted).ok()
+/// The bytes of a file, as far as they are looked at. None where they can't be had.
+pub fn read_text(rt: &HostRuntime, path: &str) -> Option<Vec<u8>> {
+    let file = open_plain(rt, path).ok()?;
+    let mut text = Vec::new(rt.alloc());
+    match file.take(TEXT_LIMIT as u64).read_to_end(&mut text) {
+        Ok(_) => Some(text),
+        Err(_) => None,
+    }
 }
 
-/// A text with a mark for each character that a terminal wouldn't show.
-fn put_plain(shown: &mut String, text: &str) -> Option<()> {
+/// A text's line of that number, from 1.
+pub fn line_of(text: &[u8], number: u64) -> Option<&[u8]> {
+    let before = usize::try_from(number.checked_sub(1)?).ok()?;
+    text.split(is_newline).nth(before)
+}
+
+/// How a line shows a character: a terminal obeys none of them.
+fn plain(letter: char) -> char {
+    match letter {
+        '\t' => ' ',
+        _ if letter.is_control() => '?',
+        _ => letter,
+    }
+}
+
+fn push_text(shown: &mut String, text: &str) -> Option<()> {
     for letter in text.chars() {
-        let plain = if letter.is_control() { '?' } else { letter };
-        shown.push(plain).ok()?;
+        shown.push(plain(letter)).ok()?;
     }
     Some(())
+}
+
+/// Bytes that aren't UTF-8, each of which is a character where it is ASCII.
+fn push_bytes(shown: &mut String, bytes: &[u8]) -> Option<()> {
+    for byte in bytes {
+        let letter = if byte.is_ascii() { *byte } else { b'?' };
+        shown.push(plain(char::from(letter))).ok()?;
+    }
+    Some(())
+}
+
+fn push_plain(shown: &mut String, bytes: &[u8]) -> Option<()> {
+    match str::from_utf8(bytes) {
+        Ok(text) => push_text(shown, text),
+        Err(_) => push_bytes(shown, bytes),
+    }
+}
+
+// What a line shows of these bytes.
+fn plain_of(alloc: Global, bytes: &[u8]) -> Option<String> {
+    let mut shown = String::new(alloc);
+    if push_plain(&mut shown, bytes).is_none() {
+        drop(shown);
+        return None;
+    }
+    Some(shown)
 }
 
 /// The last characters of a text.
@@ -63,53 +89,27 @@ fn first_of(text: &str) -> &str {
     }
 }
 
-/// The bytes of a file, as far as they are looked at. None where they can't be had.
-pub fn read_text(rt: &HostRuntime, path: &str) -> Option<Vec<u8>> {
-    let file = open_plain(rt, path).ok()?;
-    let mut text = Vec::new(rt.alloc());
-    match file.take(TEXT_LIMIT as u64).read_to_end(&mut text) {
-        Ok(_) => Some(text),
-        Err(_) => None,
+// Tells a part of a line, and a caret between what stands before a place and what stands behind it.
+fn tell_marked(teller: Teller, before: &str, behind: &str) {
+    let (before, behind) = (last_of(before), first_of(behind));
+    let blanks = before.chars().count();
+    eprintln!(teller; "    {before}{behind}");
+    eprintln!(teller; "    {:blanks$}^", "");
+}
+
+/// Tells a line, and below it a caret where so many of its bytes stand before a fault.
+pub fn tell_excerpt(alloc: Global, teller: Teller, line: &[u8], place: u64) {
+    let place = usize::try_from(place).unwrap_or(usize::MAX);
+    if line.is_empty() {
+        return;
     }
-}
-
-fn put_blanks(shown: &mut String, count: usize) -> Option<()> {
-    for _ in 0..count {
-        shown.push(' ').ok()?;
-    }
-    Some(())
-}
-
-fn put_marked(shown: &mut String, before: &str, behind: &str) -> Option<()> {
-    put_plain(shown, before)?;
-    put_plain(shown, behind)?;
-    shown.push_str("\n    ").ok()?;
-    put_blanks(shown, before.chars().count())?;
-    shown.push_str("^\n").ok()
-}
-
-/// A part of a line, and below it a caret between what stands before a place and what stands behind it.
-fn marked(alloc: Global, before: &str, behind: &str) -> Option<String> {
-    let mut shown = String::from_str(alloc, "    ").ok()?;
-    if put_marked(&mut shown, before, behind).is_none() {
-        drop(shown);
-        return None;
-    }
-    Some(shown)
-}
-
-/// The same of a text.
-fn show_in(alloc: Global, text: &[u8], spot: Spot) -> Option<String> {
-    let line = line_of(text, spot)?;
-    let place = usize::try_from(spot.place).ok()?;
-    let (before, behind) = line.split_at_checked(place)?;
-    marked(alloc, last_of(before), first_of(behind))
-}
-
-/// The line of a file in which a fault stands, and a caret below its place: two lines, each with its end. None where they can't be had.
-pub fn show_line(rt: &HostRuntime, path: &str, spot: Spot) -> Option<String> {
-    let text = read_text(rt, path)?;
-    let shown = show_in(rt.alloc(), text.as_slice(), spot);
-    drop(text);
-    shown
+    let Some((before, behind)) = line.split_at_checked(place) else {
+        return;
+    };
+    let (Some(before), Some(behind)) = (plain_of(alloc, before), plain_of(alloc, behind)) else {
+        return;
+    };
+    tell_marked(teller, before.as_str(), behind.as_str());
+    drop(behind);
+    drop(before);
 }

@@ -1,8 +1,10 @@
 // What a daemon that has ended tells a person.
 use crate::folder::names_in;
-use crate::shown::{Spot, show_line};
+use crate::refusals::blanks_before;
+use crate::shown::{line_of, read_text, tell_excerpt};
 use crate::words::{access_fault, rule_fault, settings_fault};
-use std::str;
+use std::{fs, str};
+use ug_files::{Priority, Teller};
 use ug_host::{RefusedPart, StartRefusal};
 use ug_types::Principal;
 
@@ -18,12 +20,23 @@ fn text_of(path: &[u8]) -> &str {
     str::from_utf8(path).unwrap_or("a path that isn't UTF-8")
 }
 
-fn fault_of(refusal: &StartRefusal) -> &'static str {
+// What is wrong with a line.
+fn fault_of(refusal: &StartRefusal, line: &[u8]) -> &'static str {
     match &refusal.part {
-        RefusedPart::Settings => settings_fault(refusal.kind),
-        RefusedPart::Access => access_fault(refusal.kind),
+        RefusedPart::Settings => settings_fault(refusal.kind, line),
+        RefusedPart::Access => access_fault(refusal.kind, line),
         RefusedPart::Folder => "its files have more than 67,108,864 bytes together",
-        RefusedPart::FolderFile(_) | RefusedPart::Rules => rule_fault(refusal.kind),
+        RefusedPart::FolderFile(_) | RefusedPart::Rules => {
+            rule_fault(refusal.kind, line, refusal.place, false)
+        }
+    }
+}
+
+// How many bytes stand before the fault: blanks that begin a line count only in rules.
+fn place_in(refusal: &StartRefusal, line: &[u8]) -> u64 {
+    match &refusal.part {
+        RefusedPart::Rules | RefusedPart::FolderFile(_) => refusal.place,
+        _ => refusal.place.saturating_add(blanks_before(line)),
     }
 }
 
@@ -56,65 +69,72 @@ fn odd_name(names: &[String]) -> Option<&str> {
 }
 
 // The one of these names in the folder of access files that can't be taken.
-fn tell_name(rt: &HostRuntime, folder: &str, names: &[String], fault: &str) -> std::io::Result<()> {
+fn tell_name(folder: &str, names: &[String], fault: &str) {
     match odd_name(names) {
-        Some(name) => {
-            eprintln!(rt;
-                "usbguard: {folder}/{name} isn't taken: {fault}. Remove it, or name it after a user, or after a group behind a colon."
-            )
-        }
-        None => eprintln!(rt; "usbguard: a file in {folder} isn't taken: {fault}."),
+        Some(name) => eprintln!(Priority::Error;
+            "usbguard: not started: {folder}/{name} isn't taken: {fault}. Remove it, or name it after a user, or after a group behind a colon."
+        ),
+        None => eprintln!(Priority::Error;
+            "usbguard: not started: a file in {folder} isn't taken: {fault}."
+        ),
     }
 }
 
-// A name in that folder that can't be taken.
-fn tell_folder(rt: &HostRuntime, folder: &str, fault: &str) -> std::io::Result<()> {
+// A name in the folder of access files that can't be taken. The path that was used last is the folder's, or that of a file in it.
+fn tell_folder(rt: &HostRuntime, path: &str, fault: &str) {
+    let folder = match fs::metadata(rt, path) {
+        Ok(metadata) if metadata.is_dir() => path.trim_end_matches('/'),
+        _ => folder_of(path),
+    };
     match names_in(rt, folder) {
         Some(names) => {
-            let told = tell_name(rt, folder, &names, fault);
+            tell_name(folder, &names, fault);
             drop(names);
-            told
         }
-        None => tell_name(rt, folder, &[], fault),
+        None => tell_name(folder, &[], fault),
     }
 }
 
-// A line that isn't taken.
-fn tell_line(
-    rt: &HostRuntime,
-    refusal: &StartRefusal,
-    path: &str,
-    fault: &str,
-) -> std::io::Result<()> {
-    let (line, column) = (refusal.line, refusal.place.saturating_add(1));
-    eprintln!(rt; "usbguard: {path}, line {line}, column {column}: {fault}.")?;
-    let spot = Spot {
-        line,
-        place: refusal.place,
-        counts_blanks: matches!(
-            refusal.part,
-            RefusedPart::Rules | RefusedPart::FolderFile(_)
-        ),
+// A line that isn't taken, as far as the file can be read.
+fn tell_line(rt: &HostRuntime, refusal: &StartRefusal, path: &str, line: &[u8]) {
+    let (number, fault) = (refusal.line, fault_of(refusal, line));
+    let place = place_in(refusal, line);
+    let column = place.saturating_add(1);
+    eprintln!(Priority::Error;
+        "usbguard: not started: {path}, line {number}, column {column}: {fault}."
+    );
+    let teller = Teller {
+        priority: Priority::Error,
+        waits: false,
     };
-    match show_line(rt, path, spot) {
-        Some(shown) => rt.eprint(shown),
-        None => Ok(()),
+    tell_excerpt(rt.alloc(), teller, line, place);
+}
+
+// A line of a file that isn't taken.
+fn tell_line_of(rt: &HostRuntime, refusal: &StartRefusal, path: &str) {
+    match read_text(rt, path) {
+        Some(text) => {
+            let line = line_of(text.as_slice(), refusal.line).unwrap_or(b"");
+            tell_line(rt, refusal, path, line);
+            drop(text);
+        }
+        None => tell_line(rt, refusal, path, b""),
     }
 }
 
 // A part that isn't taken.
-fn tell_refusal(rt: &HostRuntime, refusal: &StartRefusal, path: &str) -> std::io::Result<()> {
-    let fault = fault_of(refusal);
+fn tell_refusal(rt: &HostRuntime, refusal: &StartRefusal, path: &str) {
     if refusal.line > 0 {
-        return tell_line(rt, refusal, path, fault);
+        return tell_line_of(rt, refusal, path);
     }
+    let fault = fault_of(refusal, b"");
     if matches!(refusal.part, RefusedPart::Access) && refusal.kind > 0 {
         return tell_folder(rt, path, fault);
     }
-    eprintln!(rt; "usbguard: {path} isn't taken: {fault}.")
+    eprintln!(Priority::Error; "usbguard: not started: {path} isn't taken: {fault}.");
 }
 
-fn tell_status(rt: &HostRuntime, status: u8, paths: &LastPaths<'_>) -> std::io::Result<()> {
+fn tell_status(status: u8, paths: &LastPaths<'_>) {
     let (front, path, rest) = match status {
         4 => ("not started: ", text_of(paths.files), " can't be read."),
         6 => ("not started: memory is short.", "", ""),
@@ -129,17 +149,13 @@ fn tell_status(rt: &HostRuntime, status: u8, paths: &LastPaths<'_>) -> std::io::
             paths.socket,
             ", or a wait failed.",
         ),
-        _ => return Ok(()),
+        _ => return,
     };
-    eprintln!(rt; "usbguard: {front}{path}{rest}")
+    eprintln!(Priority::Error; "usbguard: {front}{path}{rest}");
 }
 
 // The folder of rules is that of the file which was read last.
-fn tell_refused(
-    rt: &HostRuntime,
-    refusal: &StartRefusal,
-    paths: &LastPaths<'_>,
-) -> std::io::Result<()> {
+fn tell_refused(rt: &HostRuntime, refusal: &StartRefusal, paths: &LastPaths<'_>) {
     let files = text_of(paths.files);
     match &refusal.part {
         RefusedPart::Settings | RefusedPart::Access => tell_refusal(rt, refusal, files),
@@ -157,15 +173,15 @@ fn tell_refused(
 }
 
 /// Tells on standard error why a daemon has ended with that status: the file or the socket, and of a refusal the line and the place too.
-/// A failed write there changes nothing.
+/// It doesn't wait.
 pub fn tell_end(
     rt: &HostRuntime,
     status: u8,
     refusal: Option<&StartRefusal>,
     paths: &LastPaths<'_>,
 ) {
-    let _told = match refusal {
+    match refusal {
         Some(refusal) if status == 3 => tell_refused(rt, refusal, paths),
-        _ => tell_status(rt, status, paths),
-    };
+        _ => tell_status(status, paths),
+    }
 }

@@ -1,5 +1,6 @@
-// What the program tells a person, beside its output.
-
+// What the program tells a person of its words and its end.
+use crate::bad_words::{Wrong, wrong_word};
+use crate::refusals::ERROR;
 use std::alloc::{AllocError, Global};
 
 /// A command's first word, how it is used, and what else to know of its words.
@@ -173,56 +174,69 @@ pub fn usage_text(alloc: Global, word: Option<&str>) -> Result<String, AllocErro
     }
 }
 
-// What is wrong with words that are no command.
-fn complaint(words: &[&str], usage: Option<&Usage>) -> &'static str {
-    match (words, usage) {
-        ([], _) => "a command is missing.",
-        (_, Some(_)) => "the command doesn't take these words.",
-        (_, None) => "there is no such command.",
-    }
-}
-
-// What to do about words that are no command.
-fn tell_words(rt: &HostRuntime, words: &[&str]) -> std::io::Result<()> {
-    let first = words.first().copied();
-    let complaint = complaint(words, first.and_then(usage_of));
-    let text = usage_text(rt.alloc(), first)?;
-    eprintln!(rt; "usbguard: {complaint}")?;
-    eprintln!(rt; "{text}")
-}
-
 // What to do where a command ended with that status.
 fn advice(status: u8) -> Option<&'static str> {
     match status {
-        2 => Some("The input was refused, as the last line says: mend it, and try again."),
-        3 => Some("The rules are refused, as the last line says: mend them, and try again."),
-        4 => Some("The input could not be read: see that it can be opened and read to its end."),
+        4 => Some("the input could not be read: see that it can be opened and read to its end."),
         5 => Some(
-            "The output could not be written: see that there is room, and that it is read to its end.",
+            "the output could not be written: see that there is room, and that it is read to its end.",
         ),
-        6 => Some("Memory ran out: try again with a smaller input, or with more memory."),
-        7 => Some("The daemon refused, as the last line says: usbguard(1) lists the reasons."),
+        6 => Some("memory ran out: try again with a smaller input, or with more memory."),
         _ => None,
     }
 }
 
-/// Tells on standard error what to do where the command of these words ended with that status. A failed write there
-/// changes nothing.
+// How a command is used.
+fn tell_usage(usage: &Usage) {
+    let (line, hint) = (usage.line, usage.hint);
+    eprintln!(ERROR; "usage: {line}");
+    eprintln!(ERROR; "{hint}");
+}
+
+// A first word that is none of a command.
+fn tell_unknown(words: &[&str]) {
+    match words.first() {
+        Some(word) => {
+            eprintln!(ERROR; "usbguard: there is no command {word}: usbguard --help tells them.");
+        }
+        None => eprintln!(ERROR; "usbguard: a command is missing: usbguard --help tells them."),
+    }
+}
+
+// What is wrong with the words of that command.
+fn tell_wrong(rt: &HostRuntime, words: &[&str], usage: &Usage) {
+    let name = usage.word;
+    match wrong_word(rt.alloc(), words, usage.line) {
+        Wrong::Word(word) => eprintln!(ERROR; "usbguard: {name} can't take the word {word:?}."),
+        Wrong::Missing(what) => eprintln!(ERROR; "usbguard: {name} lacks {what}."),
+        Wrong::Unknown => eprintln!(ERROR; "usbguard: {name} can't take these words."),
+    }
+    tell_usage(usage);
+}
+
+// What is wrong with words that are no command.
+fn tell_words(rt: &HostRuntime, words: &[&str]) {
+    match words.first().copied().and_then(usage_of) {
+        Some(usage) => tell_wrong(rt, words, usage),
+        None => tell_unknown(words),
+    }
+}
+
+/// Tells on standard error what to do where the command of these words ended with that status.
 pub fn tell(rt: &HostRuntime, words: &[&str], status: u8) {
     if status == 1 {
-        let _told = tell_words(rt, words);
-        return;
+        return tell_words(rt, words);
     }
     let sentence = match words {
         ["daemon", ..] => None,
         _ => advice(status),
     };
     if let Some(sentence) = sentence {
-        let _told = eprintln!(rt; "usbguard: {sentence}");
+        eprintln!(ERROR; "usbguard: {sentence}");
     }
 }
 
 /// The same where the words can't be had, since one isn't UTF-8.
-pub fn tell_unreadable(rt: &HostRuntime) {
-    let _told = eprintln!(rt; "usbguard: a word isn't UTF-8.");
+pub fn tell_unreadable() {
+    eprintln!(ERROR; "usbguard: a word isn't UTF-8.");
 }

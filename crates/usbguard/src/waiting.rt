@@ -1,6 +1,12 @@
 // What the program tells a person who is to type its input.
 use std::io::IsTerminal;
 use ug_arguments::{Command, read_command};
+use ug_files::{Priority, Teller};
+
+const NOTICE: Teller = Teller {
+    priority: Priority::Notice,
+    waits: true,
+};
 
 // What a command reads, and the usual way to give it; None where it reads nothing.
 fn input_of(command: &Command) -> Option<(&'static str, &'static str)> {
@@ -45,7 +51,7 @@ pub fn tell_waiting(rt: &HostRuntime, words: &[&str]) {
         return;
     }
     if let Some((input, usual)) = input_for(rt, words) {
-        let _told = eprintln!(rt;
+        eprintln!(NOTICE;
             "usbguard: reading {input} from the terminal, up to Ctrl-D on a line of its own. The usual way is: {usual}"
         );
     }
