@@ -64,6 +64,8 @@ install: program
 	sed -e 's|/usr/bin/usbguard|$(bindir)/usbguard|' -e 's|/usr/libexec/|$(libexecdir)/|' packaging/usbguard.service \
 		> "$(DESTDIR)$(unitdir)/usbguard.service"
 	chmod 644 "$(DESTDIR)$(unitdir)/usbguard.service"
+	sed 's|/usr/libexec/|$(libexecdir)/|' packaging/usbguard-prepare.service > "$(DESTDIR)$(unitdir)/usbguard-prepare.service"
+	chmod 644 "$(DESTDIR)$(unitdir)/usbguard-prepare.service"
 	$(INSTALL) -m 644 packaging/usbguard.bash "$(DESTDIR)$(bashdir)/usbguard"
 	for page in script check access; do ln -sf usbguard "$(DESTDIR)$(bashdir)/usbguard-$$page"; done
 	$(INSTALL) -m 644 packaging/usbguard.zsh "$(DESTDIR)$(zshdir)/_usbguard"

@@ -318,6 +318,53 @@ show 'usbguard'
 show 'usbguard daemon --conf /etc/absent'
 
 echo
+echo "== The kernel's own default for new root hubs, which a controller that comes later starts with"
+mkdir -p "$root/sys/module/usbcore/parameters" "$root/tmp/empty" "$root/tmp/pipes"
+# by_parameter FOUND SETTINGS WANTED WHAT: with FOUND there first, these words of AuthorizedDefault, a start each, leave WANTED; + is a
+# start of the machine with 5 there, and . a write of 7 by another hand
+by_parameter() {
+    check "$4: $1, then $2: $3" "cd /sys/module/usbcore/parameters && echo $1 >authorized_default; rm -rf /tmp/state; boot=1
+        for word in $2; do
+            case \$word in
+            +) boot=2; echo 5 >authorized_default ;;
+            .) echo 7 >authorized_default ;;
+            *) echo AuthorizedDefault=\$word >/tmp/settings
+                STATE_DIRECTORY=/tmp/state /usr/libexec/usbguard-prepare -b \$boot -c /tmp/settings -d /tmp/empty hubs || exit ;;
+            esac
+        done; grep -x -e $3 authorized_default && ! ls /tmp/state | grep '\.'"
+}
+by_parameter -1 none 0 'none closes it'
+by_parameter -1 all 1 'all opens it'
+by_parameter 2 keep 2 'keep leaves it'
+by_parameter -1 'none none all keep' -1 'what was found comes back'
+by_parameter 0 'all + keep' 5 'but not that of an earlier start of the machine'
+by_parameter 0 'all + none keep' 5 'only that of this start'
+by_parameter 2 'none . none keep' 2 'nor what another hand wrote behind it'
+by_parameter 1 'none keep . keep' 7 'once'
+check 'and so does the removal of the package want it' 'grep "usbguard-prepare back" /var/lib/dpkg/info/*.prerm && cd /sys/module/usbcore/parameters && echo 2 >authorized_default
+    echo AuthorizedDefault=none >/tmp/settings; rm -rf /tmp/state; export STATE_DIRECTORY=/tmp/state
+    /usr/libexec/usbguard-prepare -b 3 -c /tmp/settings -d /tmp/empty hubs && grep -x 0 authorized_default && /usr/libexec/usbguard-prepare -b 3 back && grep -x 2 authorized_default && test ! -e /tmp/state/authorized_default'
+check 'where the kernel has no such file nothing fails' 'rm /sys/module/usbcore/parameters/authorized_default
+    echo AuthorizedDefault=none >/tmp/settings && STATE_DIRECTORY=/tmp/state /usr/libexec/usbguard-prepare -b 1 -c /tmp/settings -d /tmp/empty hubs 2>&1 | (! grep .) && test ! -e /sys/module/usbcore/parameters/authorized_default'
+check "a file that can't be written is told, and the hubs are set all the same" 'mkdir -p /sys/module/usbcore/parameters/authorized_default
+    ! /usr/libexec/usbguard-prepare -b 1 -c /tmp/settings hubs 2>/tmp/1 && grep "can.t write 0 to /sys/module/usbcore/parameters/authorized_default" /tmp/1 && grep -x 0 /sys/bus/usb/devices/usb1/authorized_default
+    rmdir /sys/module/usbcore/parameters/authorized_default; rm -f /var/lib/usbguard/authorized_default'
+check "the unit that prepares a start may write that file, and none any other of the kernel's parameters" \
+    'grep -r "^ReadWritePaths=-/sys/module/usbcore/parameters/authorized_default$" /usr/lib/systemd/system/ && ! grep -r "^ReadWritePaths=.*/sys/module" /usr/lib/systemd/system/ | grep -v "parameters/authorized_default$"'
+
+echo
+echo "== A pipe in the place of a file of the service, which nobody ever writes"
+# waits_for_none FILE TEXT COMMAND: with a pipe there, and this text of settings, the command ends
+waits_for_none() {
+    check "${3#/usr/libexec/}, where $1 is a pipe" "printf '$2' >/tmp/settings; rm -f $1; mkfifo $1; timeout 10 $3; status=\$?; rm -f $1; test \$status != 124"
+}
+waits_for_none /tmp/settings '' '/usr/libexec/usbguard-prepare -c /tmp/settings rules'
+waits_for_none /tmp/settings '' '/usr/libexec/usbguard-prepare -c /tmp/settings hubs'
+waits_for_none /tmp/settings '' '/usr/libexec/usbguard-sockets /tmp/settings'
+waits_for_none /tmp/a-pipe 'RuleFile=/tmp/a-pipe\n' '/usr/libexec/usbguard-prepare -c /tmp/settings rules'
+waits_for_none /tmp/pipes/10.conf 'RuleFolder=/tmp/pipes\n' "/usr/libexec/usbguard-prepare -c /tmp/settings rules"
+
+echo
 echo "== Completion"
 mkdir -p "$root/run/usbguard"
 touch "$root/run/usbguard/root.socket"

@@ -248,6 +248,39 @@ systemctl daemon-reload; systemctl restart usbguard; sleep 1; usbguard append-ru
 check 'with ReadWritePaths it is saved there' 'grep 1050:0099 /srv/usb/rules.conf'
 
 echo
+echo "== What a daemon that was taken over could still do"
+cat >"$root/root/probe.conf" <<'END'
+[Service]
+Type=simple
+Restart=no
+ExecStart=
+ExecStartPre=-/bin/sh -c 'for name in systemd/private dbus/system_bus_socket systemd/journal/socket systemd/notify; do \
+        if [ -e /run/$$name ]; then echo "probe: sees $$name"; else echo "probe: no $$name"; fi; done'
+ExecStartPre=-/bin/sh -c 'for file in /sys/bus/usb/devices/usb1/authorized /etc/usbguard/rules.conf /var/lib/usbguard/root-hubs /etc/hostname; do \
+        if true >>$$file; then echo "probe: writes to $$file"; fi; done'
+ExecStartPre=-/bin/sh -c '(echo "probe: makes a process")'
+ExecStartPre=-/usr/bin/id
+ExecStart=/bin/sh -c 'echo "probe: the end"'
+END
+probe='journalctl -o cat -t usbguard | grep "^probe: "'
+show "mkdir -p /run/systemd/system/usbguard.service.d && cp /root/probe.conf /run/systemd/system/usbguard.service.d/
+systemctl daemon-reload; systemctl restart usbguard; sleep 2; $probe; journalctl -o cat -t usbguard | tail -n 3"
+for socket in systemd/private dbus/system_bus_socket systemd/journal/socket; do
+    check "it doesn't see /run/$socket, which is there" "test -e /run/$socket && $probe | grep -x 'probe: no $socket'"
+done
+check 'it sees the socket that tells systemd of its start' "$probe | grep -x 'probe: sees systemd/notify'"
+check 'it writes to the files of devices and to the rules alone' \
+    "$probe | grep -c 'writes to /sys\|writes to /etc/usbguard' | grep -x 2 && ! $probe | grep 'writes to /var\|writes to /etc/hostname'"
+check 'it makes no process' "! $probe | grep 'makes a process' && $probe | grep -x 'probe: the end'"
+check 'it runs no other program' '! journalctl -o cat -t usbguard | grep uid=0'
+run 'rm -r /run/systemd/system/usbguard.service.d; systemctl daemon-reload; systemctl restart usbguard'
+guards
+check 'the daemon has no way to the network, and its own users' \
+    'pid=$(systemctl show --value -p MainPID usbguard); for space in net user mnt; do test "$(readlink /proc/$pid/ns/$space)" != "$(readlink /proc/1/ns/$space)" || exit 1; done'
+check 'systemd-analyze rates it 1.0 or less, and its scripts' \
+    'systemd-analyze security --threshold=10 usbguard && systemd-analyze security --threshold=10 usbguard-prepare'
+
+echo
 echo "== apt-get install over the original, which is disabled and stopped"
 begin
 show "$policy; systemctl disable --now usbguard usbguard-dbus 2>&1"
