@@ -27,7 +27,7 @@ failures = []
 
 
 def check(what, held, seen=""):
-    print("%s: %s%s" % ("ok" if held else "FAILED", what, "" if held else "\n%s" % seen), flush=True)
+    print("%s: %s%s" % ("ok" if held else "FAILED", what, "" if held else "\n%s" % (seen,)), flush=True)
     if not held:
         failures.append(what)
 

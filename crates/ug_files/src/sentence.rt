@@ -22,7 +22,8 @@ pub enum Priority {
     Notice,
 }
 
-/// Tells sentences of a priority, and may wait for whoever reads them, as a command waits for the reader of its output.
+/// Tells sentences of a priority, and may wait for whoever reads them, as a command waits for the
+/// reader of its output.
 #[derive(Clone, Copy)]
 pub struct Teller {
     pub priority: Priority,
@@ -169,9 +170,10 @@ impl Priority {
         line
     }
 
-    /// Tells a person a sentence, on a line of its own: `eprintln!(Priority::Error; "..")`. It doesn't wait: where standard error takes
-    /// nothing, the sentence is lost. A control character is told as an escape, and where standard error is the system's journal, the
-    /// priority stands in front of the line.
+    /// Tells a person a sentence, on a line of its own: `eprintln!(Priority::Error; "..")`. It
+    /// doesn't wait: where standard error takes nothing, the sentence is lost. A control character
+    /// is told as an escape, and where standard error is the system's journal, the priority stands
+    /// in front of the line.
     pub fn eprintln<D: Display + Drop>(&self, sentence: D) {
         let line = self.line_of(sentence);
         let _told = put_at_once(STANDARD_ERROR, line.bytes());

@@ -15,7 +15,8 @@ pub enum Wrong<'a> {
     Unknown,
 }
 
-// A word that can stand in the place of a word of a usage line; None where that is an option, or its value.
+// A word that can stand in the place of a word of a usage line; None where that is an option, or
+// its value.
 fn sample_of(word: &str) -> Option<&'static str> {
     match word {
         "NUMBER" | "ID" | "EVENTS" | "START" => Some("1"),
@@ -45,7 +46,8 @@ fn are_read(alloc: Global, words: &[&str]) -> bool {
     }
 }
 
-// Whether they are with more behind them: an option's value, if there is one, and samples of the last words of the usage line.
+// Whether they are with more behind them: an option's value, if there is one, and samples of the
+// last words of the usage line.
 fn are_begun(alloc: Global, words: &[&str], value: &[&str], samples: &[&str]) -> bool {
     let mut all = Vec::new(alloc);
     let is_whole = all.extend_from_slice(words).is_ok()
@@ -71,16 +73,16 @@ fn can_end(alloc: Global, words: &[&str], samples: &[&str]) -> bool {
 
 // How many of the last samples have to stand behind the words, so that they are those of a command.
 fn count_of_missing(alloc: Global, words: &[&str], samples: &[&str]) -> Option<usize> {
-    let mut left = samples;
-    loop {
+    for start in 0..samples.len() {
+        let left = &samples[start..];
         if can_end(alloc, words, left) {
             return Some(left.len());
         }
-        match left {
-            [_, behind @ ..] => left = behind,
-            [] => return None,
-        }
     }
+    if can_end(alloc, words, &[]) {
+        return Some(0);
+    }
+    None
 }
 
 // The words of a usage line that have to be there, and a sample of each.

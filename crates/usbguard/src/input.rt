@@ -7,13 +7,23 @@ use std::io::{self, Read};
 /// The link of proc(5) that tells what standard input is.
 const ITS_LINK: &str = "/proc/self/fd/0";
 
-/// The most bytes that are kept of a text that is read whole, and of a script, of which the last lines are.
+/// The most bytes that are kept of a text that is read whole, and of a script, of which the last
+/// lines are.
 pub const WHOLE: usize = 67_108_864;
 
 pub const LAST_LINES: usize = 2_097_152;
 
-fn is_newline(byte: &u8) -> bool {
-    *byte == b'\n'
+// How many lines end in a text, and how many bytes they take.
+fn whole_lines(text: &[u8]) -> (u64, usize) {
+    let mut lines = 0u64;
+    let mut bytes = 0;
+    for at in 0..text.len() {
+        if text[at] == b'\n' {
+            lines = lines.saturating_add(1);
+            bytes = at + 1;
+        }
+    }
+    (lines, bytes)
 }
 
 /// Reads bytes, and keeps the last lines of them.
@@ -43,15 +53,13 @@ impl<R> KeptInput<R> {
     // Drops whole lines in front, as far as enough bytes are left.
     fn drop_lines(&mut self) {
         let surplus = self.text.len().saturating_sub(self.most);
-        let Some(last) = self.text[..surplus].iter().rposition(is_newline) else {
-            return;
+        let (lines, bytes) = match self.text.get(..surplus) {
+            Some(front) => whole_lines(front),
+            None => (0, 0),
         };
-        let lines = self.text[..last + 1]
-            .iter()
-            .filter(|b| is_newline(b))
-            .count();
-        self.dropped = self.dropped.saturating_add(lines as u64);
-        let _lines = self.text.drain(..last + 1);
+        self.dropped = self.dropped.saturating_add(lines);
+        let bytes = bytes.min(self.text.len());
+        let _lines = self.text.drain(..bytes);
     }
 
     fn keep(&mut self, bytes: &[u8]) {
@@ -83,7 +91,8 @@ impl<R: Read> Read for KeptInput<R> {
     }
 }
 
-/// The path of the file that standard input is; None where it is none that can be opened by its name.
+/// The path of the file that standard input is; None where it is none that can be opened by its
+/// name.
 pub fn input_path(rt: &HostRuntime) -> Option<String> {
     if !fs::metadata(rt, ITS_LINK).ok()?.is_file() {
         return None;

@@ -110,12 +110,7 @@ fn ask_chosen<R: Read + Drop, K: Sink>(
 }
 
 // Runs a command over its input and its output, and gives its status.
-fn run_over<R: Read + Drop, K: Sink>(
-    rt: HostRuntime,
-    words: &[&str],
-    input: R,
-    out: &mut K,
-) -> u8 {
+fn run_over<R: Read + Drop, K: Sink>(rt: HostRuntime, words: &[&str], input: R, out: &mut K) -> u8 {
     match words {
         ["replay", ..] => replay(&rt, words, input, out),
         _ => ask_chosen(rt, words, input, out),

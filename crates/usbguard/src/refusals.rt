@@ -32,12 +32,14 @@ fn number_behind(line: &str, word: &str) -> Option<u64> {
     None
 }
 
-/// How many blanks begin a line, which the places of faults in settings and access files don't count.
+/// How many blanks begin a line, which the places of faults in settings and access files don't
+/// count.
 pub fn blanks_before(line: &[u8]) -> u64 {
     line.len().saturating_sub(line.trim_ascii_start().len()) as u64
 }
 
-// What a line that isn't taken says of one of the input's lines, which is empty where it wasn't kept.
+// What a line that isn't taken says of one of the input's lines, which is empty where it wasn't
+// kept.
 fn fault_in_line(rt: &HostRuntime, told: &str, line: &[u8]) -> Option<LineFault> {
     if told.starts_with("bad script line ") {
         return fault_in_script(rt.alloc(), number_behind(told, "line")? == 1, line);
@@ -159,7 +161,8 @@ fn tell_limit(words: &[&str]) {
     eprintln!(ERROR; "usbguard: the input is too long: {limit}.");
 }
 
-/// Tells a person in words what the last line of a command's output says, and shows the line of the input, or the rule among the words.
+/// Tells a person in words what the last line of a command's output says, and shows the line of the
+/// input, or the rule among the words.
 pub fn tell_last_line<R: Read>(rt: &HostRuntime, words: &[&str], told: &str, input: &KeptInput<R>) {
     if told.starts_with("bad descriptors ") {
         tell_descriptors(told);

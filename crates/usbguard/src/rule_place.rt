@@ -27,7 +27,8 @@ enum Awaited {
     Closing,
 }
 
-/// How far a rule was read: what is awaited, whether conditions stand within `{` and `}`, and whether this is the query of one.
+/// How far a rule was read: what is awaited, whether conditions stand within `{` and `}`, and
+/// whether this is the query of one.
 #[derive(Clone, Copy)]
 struct Reading {
     awaited: Awaited,
@@ -82,7 +83,8 @@ fn blank_length(text: &[u8]) -> usize {
     text.len()
 }
 
-/// The token that begins at that place of a line, or behind blanks there. The line has no lexical fault.
+/// The token that begins at that place of a line, or behind blanks there. The line has no lexical
+/// fault.
 fn piece_from(line: &[u8], from: usize) -> Option<Piece<'_>> {
     let behind = line.get(from..)?;
     let start = from.saturating_add(blank_length(behind));
@@ -325,7 +327,8 @@ fn is_bare_id(line: &[u8], place: usize) -> bool {
     }
 }
 
-/// What could stand at that place of a rule, or of a rule's attributes alone, in place of what does.
+/// What could stand at that place of a rule, or of a rule's attributes alone, in place of what
+/// does.
 pub fn expected_at(line: &[u8], place: usize, is_query: bool) -> &'static str {
     let first = if is_query {
         Awaited::Part

@@ -319,15 +319,15 @@ fn can_begin(alloc: Global, front: &str, fields: &[Field]) -> bool {
 // The first field of a line that can't stand there, and whether it is all that is left.
 fn first_fault(alloc: Global, line: &str, kind: &LineKind) -> Option<(LineFault, bool)> {
     let mut end = kind.word.len();
-    let mut left = kind.fields;
-    while let [field, behind @ ..] = left {
+    let fields = kind.fields;
+    for at in 0..fields.len() {
+        let field = fields[at];
         let start = end.saturating_add(1);
         end = end_of(line, start, field.is_rest());
-        if !can_begin(alloc, line.get(..end)?, behind) {
+        if !can_begin(alloc, line.get(..end)?, &fields[at + 1..]) {
             let fault = fault_at(start.min(line.len()), field.expected());
             return Some((fault, field.is_rest()));
         }
-        left = behind;
     }
     if end < line.len() {
         return Some((fault_at(end, "nothing more was expected"), false));
@@ -365,7 +365,8 @@ fn query_at(alloc: Global, line: &str, from: usize) -> Option<LineFault> {
     }
 }
 
-// The blanks in front of a text, which the places of its faults don't count, and those in front of these.
+// The blanks in front of a text, which the places of its faults don't count, and those in front of
+// these.
 fn behind_blanks(text: &[u8], from: usize) -> u64 {
     (from as u64).saturating_add(blanks_before(text))
 }
@@ -419,7 +420,8 @@ fn move_at(alloc: Global, line: &str, from: usize) -> Option<LineFault> {
     })
 }
 
-// What is wrong with the text of another format that begins behind so many bytes of a line and ends it.
+// What is wrong with the text of another format that begins behind so many bytes of a line and ends
+// it.
 fn fault_in_text(alloc: Global, line: &str, word: &str, from: usize) -> Option<LineFault> {
     match word {
         "rule" | "folder" => rule_at(alloc, line, from),

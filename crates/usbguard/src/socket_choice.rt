@@ -135,7 +135,8 @@ fn socket_path(alloc: Global, name: &str) -> Option<String> {
     [SOCKETS, "/", name].concat(alloc).ok()
 }
 
-// The path of the first socket in the folder that is the caller's own, or one of his groups'. Root's is the usual one.
+// The path of the first socket in the folder that is the caller's own, or one of his groups'.
+// Root's is the usual one.
 fn own_socket(rt: &HostRuntime) -> Option<String> {
     let caller = Caller::of_process(rt);
     if caller.user == 0 {
@@ -172,8 +173,8 @@ fn lack_socket(rt: &HostRuntime, words: &[&str]) -> bool {
     }
 }
 
-/// The path of the socket at which these words ask, where it is neither among them nor the usual one: that of `USBGUARD_SOCKET`, or the first
-/// that is there of the caller's own and his groups'.
+/// The path of the socket at which these words ask, where it is neither among them nor the usual
+/// one: that of `USBGUARD_SOCKET`, or the first that is there of the caller's own and his groups'.
 pub fn choose_socket(rt: &HostRuntime, words: &[&str]) -> Option<String> {
     if !lack_socket(rt, words) {
         return None;

@@ -80,7 +80,8 @@ fn tell_name(folder: &str, names: &[String], fault: &str) {
     }
 }
 
-// A name in the folder of access files that can't be taken. The path that was used last is the folder's, or that of a file in it.
+// A name in the folder of access files that can't be taken. The path that was used last is the
+// folder's, or that of a file in it.
 fn tell_folder(rt: &HostRuntime, path: &str, fault: &str) {
     let folder = match fs::metadata(rt, path) {
         Ok(metadata) if metadata.is_dir() => path.trim_end_matches('/'),
@@ -172,8 +173,8 @@ fn tell_refused(rt: &HostRuntime, refusal: &StartRefusal, paths: &LastPaths<'_>)
     }
 }
 
-/// Tells on standard error why a daemon has ended with that status: the file or the socket, and of a refusal the line and the place too.
-/// It doesn't wait.
+/// Tells on standard error why a daemon has ended with that status: the file or the socket, and of
+/// a refusal the line and the place too. It doesn't wait.
 pub fn tell_end(
     rt: &HostRuntime,
     status: u8,
