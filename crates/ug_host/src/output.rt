@@ -187,6 +187,10 @@ pub struct JournalOutput {
     waiting: Waiting,
 }
 
+fn is_newline(byte: &u8) -> bool {
+    *byte == b'\n'
+}
+
 fn is_sweep(line: &[u8]) -> bool {
     if !line.starts_with(EVENT) {
         return false;
@@ -240,10 +244,10 @@ impl JournalOutput {
 
     // Passes the lines on that were kept back.
     fn pass_held(&mut self) {
-        if !self.held.is_empty() {
-            self.waiting.pass(self.held.as_slice());
-            self.held.clear();
+        for line in self.held.split_inclusive(is_newline) {
+            self.waiting.pass(line);
         }
+        self.held.clear();
     }
 
     // Passes a whole line on, or keeps it back.
