@@ -55,7 +55,7 @@ use Rattle.ug_core.specs.Answering.{acting, answer_of, asking, deed_after, keepi
 use Rattle.ug_core.specs.Changes.{change_entry, change_lines_of}
 use Rattle.ug_core.specs.Event.{DaemonState, ready}
 use Rattle.ug_core.specs.Values.{LogsValues}
-use Rattle.ug_core.specs.Laws.{AnswersInEvent, AnswersAtOnce, AnswersEvent, CarriesOut, GoesAsAnswer, GoesOn, LeavesVerdict, No_record, No_room, Outcome, ProbeRefuses, RefusesBehind, RefusesOrder, RunsAnswer, StoreRefuses, Unstored, Without_memory, if_watching, is_on_device}
+use Rattle.ug_core.specs.Laws.{AnswersInEvent, AnswersAtOnce, AnswersEvent, CarriesOut, GoesAsAnswer, GoesOn, LeavesVerdict, No_record, No_room, Outcome, ProbeRefuses, RefusesBehind, RefusesOrder, RunsAnswer, StoreRefuses, TellsVerdict, Unstored, Without_memory, if_watching, is_on_device}
 use Rattle.ug_core.specs.Policy.{Judging, policy_answer, policy_later}
 use Rattle.ug_core.specs.Storing.{noted_store, refused_by, stored_with, with_changes}
 use Rattle.ug_core.specs.declared.changes.Change.{Change}
@@ -302,6 +302,13 @@ answering_made gives calls faults counting keeps (Order moment who line) s o d b
 
 -- ---- in the words of devices
 
+-- what the reply tells
+tells_verdict : (lines : List (List ℕ)) (how : Settled) (said : Option Reply) → said ≡ Some (reply_to lines how) → TellsVerdict lines how said
+tells_verdict lines settled.Stands said is = is
+tells_verdict lines settled.Nobody said is = is
+tells_verdict lines (settled.Fault failed) said is = is
+tells_verdict lines settled.Memory said is = is
+
 module _ (who : Named) (line : List ℕ) (k : Kernel) (d : DaemonState) (change : Option Change) (became : Stored) (l : Kernel) (a : DaemonState) (sound : IsKernel k) (stand : Stand k d.sweep.standings d.sweep.next) where
   abbrev It_is : Type 0
   It_is = RefusesOrder who line k d became l a ⊎ (((l ≡ k) × AnswersAtOnce who line d became a) ⊎ CarriesOut who line k d became l a)
@@ -408,6 +415,7 @@ module _ (who : Named) (line : List ℕ) (k : Kernel) (d : DaemonState) (change 
         bears = told.bears;
         given = told.given;
         values = values_then k y.behind l (quiet_values k y.behind z.quiet) (runs_values (ordering y.number y.verdict who y.on was) y.behind y.p l y.run);
+        tells = tells_verdict (change_lines_of change d.sweep.judge.next) y.p.0 a.reply (ap (λ (v : DaemonState). v.reply) y.state);
         state = y.state;
       }))
 

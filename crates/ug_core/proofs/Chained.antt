@@ -5,7 +5,6 @@ use Rattle.ug_types.specs.Names.{parent_of}
 use Rattle.ug_kernel.specs.declared.control.Held.{Held}
 use Rattle.ug_kernel.specs.declared.control.Control.TheVariants.{Authorized}
 use Rattle.ug_kernel.specs.declared.control.Write.{Write}
-use Rattle.ug_types.proofs.Elements.{has_left}
 use Rattle.ug_kernel.specs.declared.device.Device.{Device}
 use Rattle.ug_kernel.specs.declared.device.Effect.{Effect}
 use Rattle.ug_kernel.specs.Kernel.{Kernel, Live, Moves}
@@ -20,15 +19,19 @@ use Rattle.ug_table.specs.Laws.{Stand, AreDefaulted, wrote_entries, IsAsJudged}
 use Rattle.ug_table.specs.declared.standing.Standing.{Standing}
 use Rattle.ug_core.specs.Policy.{Judging}
 use Rattle.ug_core.specs.Event.{DaemonState, IsStarted}
-use Rattle.ug_core.specs.InForce.{Decision, decision_of, decisions_in, last_decision, in_force, is_ordered}
-use Rattle.ug_core.specs.Rulings.{Decided, Ruling, Told, after_steps, at_moment, ruling_answer}
-use Rattle.ug_core.specs.Chain.{Happened, IsEvent, StaysOnDisk, Chain, IsKeptThroughout, journal, told_of, has_listed, WasDecided, IsExplained, Explains, Nothing_told, No_write, Had_effect, Had_none, AllExplained, IsJudgedOnce, IsRun}
+use Rattle.ug_core.specs.InForce.{Decision, IsLastTold, decision_of, decisions_in, decided_entry, last_decision, in_force, is_ordered}
+use Rattle.ug_core.specs.Rulings.{Changed, Decided, Ruled, Ruling, Told, after_steps, at_moment, decision_by, ruling_answer}
+use Rattle.ug_core.specs.Values.{LogsValues}
+use Rattle.ug_core.proofs.Answered.{answered_values}
+use Rattle.ug_core.proofs.Values.{quiet_values, values_then}
+use Rattle.ug_core.specs.Chain.{Happened, IsEvent, ready_of, StaysOnDisk, Chain, IsKeptThroughout, journal, told_of, has_listed, WasDecided, IsExplained, Explains, Nothing_told, No_write, Had_effect, Had_none, AllExplained, IsJudgedOnce, IsRun}
 use Rattle.ug_core.proofs.Verdicts.{is_verdict}
-use Rattle.ug_core.proofs.InForce.{unordered_has, decisions_append, or_else_none, last_has}
+use Rattle.ug_core.proofs.InForce.{unordered_has, has_decision, last_told, or_else_none, same_place}
 use Rattle.ug_core.proofs.Walk.{Effected, None_written, Others, Uneffected, Written}
 use Rattle.ug_core.proofs.Kept.{stays_there, stays_then, kept_along}
 use Rattle.ug_core.proofs.Known.{same_device, only_number}
-use Rattle.ug_core.proofs.SoFar.{SoFar, ruling_of, step_has, still_so, told_has}
+use Rattle.ug_core.proofs.SoFar.{SoFar, journal_append, ruling_of, still_so, told_has}
+use Rattle.ug_core.proofs.Splits.{has_at, never_in}
 use Rattle.ug_core.proofs.OneMore.{one_more}
 
 moved : (policy : Judging) (first k l : Kernel) (hs : List Happened) (w : State Judging) → Moves k l → SoFar policy first k hs (told_of hs) (journal hs) w → SoFar policy first l hs (told_of hs) (journal hs) w
@@ -53,9 +56,9 @@ started_so policy hub number k d s =
       told = refl;
       can = tt;
       judge = λ m. ap (λ (j : Judging). at_moment m j) s.judge;
-      placed = λ r a. absurd a;
-      changed = λ c a. absurd a;
-      ordered = λ c a is. absurd a;
+      placed = λ before r after at. absurd (never_in before (Ruled r) after at);
+      changed = λ before c after at. absurd (never_in before (Changed c) after at);
+      ordered = λ front c back at is. absurd (never_in front (decided_entry c) back at);
       written = record { added = []; log = sym (append-nil k.log); each = None_written };
       numbers = s.next;
       agree = λ x a. absurd (none x a);
@@ -63,20 +66,29 @@ started_so policy hub number k d s =
       defaulted = λ x a marked i file what due. absurd (none x a);
     }
 
--- a decision that was told, on the device of its held file
-decided_on : (policy : Judging) (first k : Kernel) (hs : List Happened) (w : State Judging) (so : SoFar policy first k hs (told_of hs) (journal hs) w) (d : Decision) (i : ℕ) → Has (decisions_in (journal hs)) d → slice_get k.held d.held.0 ≡ Some (record { device = i; control = Authorized }) → WasDecided policy hs so.steps k i d
-decided_on policy first k hs w so d i h file = by_cause (is_ordered d.cause) refl
+-- a decision that was told, where it was told, on the device of its held file
+decided_on : (policy : Judging) (first k : Kernel) (hs : List Happened) (w : State Judging) (so : SoFar policy first k hs (told_of hs) (journal hs) w) (front : List Entry) (d : Decision) (back : List Entry) (i : ℕ) → journal hs ≡ front ++ decided_entry d ∷ back → slice_get k.held d.held.0 ≡ Some (record { device = i; control = Authorized }) → WasDecided policy hs so.steps k front i d
+decided_on policy first k hs w so front d back i at file = by_cause (is_ordered d.cause) refl
   where
-    by_cause : (b : Bool) → is_ordered d.cause ≡ b → WasDecided policy hs so.steps k i d
-    by_cause true is = inr (so.ordered d h is, file)
+    by_cause : (b : Bool) → is_ordered d.cause ≡ b → WasDecided policy hs so.steps k front i d
+    by_cause true is = inr (so.ordered front d back at is, file)
     by_cause false is =
+        let there : Has (journal hs) (decided_entry d) = subst (λ (es : List Entry). Has es (decided_entry d)) (sym at) (has_at front (decided_entry d) back) in
+        let h : Has (decisions_in (journal hs)) d = has_decision (journal hs) d.number d.name d.held d.verdict d.cause there in
         let x = ruling_of policy so.steps d (subst (λ (l : List Told). Has l (Decided d)) so.told (told_has hs d (unordered_has (decisions_in (journal hs)) d is h))) in
         let r : Ruling = x.ruling in
-        let p = so.placed r (step_has so.steps x.before x.after r x.at) in
+        let p = so.placed x.before r x.after x.at in
         let held : r.held ≡ d.held = ap (λ (y : Decision). y.held) x.is in
         let there : slice_get k.held r.held.0 ≡ Some (record { device = i; control = Authorized }) = subst (λ (y : Held). slice_get k.held y.0 ≡ Some (record { device = i; control = Authorized })) (sym held) file in
         let q : Judging = after_steps policy x.before in
+        let one : Decision = decision_by q r in
         let said : ruling_answer q r ≡ (d.verdict, d.cause) = ap (λ (y : Decision). (y.verdict, y.cause)) x.is in
+        let amid : List Entry = p.event.answered.sweep.entries in
+        let own : journal hs ≡ (journal p.earlier ++ (amid ++ p.front)) ++ decided_entry one ∷ (p.back ++ journal p.later) =
+        ap (λ (l : List Happened). journal l) p.in_run ∙ journal_append p.earlier (p.event ∷ p.later)
+        ∙ ap (λ (es : List Entry). journal p.earlier ++ (es ++ journal p.later)) (p.in_event ∙ sym (append_assoc amid p.front (decided_entry one ∷ p.back)))
+        ∙ ap (λ (es : List Entry). journal p.earlier ++ es) (append_assoc (amid ++ p.front) (decided_entry one ∷ p.back) (journal p.later))
+        ∙ sym (append_assoc (journal p.earlier) (amid ++ p.front) (decided_entry one ∷ (p.back ++ journal p.later))) in
         inl (record {
           before = x.before;
           ruling = r;
@@ -87,14 +99,13 @@ decided_on policy first k hs w so d i h file = by_cause (is_ordered d.cause) ref
           held = held;
           device = same_device k r.held.0 r.device i p.device.file there;
           placed = p;
+          here = same_place 1 w.next (journal hs) front (journal p.earlier ++ (amid ++ p.front)) d one back (p.back ++ journal p.later) is (ap (λ (y : Decision). is_ordered y.cause) x.is ∙ is) (sym (ap (λ (y : Decision). y.number) x.is)) at own so.numbers;
           given = is_verdict (at_moment r.moment q) (allowed_records r.standings) r.judged (is_none (parent_of r.name)) r.present r.on d.verdict d.cause said;
         })
 
--- the verdict in force is one that was told
-force_told : (es front back : List Entry) (n : ℕ) (d : Decision) → es ≡ front ++ back → in_force [] front n ≡ Some d → Has (decisions_in es) d
-force_told es front back n d at force =
-    let last : last_decision (decisions_in front) n ≡ Some d = sym (or_else_none (last_decision (decisions_in front) n)) ∙ force in
-    subst (λ (ds : List Decision). Has ds d) (sym (ap (λ (x : List Entry). decisions_in x) at ∙ decisions_append front back)) (has_left (decisions_in front) (decisions_in back) d (last_has (decisions_in front) n d last).0)
+-- a verdict in force is the last that was told of its number
+force_told : (es : List Entry) (d : Decision) → in_force [] es d.number ≡ Some d → IsLastTold es d
+force_told es d force = last_told es d (sym (or_else_none (last_decision (decisions_in es) d.number)) ∙ force)
 
 -- the entries are the front of the journal
 explained : (policy : Judging) (first k : Kernel) (hs : List Happened) (v : State Judging) (so : SoFar policy first k hs (told_of hs) (journal hs) v) (es back : List Entry) (log : List Effect) → journal hs ≡ es ++ back → Written v.hub [] k es log → Explains v.hub policy hs so.steps k es log
@@ -103,8 +114,9 @@ explained policy first k hs v so _ back _ at (Others es more log none w) = No_wr
 explained policy first k hs v so _ back _ at (Effected es log decision outcome effect is may w) =
     let two : List Entry = wrote_entries decision.number decision.name effect.write outcome in
     let cut : journal hs ≡ es ++ (two ++ back) = at ∙ append_assoc es two back in
-    let told : Has (decisions_in (journal hs)) decision = force_told (journal hs) es (two ++ back) decision.number decision cut is.force in
-    let this : IsExplained v.hub policy hs so.steps k es decision effect = record { force = is.force; wanted = is.wanted; decided = decided_on policy first k hs v so decision effect.device told is.device.file } in
+    let told : IsLastTold es decision = force_told es decision is.force in
+    let whole : journal hs ≡ told.before ++ decided_entry decision ∷ (told.since ++ (two ++ back)) = cut ∙ ap (λ (l : List Entry). l ++ (two ++ back)) told.at ∙ append_assoc told.before (decided_entry decision ∷ told.since) (two ++ back) in
+    let this : IsExplained v.hub policy hs so.steps k es decision effect = record { force = is.force; wanted = is.wanted; told = told; decided = decided_on policy first k hs v so told.before decision (told.since ++ (two ++ back)) effect.device whole is.device.file } in
     Had_effect es log decision outcome effect may this (explained policy first k hs v so es (two ++ back) log cut w)
 explained policy first k hs v so _ back _ at (Uneffected es log number name what outcome may w) =
     let two : List Entry = wrote_entries number name what outcome in
@@ -113,16 +125,24 @@ explained policy first k hs v so _ back _ at (Uneffected es log number name what
 judged_once : (policy : Judging) (first k : Kernel) (hs : List Happened) (w : State Judging) (so : SoFar policy first k hs (told_of hs) (journal hs) w) (i : ℕ) (d : Device) → Live k.devices i d → IsAsJudged w.hub k w.standings i → IsJudgedOnce w.hub policy hs so.steps k w.standings i
 judged_once policy first k hs w so i d live a =
     let s : Standing = a.standing.s in
-    let told : Has (decisions_in (journal hs)) (decision_of s) = force_told (journal hs) (journal hs) [] s.number (decision_of s) (sym (append-nil (journal hs))) (so.agree s a.standing.has) in
+    let told : IsLastTold (journal hs) (decision_of s) = force_told (journal hs) (decision_of s) (so.agree s a.standing.has) in
     record {
       stands = a;
-      decided = decided_on policy first k hs w so (decision_of s) i told a.standing.file;
+      told = told;
+      decided = decided_on policy first k hs w so told.before (decision_of s) told.since i told.at a.standing.file;
       default = λ what root due. so.defaulted s a.standing.has (a.marked what root due) i a.standing.file what due;
       once = only_number (journal hs) k w.standings w.next i d s so.stand so.known live a.standing.has a.standing.file;
     }
 
-pub run_of : (policy : Judging) (hub : Option Write) (first k : Kernel) (o : Option Disk) (hs : List Happened) (p : Option Disk) (e : DaemonState) → e.sweep.hub ≡ hub → e.sweep.listed ≡ has_listed hs → SoFar policy first k hs (told_of hs) (journal hs) e.sweep → IsKeptThroughout policy.rules o hs p e.sweep.judge.rules → IsRun policy hub first o hs k p e
-run_of policy hub first k o hs p e setting listed so file = record {
+-- values change by writes in the log alone, through events and between them
+chain_values : (k : Kernel) (o : Option Disk) (d : DaemonState) (hs : List Happened) (l : Kernel) (p : Option Disk) (e : DaemonState) → Chain k o d hs l p e → LogsValues k l
+chain_values k o d [] l p e c = quiet_values k l (moves_quiet k l c.0)
+chain_values k o d (h ∷ hs) l p e c =
+    let begun = values_then k h.kernel h.kernel_answered (quiet_values k h.kernel (moves_quiet k h.kernel c.0)) (answered_values h.event h.kernel (ready_of h) h.became h.kernel_answered h.answered c.3.answers) in
+    values_then k h.kernel_answered l begun (values_then h.kernel_answered h.kernel_after l c.3.handled.values (chain_values h.kernel_after h.disk_after h.after hs l p e c.4))
+
+pub run_of : (policy : Judging) (hub : Option Write) (first k : Kernel) (o : Option Disk) (hs : List Happened) (p : Option Disk) (e : DaemonState) → e.sweep.hub ≡ hub → e.sweep.listed ≡ has_listed hs → SoFar policy first k hs (told_of hs) (journal hs) e.sweep → LogsValues first k → IsKeptThroughout policy.rules o hs p e.sweep.judge.rules → IsRun policy hub first o hs k p e
+run_of policy hub first k o hs p e setting listed so values file = record {
   steps = so.steps;
   told = so.told;
   can = so.can;
@@ -130,6 +150,7 @@ run_of policy hub first k o hs p e setting listed so file = record {
   changed = so.changed;
   ordered = so.ordered;
   explained = subst (λ (o : Option Write). AllExplained o policy hs so.steps first k) setting (record { added = so.written.added; log = so.written.log; each = explained policy first k hs e.sweep so (journal hs) [] so.written.added (sym (append-nil (journal hs))) so.written.each });
+  values = values;
   numbers = so.numbers;
   agree = so.agree;
   setting = setting;
@@ -142,7 +163,7 @@ run_of policy hub first k o hs p e setting listed so file = record {
 pub is_run : (policy : Judging) (hub : Option Write) (number : ℕ) (first : Kernel) (o : Option Disk) (d : DaemonState) (hs : List Happened) (k : Kernel) (p : Option Disk) (e : DaemonState) → IsStarted policy hub number d → Chain first o d hs k p e → IsRun policy hub first o hs k p e
 is_run policy hub number first o d hs k p e s c =
     let so = along policy first [] hs first o d k p e c s.listed (started_so policy hub number first d s) in
-    run_of policy hub first k o hs p e (so.2 ∙ s.hub) so.1 so.0
+    run_of policy hub first k o hs p e (so.2 ∙ s.hub) so.1 so.0 (chain_values first o d hs k p e c)
     (subst (λ (j : Judging). IsKeptThroughout j.rules o hs p e.sweep.judge.rules) s.judge (kept_along first o d hs k p e c))
 
 -- a chain, and one event more

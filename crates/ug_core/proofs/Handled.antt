@@ -15,11 +15,13 @@ use Rattle.ug_core.specs.Due.{SettlesDueIn, TellsDue}
 use Rattle.ug_core.specs.Policy.{Judging, policy_answer, policy_later}
 use Rattle.ug_core.specs.Event.{DaemonState, ended, handling, settling_due}
 use Rattle.ug_core.specs.Laws.{Handled, SettlesDue}
+use Rattle.ug_core.specs.Values.{LogsValues}
 
-pub handled : (d : DaemonState) (k l : Kernel) (v : State Judging) (es : List Entry) (e : DaemonState) → es ≡ d.sweep.entries → SettlesDue d.due k (record d.sweep { entries = es }) l v → e.sweep ≡ record v { entries = v.entries ++ entry.End d.event ∷ [] } → e.sweep.hub ≡ d.sweep.hub → e.access ≡ d.access → e.pending ≡ d.pending → e.stream ≡ d.stream → e.due ≡ None → e.event ≡ d.event + 1 → e.reply ≡ d.reply → e.watch ≡ d.watch → Handled k d l e
-handled d k l v es e first law last hub access pending stream due number reply watch = record {
+pub handled : (d : DaemonState) (k l : Kernel) (v : State Judging) (es : List Entry) (e : DaemonState) → es ≡ d.sweep.entries → SettlesDue d.due k (record d.sweep { entries = es }) l v → LogsValues k l → e.sweep ≡ record v { entries = v.entries ++ entry.End d.event ∷ [] } → e.sweep.hub ≡ d.sweep.hub → e.access ≡ d.access → e.pending ≡ d.pending → e.stream ≡ d.stream → e.due ≡ None → e.event ≡ d.event + 1 → e.reply ≡ d.reply → e.watch ≡ d.watch → Handled k d l e
+handled d k l v es e first law values last hub access pending stream due number reply watch = record {
   swept = v;
   law = subst (λ (x : List Entry). SettlesDue d.due k (record d.sweep { entries = x }) l v) first law;
+  values = values;
   entries = last;
   hub = hub;
   access = access;

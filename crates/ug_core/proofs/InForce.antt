@@ -9,7 +9,8 @@ use Rattle.ug_audit.specs.declared.entry.Entry.{Entry}
 use Rattle.ug_audit.specs.declared.entry.Entry.TheVariants as entry
 use Rattle.ug_table.specs.Laws.{TellsNeither, numbers_of}
 use Rattle.ug_table.specs.declared.standing.Standing.{Standing}
-use Rattle.ug_core.specs.InForce.{Decision, decision_in, decisions_in, decision_of, or_else, on_number, last_decision, last_judged, standing_decision, in_force, AgreeInForce, is_ordered, unordered, numbers_on, Follow}
+use Rattle.ug_core.specs.InForce.{Decision, IsLastTold, decision_in, decisions_in, decision_of, decided_entry, given_numbers, or_else, on_number, last_decision, last_judged, standing_decision, in_force, AgreeInForce, is_ordered, unordered, numbers_on, Follow}
+use Rattle.ug_core.proofs.Splits.{where_cut}
 
 -- the numbers of all that was told
 abbrev pub told_numbers : List Entry → List ℕ
@@ -174,3 +175,71 @@ unordered_has (x ∷ ds) d is (inr h) = by_first (is_ordered x.cause) (unordered
     by_first : (b : Bool) → Has (unordered ds) d → Has (cond b (unordered ds) (x ∷ unordered ds)) d
     by_first true k = k
     by_first false k = inr k
+
+-- an entry tells one decision
+pub one_judged : (d e : Decision) → decided_entry d ≡ decided_entry e → d ≡ e
+one_judged d e same = let both : d ∷ [] ≡ e ∷ [] = ap (λ (x : Entry). decision_in x) same in let one : d ≡ e = cc in one
+
+-- the last that is told of a number, with its place
+pub last_told : (es : List Entry) (d : Decision) → last_decision (decisions_in es) d.number ≡ Some d → IsLastTold es d
+last_told [] d h = let none : ⊥ = cc in absurd none
+last_told (e ∷ es) d h = by (λ k. last_told es d k) (last_decision (decisions_in es) d.number) refl (sym (last_append (decision_in e) (decisions_in es) d.number) ∙ h)
+  where
+    this : (x : Entry) → last_decision (decisions_in es) d.number ≡ None → last_decision (decision_in x) d.number ≡ Some d → IsLastTold (x ∷ es) d
+    this (entry.Judged number name held verdict cause) is h =
+        let own : Decision = record { number = number; name = name; held = held; verdict = verdict; cause = cause } in
+        elim (last_has (own ∷ []) d.number d h).0 [
+          | inl same ↦ record { before = []; since = es; at = ap (λ (y : Decision). decided_entry y ∷ es) same; none = is }
+          | inr none ↦ absurd none
+        ]
+    this x is h = let none : ⊥ = cc in absurd none
+
+    by : (last_decision (decisions_in es) d.number ≡ Some d → IsLastTold es d) → (o : Option Decision) → last_decision (decisions_in es) d.number ≡ o → or_else o (last_decision (decision_in e) d.number) ≡ Some d → IsLastTold (e ∷ es) d
+    by rest (Some x) is h =
+        let k = rest (is ∙ h) in
+        record { before = e ∷ k.before; since = k.since; at = ap (λ (l : List Entry). e ∷ l) k.at; none = k.none }
+    by rest None is h = this e is h
+
+-- numbers that are given out come once
+
+follow_least : (first : ℕ) (ns : List ℕ) (next n : ℕ) → Follow first ns next → Has ns n → first ≤ n
+follow_least first [] next n f h = absurd h
+follow_least first (x ∷ ns) next n f (inl same) = let is : x ≡ first = f.0 in grind (arith, same, is)
+follow_least first (x ∷ ns) next n f (inr h) = let less : first + 1 ≤ n = follow_least (first + 1) ns next n f.1 h in omega arith
+
+follow_once : (first : ℕ) (ns : List ℕ) (n : ℕ) (more : List ℕ) (next : ℕ) → Follow first (ns ++ n ∷ more) next → Has more n → ⊥
+follow_once first [] n more next f h = let less : first + 1 ≤ n = follow_least (first + 1) more next n f.1 h in let is : n ≡ first = f.0 in omega arith
+follow_once first (x ∷ ns) n more next f h = follow_once (first + 1) ns n more next f.1 h
+
+pub given_append : (es fs : List Entry) → given_numbers (es ++ fs) ≡ given_numbers es ++ given_numbers fs
+given_append es fs = ap (λ (ds : List Decision). numbers_on (unordered ds)) (decisions_append es fs) ∙ ap (λ (ds : List Decision). numbers_on ds) (unordered_append (decisions_in es) (decisions_in fs)) ∙ numbers_append (unordered (decisions_in es)) (unordered (decisions_in fs))
+
+given_one : (d : Decision) (es : List Entry) → is_ordered d.cause ≡ false → given_numbers (decided_entry d ∷ es) ≡ d.number ∷ given_numbers es
+given_one d es plain = ap (λ (b : Bool). numbers_on (cond b (unordered (decisions_in es)) (d ∷ unordered (decisions_in es)))) plain
+
+given_once : (first next : ℕ) (f : List Entry) (d : Decision) (g : List Entry) (e : Decision) (b : List Entry) → is_ordered d.cause ≡ false → is_ordered e.cause ≡ false → d.number ≡ e.number → Follow first (given_numbers ((f ++ decided_entry d ∷ g) ++ decided_entry e ∷ b)) next → ⊥
+given_once first next f d g e b plain also same follow =
+    let rest : List Entry = g ++ decided_entry e ∷ b in
+    let shape : given_numbers ((f ++ decided_entry d ∷ g) ++ decided_entry e ∷ b) ≡ given_numbers f ++ d.number ∷ given_numbers rest =
+    ap (λ (l : List Entry). given_numbers l) (append_assoc f (decided_entry d ∷ g) (decided_entry e ∷ b)) ∙ given_append f (decided_entry d ∷ rest) ∙ ap (λ (l : List ℕ). given_numbers f ++ l) (given_one d rest plain) in
+    let there : given_numbers rest ≡ given_numbers g ++ e.number ∷ given_numbers b = given_append g (decided_entry e ∷ b) ∙ ap (λ (l : List ℕ). given_numbers g ++ l) (given_one e b also) in
+    follow_once first (given_numbers f) d.number (given_numbers rest) next (subst (λ (l : List ℕ). Follow first l next) shape follow)
+    (subst (λ (l : List ℕ). Has l d.number) (sym there) (subst (λ (n : ℕ). Has (given_numbers g ++ e.number ∷ given_numbers b) n) (sym same) (has_right (given_numbers g) (e.number ∷ given_numbers b) e.number (inl refl))))
+
+-- so a decision that gives one has one place
+pub same_place : (first next : ℕ) (es f g : List Entry) (d e : Decision) (a b : List Entry) → is_ordered d.cause ≡ false → is_ordered e.cause ≡ false → d.number ≡ e.number → es ≡ f ++ decided_entry d ∷ a → es ≡ g ++ decided_entry e ∷ b → Follow first (given_numbers es) next → f ≡ g
+same_place first next es f g d e a b plain also same at here follow =
+    elim (where_cut f (decided_entry d ∷ a) g (decided_entry e) b (sym at ∙ here)) [
+      | inl c ↦
+          let whole : es ≡ (g ++ decided_entry e ∷ c.rest) ++ decided_entry d ∷ a = at ∙ ap (λ (l : List Entry). l ++ decided_entry d ∷ a) c.here in
+          absurd (given_once first next g e c.rest d a also plain (sym same) (subst (λ (l : List Entry). Follow first (given_numbers l) next) whole follow))
+      | inr p ↦ by_more p.more p.beyond p.there
+    ]
+  where
+    by_more : (more : List Entry) → g ≡ f ++ more → decided_entry d ∷ a ≡ more ++ decided_entry e ∷ b → f ≡ g
+    by_more [] beyond there = sym (append-nil f) ∙ sym beyond
+    by_more (x ∷ more) beyond there =
+        let head : decided_entry d ≡ x = cc in
+        let front : g ≡ f ++ decided_entry d ∷ more = beyond ∙ ap (λ (y : Entry). f ++ y ∷ more) (sym head) in
+        let whole : es ≡ (f ++ decided_entry d ∷ more) ++ decided_entry e ∷ b = here ∙ ap (λ (l : List Entry). l ++ decided_entry e ∷ b) front in
+        absurd (given_once first next f d more e b plain also same (subst (λ (l : List Entry). Follow first (given_numbers l) next) whole follow))

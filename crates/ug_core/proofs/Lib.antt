@@ -10,6 +10,7 @@ pub mod Verdicts
 pub mod InForce
 pub mod Walk
 pub mod Steps
+pub mod Splits
 pub mod Places
 pub mod Probing
 pub mod Changed

@@ -7,7 +7,7 @@ use Rattle.ug_types.specs.Principals.{Named}
 use Rattle.ug_types.specs.declared.refusal.Refusal.{Refusal}
 use Rattle.ug_types.specs.declared.saved.Saved.{Saved}
 use Rattle.ug_types.specs.declared.verdict.Moment.{Moment}
-use Rattle.ug_types.proofs.Elements.{cancel, has_right}
+use Rattle.ug_types.proofs.Elements.{cancel}
 use Rattle.ug_kernel.specs.Kernel.{Kernel}
 use Rattle.ug_kernel.specs.Quiet.{Quiet}
 use Rattle.ug_kernel.proofs.Quiet.{quiet_refl}
@@ -40,11 +40,12 @@ use Rattle.ug_types.specs.declared.event.Event.TheVariants.{Sweep, Order, Hint a
 use Rattle.ug_uevent.specs.declared.hint.Hint.{Hint}
 use Rattle.ug_uevent.specs.Faults.{SaidFault}
 use Rattle.ug_core.specs.Hinting.{MeetsPiece, names_due, refusals}
-use Rattle.ug_core.specs.InForce.{Decision, decision_of, decisions_in, unordered}
+use Rattle.ug_core.specs.InForce.{AgreeInForce, Decision, decision_of, decisions_in, decided_entry, unordered}
 use Rattle.ug_core.specs.Laws.{AnswersAtOnce, AnswersEvent, Bad_rule, Before_folder, By_facts, CarriesOut, Changes, ComesTo, Denied, Devices, Full, Handled, IsInForce, List_rules, No_device, No_memory, No_parameter, No_place, No_record, No_room, No_rule, No_setting, No_value, Of_folder, Outcome, ProbeRefuses, RefusedBehind, RefusedByProbe, Refuses, RefusesBehind, RefusesOrder, SettlesDue, StoreRefuses, Unread, Unstored, Value, Watches, WhyRefused, Without_memory, change_of, if_watching, tried_in}
-use Rattle.ug_core.specs.Rulings.{Ruling, Told, Was_changed, at_moment}
+use Rattle.ug_core.specs.Rulings.{PolicyStep, Ruling, Told, Was_changed, after_steps, at_moment, decision_by, told_by}
 use Rattle.ug_core.specs.Chain.{Happened, ready_of, changes_asked, decided, journal, told_if, told_of, was_done, tells_unlisted, lists_all, has_listed, IsPlaced, WasAsked, WasOrdered}
 use Rattle.ug_core.proofs.InForce.{unordered_append, decisions_append, decisions_more, has_decision}
+use Rattle.ug_core.proofs.Splits.{has_at}
 use Rattle.ug_core.proofs.Walk.{IsAt}
 use Rattle.std.proofs.lemmas.Option.{same_Some}
 use Rattle.ug_types.specs.declared.access.Privilege.{Privilege}
@@ -159,7 +160,8 @@ told_undone : (change : Option Change) → told_if false change ≡ []
 told_undone None = refl
 told_undone (Some change) = refl
 
-module _ (policy : Judging) (first : Kernel) (hs : List Happened) (h : Happened) where
+-- the event's reply is that of its order, and its standings had the verdicts in force
+module _ (policy : Judging) (first : Kernel) (hs : List Happened) (h : Happened) (reply_is : h.after.reply ≡ h.answered.reply) (agree : AgreeInForce [] (journal hs) h.before.sweep.standings) where
   abbrev all : List Happened
   all = hs ++ h ∷ []
 
@@ -193,7 +195,7 @@ module _ (policy : Judging) (first : Kernel) (hs : List Happened) (h : Happened)
   amid_stored k tl d stored.TooLong x = x
   amid_stored k tl d stored.Memory x = x
 
-  amid_changed : (k : Kernel) (tl : List Told) (d : DaemonState) (change : Change) → CanChange change d.sweep.judge.rules → WasAsked all change → Amid k tl d → Amid k (tl ++ Was_changed change ∷ []) (with_change change d)
+  amid_changed : (k : Kernel) (tl : List Told) (d : DaemonState) (change : Change) → CanChange change d.sweep.judge.rules → ((before : List PolicyStep) → told_by policy before ≡ tl → WasAsked policy all before change) → Amid k tl d → Amid k (tl ++ Was_changed change ∷ []) (with_change change d)
   amid_changed k tl d change can was x =
       let e : Entry = change_entry change d.sweep.judge.next in
       let v : State Judging = (with_change change d).sweep in
@@ -245,8 +247,23 @@ module _ (policy : Judging) (first : Kernel) (hs : List Happened) (h : Happened)
     told_by_change None = []
     told_by_change (Some change) = Was_changed change ∷ []
 
-    was_asked : (asked : Request) (change : Change) → request_read line ≡ Ok asked → is_granted h.before.access who (needs asked) ≡ true → change_of d asked ≡ Some change → WasAsked all change
-    was_asked asked change reads granted asks = record { event = h; in_run = has_right hs (h ∷ []) h (inl refl); moment = moment; who = who; line = line; is_order = is; asked = asked; reads = reads; asks = sym (asked_anytime h.before.sweep.standings h.before.sweep.judge d.sweep.judge.ctx (Ok asked)) ∙ asks; granted = granted }
+    was_asked : (asked : Request) (change : Change) (before : List PolicyStep) → request_read line ≡ Ok asked → is_granted h.before.access who (needs asked) ≡ true → change_of d asked ≡ Some change → was_done h.answered.reply ≡ true → told_by policy before ≡ told_of hs → WasAsked policy all before change
+    was_asked asked change before reads granted asks done told = record {
+      earlier = hs;
+      event = h;
+      later = [];
+      in_run = refl;
+      told = told;
+      moment = moment;
+      who = who;
+      line = line;
+      is_order = is;
+      asked = asked;
+      reads = reads;
+      asks = sym (asked_anytime h.before.sweep.standings h.before.sweep.judge d.sweep.judge.ctx (Ok asked)) ∙ asks;
+      granted = granted;
+      done = ap (λ (o : Option Reply). was_done o) reply_is ∙ done;
+    }
 
     can_of : (change : Change) (became : Stored) → IsInForce d.sweep.judge (Some change) became → CanChange change d.sweep.judge.rules
     can_of change stored.NotNeeded k = k.0
@@ -262,10 +279,10 @@ module _ (policy : Judging) (first : Kernel) (hs : List Happened) (h : Happened)
     store_rules stored.TooLong = refl
     store_rules stored.Memory = refl
 
-    amid_now : (k : Kernel) (asked : Request) (change : Option Change) → request_read line ≡ Ok asked → is_granted h.before.access who (needs asked) ≡ true → change ≡ change_of d asked → IsInForce d.sweep.judge change h.became → Amid k (told_of hs) d → Amid k (told_of hs ++ told_by_change change) (with_changes change (noted_store h.became d))
-    amid_now k asked None reads granted asks force x = untold k (noted_store h.became d) (amid_stored k (told_of hs) d h.became x)
-    amid_now k asked (Some change) reads granted asks force x =
-        amid_changed k (told_of hs) (noted_store h.became d) change (subst (λ (j : Judging). CanChange change j.rules) (sym (store_rules h.became)) (can_of change h.became force)) (was_asked asked change reads granted (sym asks)) (amid_stored k (told_of hs) d h.became x)
+    amid_now : (k : Kernel) (asked : Request) (change : Option Change) → request_read line ≡ Ok asked → is_granted h.before.access who (needs asked) ≡ true → change ≡ change_of d asked → IsInForce d.sweep.judge change h.became → was_done h.answered.reply ≡ true → Amid k (told_of hs) d → Amid k (told_of hs ++ told_by_change change) (with_changes change (noted_store h.became d))
+    amid_now k asked None reads granted asks force done x = untold k (noted_store h.became d) (amid_stored k (told_of hs) d h.became x)
+    amid_now k asked (Some change) reads granted asks force done x =
+        amid_changed k (told_of hs) (noted_store h.became d) change (subst (λ (j : Judging). CanChange change j.rules) (sym (store_rules h.became)) (can_of change h.became force)) (λ before told. was_asked asked change before reads granted (sym asks) done told) (amid_stored k (told_of hs) d h.became x)
 
     told_so : (asked : Request) (change : Option Change) → request_read line ≡ Ok asked → change ≡ change_of d asked → told_if true (changes_asked d h.event) ≡ told_by_change change
     told_so asked change reads asks = ap (λ (o : Option Change). told_if true o) (asks_so asked reads ∙ sym asks) ∙ by_change change
@@ -345,7 +362,7 @@ module _ (policy : Judging) (first : Kernel) (hs : List Happened) (h : Happened)
         replied (told_by_change x.outcome.change) (reply.Lines x.outcome.lines) now
         (ap (λ (v : DaemonState). v.sweep) x.state ∙ same.0)
         (ap (λ (o : Option Reply). told_if (was_done o) (changes_asked d h.event)) (ap (λ (v : DaemonState). v.reply) x.state ∙ same.1) ∙ told_so x.asked x.outcome.change x.reads asks)
-        (amid_now h.kernel_answered x.asked x.outcome.change x.reads x.granted asks x.in_force here)
+        (amid_now h.kernel_answered x.asked x.outcome.change x.reads x.granted asks x.in_force (ap (λ (o : Option Reply). was_done o) (ap (λ (v : DaemonState). v.reply) x.state ∙ same.1)) here)
       where
         watching_same : (b : Bool) (v : DaemonState) → ((if_watching b v).sweep ≡ v.sweep) × ((if_watching b v).reply ≡ v.reply)
         watching_same true v = (refl, refl)
@@ -366,7 +383,8 @@ module _ (policy : Judging) (first : Kernel) (hs : List Happened) (h : Happened)
         let w : State Judging = now.sweep in
         let tl : List Told = told_of hs ++ told_by_change c.change in
         let lines : List (List ℕ) = change_lines_of c.change d.sweep.judge.next in
-        let amid = amid_now c.middle (request.Device c.number c.verdict c.permanent) c.change c.asked c.granted c.asks c.in_force (amid_moves h.kernel c.middle (told_of hs) d c.probed.quiet ready) in
+        let done : was_done h.answered.reply ≡ true = ap (λ (x : DaemonState). was_done x.reply) c.state ∙ reply_done (change_lines_of c.change d.sweep.judge.next) c.how in
+        let amid = amid_now c.middle (request.Device c.number c.verdict c.permanent) c.change c.asked c.granted c.asks c.in_force done (amid_moves h.kernel c.middle (told_of hs) d c.probed.quiet ready) in
         let y : Standing = with_verdict c.verdict who c.standing in
         let told : Entry = verdict_entry y in
         let kept_in : State Judging = with_kept w c.kept in
@@ -379,7 +397,7 @@ module _ (policy : Judging) (first : Kernel) (hs : List Happened) (h : Happened)
         let fair = law.fair policy_answer policy_later (terms_of false w.hub) swept_before in
         let rest : c.rest ≡ fair.rest = cancel (w.entries ++ told ∷ []) c.rest fair.rest (append_assoc w.entries (told ∷ []) c.rest ∙ sym its_entries ∙ fair.entries) in
         let inside : h.answered.sweep.entries ≡ w.entries ++ told ∷ (c.rest ++ entry.Reply (answer_of (reply_to lines c.how)) ∷ []) = ap (λ (x : DaemonState). x.sweep.entries) state ∙ ap (λ (es : List Entry). es ++ entry.Reply (answer_of (reply_to lines c.how)) ∷ []) its_entries ∙ append_assoc w.entries (told ∷ c.rest) (entry.Reply (answer_of (reply_to lines c.how)) ∷ []) in
-        let was : WasOrdered all (decision_of y) = record {
+        let was : WasOrdered all (journal hs ++ w.entries) (decision_of y) = record {
           earlier = hs;
           event = h;
           later = [];
@@ -394,13 +412,17 @@ module _ (policy : Judging) (first : Kernel) (hs : List Happened) (h : Happened)
           granted = c.granted;
           standing = c.standing;
           stands = ap (λ (n : ℕ). numbered n d.sweep.standings) one.1 ∙ c.stands;
+          force = agree c.standing one.0;
           name = refl;
           held = refl;
-          in_event = subst (λ (es : List Entry). Has es told) (sym inside) (has_right w.entries (told ∷ (c.rest ++ entry.Reply (answer_of (reply_to lines c.how)) ∷ [])) told (inl refl));
+          front = w.entries;
+          back = c.rest ++ entry.Reply (answer_of (reply_to lines c.how)) ∷ [];
+          in_event = inside;
+          here = refl;
         } in
         let set = ordered_so policy first c.middle all tl (journal hs ++ w.entries) w c.number c.verdict who c.standing here was amid.so in
         let none : decisions_in fair.rest ≡ [] = subst (λ (es : List Entry). decisions_in es ≡ []) rest (given_none c.rest c.given) in
-        let unfair = fair_so swept_before policy first all tl ((journal hs ++ w.entries) ++ told ∷ []) (moment_of h.event) false c.middle h.kernel_answered (just_ordered c.number c.verdict who c.standing w) kept_in amid.at refl (λ were. law.defaults w.hub amid.so.defaulted) fair (λ r p. no_ruling w.standings fair.rest r none p) set in
+        let unfair = fair_so swept_before policy first all tl ((journal hs ++ w.entries) ++ told ∷ []) (moment_of h.event) false c.middle h.kernel_answered (just_ordered c.number c.verdict who c.standing w) kept_in amid.at refl (λ were. law.defaults w.hub amid.so.defaulted) fair (λ before ds r told plain p. no_ruling w.standings fair.rest before ds r none p) set in
         let written = subst (λ (ds : List Decision). SoFar policy first h.kernel_answered all (tl ++ decided (unordered ds)) (((journal hs ++ w.entries) ++ told ∷ []) ++ fair.rest) kept_in) none unfair in
         let same : ((journal hs ++ w.entries) ++ told ∷ []) ++ fair.rest ≡ journal hs ++ kept_in.entries = append_assoc (journal hs ++ w.entries) (told ∷ []) fair.rest ∙ append_assoc (journal hs) w.entries (told ∷ fair.rest) ∙ ap (λ (es : List Entry). journal hs ++ es) (sym (fair.entries ∙ append_assoc w.entries (told ∷ []) fair.rest)) in
         let its_decisions : decisions_in c.kept.entries ≡ decision_of y ∷ [] = ap (λ (es : List Entry). decisions_in es) its_entries ∙ decisions_append w.entries (told ∷ c.rest) ∙ ap (λ (ds : List Decision). ds ++ (decision_of y ∷ decisions_in c.rest)) amid.plain ∙ ap (λ (ds : List Decision). decision_of y ∷ ds) (given_none c.rest c.given) in
@@ -426,10 +448,11 @@ module _ (policy : Judging) (first : Kernel) (hs : List Happened) (h : Happened)
         given_none (entry.Judged number name held verdict why ∷ es) g = let none : ⊥ = cc in absurd none
         given_none (e ∷ es) g = given_none es g
 
-        no_ruling : (ss : List Standing) (es : List Entry) (r : Ruling) → decisions_in es ≡ [] → IsAt swept_before false (moment_of h.event) c.middle h.kernel_answered (with_order c.number c.verdict who ss) es r → IsPlaced all h.kernel_answered r
-        no_ruling ss es r none p =
-            let there : Has (decisions_in es) (record { number = r.number; name = r.name; held = r.held; verdict = p.verdict; cause = p.cause }) = has_decision es r.number r.name r.held p.verdict p.cause (subst (λ (x : List Entry). Has x (entry.Judged r.number r.name r.held p.verdict p.cause)) (sym p.at) (has_right p.front (entry.Judged r.number r.name r.held p.verdict p.cause ∷ p.back) (entry.Judged r.number r.name r.held p.verdict p.cause) (inl refl))) in
-            absurd (subst (λ (ds : List Decision). Has ds (record { number = r.number; name = r.name; held = r.held; verdict = p.verdict; cause = p.cause })) none there)
+        no_ruling : (ss : List Standing) (es : List Entry) (before : List PolicyStep) (ds : List Decision) (r : Ruling) → decisions_in es ≡ [] → IsAt swept_before false (moment_of h.event) c.middle h.kernel_answered (with_order c.number c.verdict who ss) es ds (decision_by (after_steps policy before) r) r → IsPlaced policy all before h.kernel_answered r
+        no_ruling ss es before ds r none p =
+            let d : Decision = decision_by (after_steps policy before) r in
+            let there : Has (decisions_in es) d = has_decision es d.number d.name d.held d.verdict d.cause (subst (λ (x : List Entry). Has x (decided_entry d)) (sym p.at) (has_at p.front (decided_entry d) p.back)) in
+            absurd (subst (λ (ds : List Decision). Has ds d) none there)
 
         reply_done : (lines : List (List ℕ)) (how : Settled) → was_done (Some (reply_to lines how)) ≡ true
         reply_done lines settled.Stands = refl
@@ -503,7 +526,7 @@ module _ (policy : Judging) (first : Kernel) (hs : List Happened) (h : Happened)
       ∙ ap (λ (l : List Told). told_of hs ++ (first_told ++ l)) (ap (λ (ds : List Decision). decided ds) (sym inside))
       ∙ ap (λ (o : Option Reply). told_of hs ++ (told_if (was_done o) (changes_asked (ready_of h) h.event) ++ decided (unordered (decisions_in h.after.sweep.entries)))) (sym law.reply)
       ∙ sym (told_append hs h) in
-      let swept = fair_so (tried_in h.answered.due) policy first (hs ++ h ∷ []) (told_of hs ++ first_told) (journal hs ++ a.entries) (moment_of h.event) (not a.listed) h.kernel_answered h.kernel_after a v b.at kept_hub (defaults_due h.answered.due h.kernel_answered a h.kernel_after v law.law) fair (λ r p. placed_new hs h fair.rest r (answered_values h.event h.kernel (ready_of h) h.became h.kernel_answered h.answered answers) entries (b.listed ∙ listed) p) b.so in
+      let swept = fair_so (tried_in h.answered.due) policy first (hs ++ h ∷ []) (told_of hs ++ first_told) (journal hs ++ a.entries) (moment_of h.event) (not a.listed) h.kernel_answered h.kernel_after a v b.at kept_hub (defaults_due h.answered.due h.kernel_answered a h.kernel_after v law.law) fair (λ before ds r told plain p. placed_new policy hs h fair.rest before ds r (answered_values h.event h.kernel (ready_of h) h.became h.kernel_answered h.answered answers) entries (b.listed ∙ listed) b.ordered (told ∙ ap (λ (o : Option Reply). (told_of hs ++ told_if (was_done o) (changes_asked (ready_of h) h.event)) ++ decided ds) (sym law.reply)) plain p) b.so in
       let last = noted_so policy first h.kernel_after (hs ++ h ∷ []) ((told_of hs ++ first_told) ++ ruled_told) ((journal hs ++ a.entries) ++ fair.rest) (y ∷ []) v h.after.sweep refl refl (ap (λ (z : State Judging). z.standings) law.entries) (ap (λ (z : State Judging). z.next) law.entries) (ap (λ (z : State Judging). z.hub) law.entries) (λ m. ap (λ (z : State Judging). at_moment m z.judge) law.entries) swept in (
         subst (λ (l : List Told). SoFar policy first h.kernel_after (hs ++ h ∷ []) l (journal (hs ++ h ∷ [])) h.after.sweep) told
             (subst (λ (es : List Entry). SoFar policy first h.kernel_after (hs ++ h ∷ []) ((told_of hs ++ first_told) ++ ruled_told) es h.after.sweep) whole last),
@@ -516,4 +539,4 @@ module _ (policy : Judging) (first : Kernel) (hs : List Happened) (h : Happened)
       )
 
 pub one_more : (policy : Judging) (first : Kernel) (hs : List Happened) (h : Happened) → AnswersEvent h.event h.kernel (ready_of h) h.became h.kernel_answered h.answered → Handled h.kernel_answered h.answered h.kernel_after h.after → h.before.sweep.listed ≡ has_listed hs → SoFar policy first h.kernel hs (told_of hs) (journal hs) h.before.sweep → SoFar policy first h.kernel_after (hs ++ h ∷ []) (told_of (hs ++ h ∷ [])) (journal (hs ++ h ∷ [])) h.after.sweep × (h.after.sweep.listed ≡ has_listed (hs ++ h ∷ [])) × (h.after.sweep.hub ≡ h.before.sweep.hub)
-one_more policy first hs h answers law listed so = one_event policy first hs h answers law listed so
+one_more policy first hs h answers law listed so = one_event policy first hs h law.reply so.agree answers law listed so

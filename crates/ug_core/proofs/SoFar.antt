@@ -39,13 +39,14 @@ use Rattle.ug_core.specs.declared.changes.Change.{Change}
 use Rattle.ug_core.specs.declared.changes.Change.TheVariants.{Rules, Set}
 use Rattle.ug_core.specs.Policy.{Judging, cause_for, choice_for, kept, by_choice, found_for, verdict_of, policy_answer, policy_later}
 use Rattle.ug_core.specs.Event.{moment_of}
-use Rattle.ug_core.specs.InForce.{Decision, decision_of, decisions_in, or_else, on_number, last_decision, last_judged, standing_decision, in_force, AgreeInForce, is_ordered, unordered, numbers_on, given_numbers, Follow}
+use Rattle.ug_core.specs.InForce.{Decision, decision_of, decided_entry, decisions_in, or_else, on_number, last_decision, last_judged, standing_decision, in_force, AgreeInForce, is_ordered, unordered, numbers_on, given_numbers, Follow}
 use Rattle.ug_core.specs.Rulings.{CanTake, Changed, Decided, PolicyStep, Ruled, Ruling, Told, Was_changed, after_ruling, after_steps, at_moment, decision_by, told_by}
 use Rattle.ug_core.specs.Values.{LogsValues}
 use Rattle.ug_core.specs.Laws.{tried_in}
 use Rattle.ug_core.specs.Chain.{Happened, ready_of, changes_asked, decided, journal, told_if, told_in, told_of, was_done, tells_unlisted, lists_all, has_listed, IsPlaced, WasAsked, WasOrdered}
-use Rattle.ug_core.proofs.InForce.{told_numbers, in_force_append, on_itself, on_another, unordered_append, unordered_all, decisions_append, decisions_more, has_decision, standing_found, fresh, numbers_append, follow_append, lift, lift_agree}
-use Rattle.ug_core.proofs.Steps.{after_ruled, can_ruled, can_then, ruled, ruled_has, ruled_unchanged, steps_append, told_ruled, told_then}
+use Rattle.ug_core.proofs.InForce.{one_judged, told_numbers, in_force_append, on_itself, on_another, unordered_append, unordered_all, decisions_append, decisions_more, has_decision, standing_found, fresh, numbers_append, follow_append, lift, lift_agree}
+use Rattle.ug_core.proofs.Splits.{has_at, place_of, where_cut, where_last}
+use Rattle.ug_core.proofs.Steps.{after_ruled, can_ruled, can_then, ruled, ruled_at, ruled_unchanged, steps_append, told_ruled, told_then}
 use Rattle.ug_core.proofs.Walk.{after_rulings, decisions_by, Effected, IsAt, None_written, Others, Uneffected, WasWritten, Written, walk}
 use Rattle.ug_core.proofs.Defaulted.{quiet_defaulted, ordered_defaulted}
 use Rattle.ug_core.proofs.Known.{IsKnown, AreKnown, known_grow, known_still, known_new}
@@ -180,9 +181,6 @@ ruling_of policy (Changed change ∷ steps) d (inr h) =
     let k = ruling_of (changed_by change policy) steps d h in
     record { before = Changed change ∷ k.before; ruling = k.ruling; after = k.after; at = ap (λ (l : List PolicyStep). Changed change ∷ l) k.at; is = k.is }
 
-pub step_has : (steps before after : List PolicyStep) (r : Ruling) → steps ≡ before ++ Ruled r ∷ after → Has steps (Ruled r)
-step_has steps before after r at = subst (λ (l : List PolicyStep). Has l (Ruled r)) (sym at) (has_right before (Ruled r ∷ after) (Ruled r) (inl refl))
-
 -- a decision that the events tell
 pub told_has : (hs : List Happened) (d : Decision) → Has (unordered (decisions_in (journal hs))) d → Has (told_of hs) (Decided d)
 told_has [] d h = absurd h
@@ -207,26 +205,25 @@ pub record SoFar (policy : Judging) (first k : Kernel) (hs : List Happened) (tl 
   pub told : tl ≡ told_by policy steps
   pub can : CanTake policy steps
   pub judge : Alike w.judge (after_steps policy steps)
-  pub placed : (r : Ruling) → Has steps (Ruled r) → IsPlaced hs k r
-  pub changed : (change : Change) → Has steps (Changed change) → WasAsked hs change
-  pub ordered : (d : Decision) → Has (decisions_in es) d → is_ordered d.cause ≡ true → WasOrdered hs d
+  pub placed : (before : List PolicyStep) (r : Ruling) (after : List PolicyStep) → steps ≡ before ++ Ruled r ∷ after → IsPlaced policy hs before k r
+  pub changed : (before : List PolicyStep) (change : Change) (after : List PolicyStep) → steps ≡ before ++ Changed change ∷ after → WasAsked policy hs before change
+  pub ordered : (front : List Entry) (d : Decision) (back : List Entry) → es ≡ front ++ decided_entry d ∷ back → is_ordered d.cause ≡ true → WasOrdered hs front d
   pub written : AllWritten w.hub es first k
   pub numbers : Follow 1 (given_numbers es) w.next
   pub agree : AgreeInForce [] es w.standings
   pub known : AreKnown (decisions_in es) k w.standings
   pub defaulted : AreDefaulted w.hub k w.standings
 
-pub placed_stays : (hs more : List Happened) (k l : Kernel) (r : Ruling) → Grows k l → IsPlaced hs k r → IsPlaced (hs ++ more) l r
-placed_stays hs more k l r g p = record {
+pub placed_stays : (policy : Judging) (hs more : List Happened) (before : List PolicyStep) (k l : Kernel) (r : Ruling) → Grows k l → IsPlaced policy hs before k r → IsPlaced policy (hs ++ more) before l r
+placed_stays policy hs more before k l r g p = record {
   earlier = p.earlier;
   event = p.event;
   later = p.later ++ more;
   in_run = ap (λ (x : List Happened). x ++ more) p.in_run ∙ append_assoc p.earlier (p.event ∷ p.later) more;
   front = p.front;
   back = p.back;
-  verdict = p.verdict;
-  cause = p.cause;
   in_event = p.in_event;
+  told = p.told;
   moment = p.moment;
   present = p.present;
   device = device_stays k l r.device r.name r.held r.judged g p.device;
@@ -237,10 +234,13 @@ placed_stays hs more k l r g p = record {
   marked = p.marked;
 }
 
-pub asked_stays : (hs more : List Happened) (change : Change) → WasAsked hs change → WasAsked (hs ++ more) change
-asked_stays hs more change a = record {
+pub asked_stays : (policy : Judging) (hs more : List Happened) (before : List PolicyStep) (change : Change) → WasAsked policy hs before change → WasAsked policy (hs ++ more) before change
+asked_stays policy hs more before change a = record {
+  earlier = a.earlier;
   event = a.event;
-  in_run = has_left hs more a.event a.in_run;
+  later = a.later ++ more;
+  in_run = ap (λ (x : List Happened). x ++ more) a.in_run ∙ append_assoc a.earlier (a.event ∷ a.later) more;
+  told = a.told;
   moment = a.moment;
   who = a.who;
   line = a.line;
@@ -249,10 +249,11 @@ asked_stays hs more change a = record {
   reads = a.reads;
   asks = a.asks;
   granted = a.granted;
+  done = a.done;
 }
 
-pub ordered_stays : (hs more : List Happened) (d : Decision) → WasOrdered hs d → WasOrdered (hs ++ more) d
-ordered_stays hs more d o = record {
+pub ordered_stays : (hs more : List Happened) (front : List Entry) (d : Decision) → WasOrdered hs front d → WasOrdered (hs ++ more) front d
+ordered_stays hs more front d o = record {
   earlier = o.earlier;
   event = o.event;
   later = o.later ++ more;
@@ -267,9 +268,13 @@ ordered_stays hs more d o = record {
   granted = o.granted;
   standing = o.standing;
   stands = o.stands;
+  force = o.force;
   name = o.name;
   held = o.held;
+  front = o.front;
+  back = o.back;
   in_event = o.in_event;
+  here = o.here;
 }
 
 -- nothing is written, while the run gets longer
@@ -282,15 +287,26 @@ still_so policy first k l hs more tl es w quiet so =
       told = so.told;
       can = so.can;
       judge = so.judge;
-      placed = λ r a. placed_stays hs more k l r g (so.placed r a);
-      changed = λ c a. asked_stays hs more c (so.changed c a);
-      ordered = λ d a is. ordered_stays hs more d (so.ordered d a is);
+      placed = λ before r after at. placed_stays policy hs more before k l r g (so.placed before r after at);
+      changed = λ before c after at. asked_stays policy hs more before c (so.changed before c after at);
+      ordered = λ front d back at is. ordered_stays hs more front d (so.ordered front d back at is);
       written = record { added = so.written.added; log = quiet.log ∙ so.written.log; each = written_stays w.hub [] k l es so.written.added g so.written.each };
       numbers = so.numbers;
       agree = so.agree;
       known = known_grow (decisions_in es) k l w.standings g so.known;
       defaulted = quiet_defaulted w.hub k l w.standings w.next quiet so.stand so.defaulted;
     }
+
+-- an order is told in the first of two lists of entries, where the second tells none
+ordered_in : (hs : List Happened) (es fs front : List Entry) (d : Decision) (back : List Entry) → ((a : Decision) → Has (decisions_in fs) a → is_ordered a.cause ≡ false) → ((front : List Entry) (d : Decision) (back : List Entry) → es ≡ front ++ decided_entry d ∷ back → is_ordered d.cause ≡ true → WasOrdered hs front d) → es ++ fs ≡ front ++ decided_entry d ∷ back → is_ordered d.cause ≡ true → WasOrdered hs front d
+ordered_in hs es fs front d back plain so at is = elim (where_cut es fs front (decided_entry d) back at) [
+  | inl c ↦ so front d c.rest c.here is
+  | inr p ↦
+      let there : Has fs (decided_entry d) = subst (λ (l : List Entry). Has l (decided_entry d)) (sym p.there) (has_at p.more (decided_entry d) back) in
+      let other : is_ordered d.cause ≡ false = plain d (has_decision fs d.number d.name d.held d.verdict d.cause there) in
+      let none : ⊥ = cc in
+      absurd none
+]
 
 -- entries that tell no decision, and a judge whose context alone is another
 pub noted_so : (policy : Judging) (first k : Kernel) (hs : List Happened) (tl : List Told) (es fs : List Entry) (w v : State Judging) → decisions_in fs ≡ [] → writes_in fs ≡ [] → v.standings ≡ w.standings → v.next ≡ w.next → v.hub ≡ w.hub → Alike v.judge w.judge → SoFar policy first k hs tl es w → SoFar policy first k hs tl (es ++ fs) v
@@ -304,7 +320,7 @@ noted_so policy first k hs tl es fs w v none unwritten standings next hub judge 
       judge = λ m. judge m ∙ so.judge m;
       placed = so.placed;
       changed = so.changed;
-      ordered = λ d a is. so.ordered d (subst (λ (ds : List Decision). Has ds d) same a) is;
+      ordered = λ front d back at is. ordered_in hs es fs front d back (λ a h. absurd (subst (λ (ds : List Decision). Has ds a) none h)) so.ordered at is;
       written = subst (λ (o : Option Write). AllWritten o (es ++ fs) first k) (sym hub) (record { added = so.written.added; log = so.written.log; each = Others es fs so.written.added unwritten so.written.each });
       numbers = subst (λ (n : ℕ). Follow 1 (given_numbers (es ++ fs)) n) (sym next) (subst (λ (ds : List Decision). Follow 1 (numbers_on (unordered ds)) w.next) (sym same) so.numbers);
       agree = λ s a. ap (λ (ds : List Decision). or_else (last_decision ds s.number) None) same ∙ so.agree s (subst (λ (ss : List Standing). Has ss s) standings a);
@@ -330,7 +346,7 @@ pub at_changed : (change : Change) (p : Judging) (m : Moment) → at_moment m (c
 at_changed (Rules edit) p m = refl
 at_changed (Set set) p m = refl
 
-pub changed_so : (policy : Judging) (first k : Kernel) (hs : List Happened) (tl : List Told) (es : List Entry) (w : State Judging) (change : Change) → CanChange change w.judge.rules → WasAsked hs change → SoFar policy first k hs tl es w
+pub changed_so : (policy : Judging) (first k : Kernel) (hs : List Happened) (tl : List Told) (es : List Entry) (w : State Judging) (change : Change) → CanChange change w.judge.rules → ((before : List PolicyStep) → told_by policy before ≡ tl → WasAsked policy hs before change) → SoFar policy first k hs tl es w
     → SoFar policy first k hs (tl ++ Was_changed change ∷ []) (es ++ change_entry change w.judge.next ∷ []) (record w { judge = changed_by change w.judge; entries = w.entries ++ change_entry change w.judge.next ∷ [] })
 changed_so policy first k hs tl es w change can was so =
     let e : Entry = change_entry change w.judge.next in
@@ -344,13 +360,17 @@ changed_so policy first k hs tl es w change can was so =
       told = ap (λ (l : List Told). l ++ Was_changed change ∷ []) so.told ∙ sym (told_then policy so.steps one);
       can = can_then policy so.steps one so.can (subst (λ (rs : List RuleEntry). CanChange change rs) rules can, tt);
       judge = λ m. at_changed change w.judge m ∙ ap (λ (j : Judging). changed_by change j) (so.judge m) ∙ sym (at_changed change q m) ∙ ap (λ (j : Judging). at_moment m j) (sym (steps_append policy so.steps one));
-      placed = λ r a. elim (has_cases so.steps one (Ruled r) a) [
-        | inl b ↦ so.placed r b
-        | inr b ↦ elim b [ inl same ↦ (let none : ⊥ = cc in absurd none) | inr none ↦ absurd none ]
+      placed = λ before r after at. elim (where_last so.steps (Changed change) before (Ruled r) after at) [
+        | inl c ↦ so.placed before r c.rest c.here
+        | inr b ↦ (let other : Changed change ≡ Ruled r = b.1 in let none : ⊥ = cc in absurd none)
       ];
-      changed = λ c a. elim (has_cases so.steps one (Changed c) a) [
-        | inl b ↦ so.changed c b
-        | inr b ↦ elim b [ inl same ↦ (let is : change ≡ c = cc in subst (λ (x : Change). WasAsked hs x) is was) | inr none ↦ absurd none ]
+      changed = λ before c after at. elim (where_last so.steps (Changed change) before (Changed c) after at) [
+        | inl b ↦ so.changed before c b.rest b.here
+        | inr b ↦
+            let steps : so.steps ≡ before = b.0 in
+            let both : Changed change ≡ Changed c = b.1 in
+            let is : change ≡ c = cc in
+            subst (λ (x : Change). WasAsked policy hs before x) is (was before (ap (λ (l : List PolicyStep). told_by policy l) (sym steps) ∙ sym so.told))
       ];
       ordered = noted.ordered;
       written = noted.written;
@@ -385,7 +405,7 @@ one_ordered number verdict who ss x s distinct at a =
         let now : s ≡ y = sym same ∙ ordered_other number verdict who y is in
         record { before = y; has = has; is = inr (λ n. let other : y.number ≡ number = sym (ap (λ (v : Standing). v.number) now) ∙ n in grind (arith, is, other), now); same_number = ap (λ (v : Standing). v.number) now; same_held = ap (λ (v : Standing). v.held) now }
 
-pub ordered_so : (policy : Judging) (first k : Kernel) (hs : List Happened) (tl : List Told) (es : List Entry) (w : State Judging) (number : ℕ) (verdict : Target) (who : Named) (x : Standing) → numbered number w.standings ≡ Some x → WasOrdered hs (decision_of (with_verdict verdict who x)) → SoFar policy first k hs tl es w → SoFar policy first k hs tl (es ++ verdict_entry (with_verdict verdict who x) ∷ []) (just_ordered number verdict who x w)
+pub ordered_so : (policy : Judging) (first k : Kernel) (hs : List Happened) (tl : List Told) (es : List Entry) (w : State Judging) (number : ℕ) (verdict : Target) (who : Named) (x : Standing) → numbered number w.standings ≡ Some x → WasOrdered hs es (decision_of (with_verdict verdict who x)) → SoFar policy first k hs tl es w → SoFar policy first k hs tl (es ++ verdict_entry (with_verdict verdict who x) ∷ []) (just_ordered number verdict who x w)
 ordered_so policy first k hs tl es w number verdict who x at was so =
     let y : Standing = with_verdict verdict who x in
     let c : Decision = decision_of y in
@@ -403,9 +423,10 @@ ordered_so policy first k hs tl es w number verdict who x at was so =
       judge = so.judge;
       placed = so.placed;
       changed = so.changed;
-      ordered = λ d a is. elim (has_cases ds (c ∷ []) d (subst (λ (l : List Decision). Has l d) whole a)) [
-        | inl b ↦ so.ordered d b is
-        | inr b ↦ elim b [ inl e ↦ subst (λ (v : Decision). WasOrdered hs v) e was | inr none ↦ absurd none ]
+      ordered = λ front d back at is. elim (where_last es (verdict_entry y) front (decided_entry d) back at) [
+        | inl b ↦ so.ordered front d b.rest b.here is
+        | inr b ↦
+            subst (λ (v : Decision). WasOrdered hs front v) (one_judged c d b.1) (subst (λ (l : List Entry). WasOrdered hs l c) b.0 was)
       ];
       written = record { added = so.written.added; log = so.written.log; each = Others es (verdict_entry y ∷ []) so.written.added refl so.written.each };
       numbers = subst (λ (l : List Decision). Follow 1 (numbers_on l) w.next) (sym same) so.numbers;
@@ -474,7 +495,7 @@ pub record IsRulingOf (p : Judging) (rs : List Ruling) (d : Decision) : Type 0 w
 pub ruling_in : (p : Judging) (rs : List Ruling) (d : Decision) → Has (decisions_by p rs) d → IsRulingOf p rs d
 ruling_in p rs d h =
     let x = ruling_of p (ruled rs) d (subst (λ (l : List Told). Has l (Decided d)) (sym (told_ruled p rs)) (has_map Decided (decisions_by p rs) d h)) in
-    record { policy = after_steps p x.before; ruling = x.ruling; has = ruled_has rs x.ruling (step_has (ruled rs) x.before x.after x.ruling x.at); is = x.is }
+    record { policy = after_steps p x.before; ruling = x.ruling; has = (let k = ruled_at rs x.before x.ruling x.after x.at in subst (λ (l : List Ruling). Has l x.ruling) (sym k.at) (has_at k.earlier x.ruling k.later)); is = x.is }
 
 pub decision_given : (p : Judging) (rs : List Ruling) (d : Decision) → Has (decisions_by p rs) d → is_ordered d.cause ≡ false
 decision_given p rs d h =
@@ -490,7 +511,7 @@ device_of policy rs l d devices h =
     (r.device, r.judged, subst (λ (y : Decision). IsDevice l r.device y.name y.held r.judged) x.is (devices r x.has))
 
 -- the last stage of an event, or the writes of an order
-pub fair_so : (tried : Tries) (policy : Judging) (first : Kernel) (hs : List Happened) (tl : List Told) (es : List Entry) (moment : Moment) (present : Bool) (k l : Kernel) (w v : State Judging) → at_moment moment w.judge ≡ w.judge → v.hub ≡ w.hub → (AreDefaulted w.hub k w.standings → AreDefaulted w.hub l v.standings) → (fair : IsFair policy_answer policy_later (terms_of present w.hub) tried k w l v) → ((r : Ruling) → IsAt tried present moment k l w.standings fair.rest r → IsPlaced hs l r) → SoFar policy first k hs tl es w → SoFar policy first l hs (tl ++ decided (unordered (decisions_in fair.rest))) (es ++ fair.rest) v
+pub fair_so : (tried : Tries) (policy : Judging) (first : Kernel) (hs : List Happened) (tl : List Told) (es : List Entry) (moment : Moment) (present : Bool) (k l : Kernel) (w v : State Judging) → at_moment moment w.judge ≡ w.judge → v.hub ≡ w.hub → (AreDefaulted w.hub k w.standings → AreDefaulted w.hub l v.standings) → (fair : IsFair policy_answer policy_later (terms_of present w.hub) tried k w l v) → ((before : List PolicyStep) (ds : List Decision) (r : Ruling) → told_by policy before ≡ tl ++ decided ds → ((d : Decision) → Has ds d → is_ordered d.cause ≡ false) → IsAt tried present moment k l w.standings fair.rest ds (decision_by (after_steps policy before) r) r → IsPlaced policy hs before l r) → SoFar policy first k hs tl es w → SoFar policy first l hs (tl ++ decided (unordered (decisions_in fair.rest))) (es ++ fair.rest) v
 fair_so tried policy first hs tl es moment present k l w v at hub keeps fair placing so =
     let rest : List Entry = fair.rest in
     let ss : List Standing = w.standings in
@@ -503,7 +524,7 @@ fair_so tried policy first hs tl es moment present k l w v at hub keeps fair pla
     let given : unordered (decisions_in (es ++ rest)) ≡ unordered (decisions_in es) ++ decisions_in rest = ap (λ (ds : List Decision). unordered ds) all ∙ unordered_append (decisions_in es) (decisions_in rest) ∙ ap (λ (ds : List Decision). unordered (decisions_in es) ++ ds) inner in
     let known : AreKnown (decisions_in es ++ decisions_in rest) l v.standings = λ c a. elim (has_cases (decisions_in es) (decisions_in rest) c a) [
       | inl b ↦ known_still (decisions_in es) k l ss v.standings w.next rest v.next fair.grows so.stand says fair.left so.known c b
-      | inr b ↦ known_new k l ss v.standings w.next rest v.next so.stand says fair.left (λ e i. device_of w.judge x.rulings l e (λ r z. (x.placed r z).device) (subst (λ (ds : List Decision). Has ds e) x.told i)) c b
+      | inr b ↦ known_new k l ss v.standings w.next rest v.next so.stand says fair.left (λ e i. device_of w.judge x.rulings l e (λ r z. let at = place_of x.rulings r z in (x.placed at.0 r at.1 at.2).device) (subst (λ (ds : List Decision). Has ds e) x.told i)) c b
     ] in
     record {
       stand = fair.stand;
@@ -514,18 +535,26 @@ fair_so tried policy first hs tl es moment present k l w v at hub keeps fair pla
           ∙ sym (told_then policy so.steps (ruled x.rulings));
       can = can_then policy so.steps (ruled x.rulings) so.can (can_ruled (after_steps policy so.steps) x.rulings);
       judge = λ m. ap (λ (j : Judging). at_moment m j) x.judge_is ∙ alike_after w.judge (after_steps policy so.steps) x.rulings so.judge m ∙ ap (λ (j : Judging). at_moment m j) (sym (after_ruled (after_steps policy so.steps) x.rulings) ∙ sym (steps_append policy so.steps (ruled x.rulings)));
-      placed = λ r a. elim (has_cases so.steps (ruled x.rulings) (Ruled r) a) [
-        | inl b ↦ placed_same hs k l r fair.grows (so.placed r b)
-        | inr b ↦ placing r (x.placed r (ruled_has x.rulings r b))
+      placed = λ before r after at. elim (where_cut so.steps (ruled x.rulings) before (Ruled r) after at) [
+        | inl b ↦ placed_same policy hs before k l r fair.grows (so.placed before r b.rest b.here)
+        | inr b ↦
+            let a = ruled_at x.rulings b.more r after b.there in
+            let q : Judging = after_steps policy so.steps in
+            let ds : List Decision = decisions_by w.judge a.earlier in
+            let steps : before ≡ so.steps ++ ruled a.earlier = b.beyond ∙ ap (λ (l : List PolicyStep). so.steps ++ l) a.more_is in
+            let told : told_by policy before ≡ tl ++ decided ds =
+            ap (λ (l : List PolicyStep). told_by policy l) steps ∙ told_then policy so.steps (ruled a.earlier)
+            ∙ ap (λ (l : List Told). l ++ told_by q (ruled a.earlier)) (sym so.told)
+            ∙ ap (λ (l : List Told). tl ++ l) (told_ruled q a.earlier ∙ ap (λ (l : List Decision). decided l) (sym (alike_decisions w.judge q a.earlier so.judge))) in
+            let same : after_steps policy before ≡ after_rulings q a.earlier = ap (λ (l : List PolicyStep). after_steps policy l) steps ∙ steps_append policy so.steps (ruled a.earlier) ∙ after_ruled q a.earlier in
+            let one : decision_by (after_rulings w.judge a.earlier) r ≡ decision_by (after_steps policy before) r = decision_alike (after_rulings w.judge a.earlier) (after_steps policy before) r (alike_after w.judge q a.earlier so.judge r.moment ∙ ap (λ (j : Judging). at_moment r.moment j) (sym same)) in
+            placing before ds r told (decision_given w.judge a.earlier) (subst (λ (d : Decision). IsAt tried present moment k l ss rest ds d r) one (x.placed a.earlier r a.later a.at))
       ];
-      changed = λ c a. elim (has_cases so.steps (ruled x.rulings) (Changed c) a) [
-        | inl b ↦ so.changed c b
-        | inr b ↦ absurd (ruled_unchanged x.rulings c b)
+      changed = λ before c after at. elim (where_cut so.steps (ruled x.rulings) before (Changed c) after at) [
+        | inl b ↦ so.changed before c b.rest b.here
+        | inr b ↦ absurd (ruled_unchanged x.rulings c (subst (λ (l : List PolicyStep). Has l (Changed c)) (sym b.there) (has_at b.more (Changed c) after)))
       ];
-      ordered = λ d a is. elim (has_cases (decisions_in es) (decisions_in rest) d (subst (λ (ds : List Decision). Has ds d) all a)) [
-        | inl b ↦ so.ordered d b is
-        | inr b ↦ (let other = plain d b in let none : ⊥ = cc in absurd none)
-      ];
+      ordered = λ front d back at is. ordered_in hs es rest front d back plain so.ordered at is;
       written = subst (λ (o : Option Write). AllWritten o (es ++ rest) first l) (sym hub) (record {
         added = so.written.added ++ x.added;
         log = x.log_is ∙ ap (λ (ws : List Effect). ws ++ x.added) so.written.log ∙ append_assoc first.log so.written.added x.added;
@@ -537,14 +566,24 @@ fair_so tried policy first hs tl es moment present k l w v at hub keeps fair pla
       defaulted = subst (λ (o : Option Write). AreDefaulted o l v.standings) (sym hub) (keeps so.defaulted);
     }
   where
-    placed_same : (hs : List Happened) (k l : Kernel) (r : Ruling) → Grows k l → IsPlaced hs k r → IsPlaced hs l r
-    placed_same hs k l r g p = subst (λ (x : List Happened). IsPlaced x l r) (append-nil hs) (placed_stays hs [] k l r g p)
+    placed_same : (policy : Judging) (hs : List Happened) (before : List PolicyStep) (k l : Kernel) (r : Ruling) → Grows k l → IsPlaced policy hs before k r → IsPlaced policy hs before l r
+    placed_same policy hs before k l r g p = subst (λ (x : List Happened). IsPlaced policy x before l r) (append-nil hs) (placed_stays policy hs [] before k l r g p)
 
-pub placed_new : (hs : List Happened) (h : Happened) (rest : List Entry) (r : Ruling) → LogsValues h.kernel h.kernel_answered → h.after.sweep.entries ≡ h.answered.sweep.entries ++ (rest ++ entry.End h.answered.event ∷ []) → h.answered.sweep.listed ≡ has_listed hs
-    → IsAt (tried_in h.answered.due) (not h.answered.sweep.listed) (moment_of h.event) h.kernel_answered h.kernel_after h.answered.sweep.standings rest r → IsPlaced (hs ++ h ∷ []) h.kernel_after r
-placed_new hs h rest r values entries listed p =
+    decision_alike : (p q : Judging) (r : Ruling) → at_moment r.moment p ≡ at_moment r.moment q → decision_by p r ≡ decision_by q r
+    decision_alike p q r same = ap (λ (x : Judging). record { number = r.number; name = r.name; held = r.held; verdict = (verdict_of x (allowed_records r.standings) r.judged (is_none (parent_of r.name)) r.present r.on).0; cause = (verdict_of x (allowed_records r.standings) r.judged (is_none (parent_of r.name)) r.present r.on).1 }) same
+
+-- the place of a ruling of the last stage of an event
+pub placed_new : (policy : Judging) (hs : List Happened) (h : Happened) (rest : List Entry) (before : List PolicyStep) (ds : List Decision) (r : Ruling) → LogsValues h.kernel h.kernel_answered → h.after.sweep.entries ≡ h.answered.sweep.entries ++ (rest ++ entry.End h.answered.event ∷ []) → h.answered.sweep.listed ≡ has_listed hs → unordered (decisions_in h.answered.sweep.entries) ≡ []
+    → told_by policy before ≡ (told_of hs ++ told_if (was_done h.after.reply) (changes_asked (ready_of h) h.event)) ++ decided ds → ((d : Decision) → Has ds d → is_ordered d.cause ≡ false)
+    → IsAt (tried_in h.answered.due) (not h.answered.sweep.listed) (moment_of h.event) h.kernel_answered h.kernel_after h.answered.sweep.standings rest ds (decision_by (after_steps policy before) r) r → IsPlaced policy (hs ++ h ∷ []) before h.kernel_after r
+placed_new policy hs h rest before ds r values entries listed silent told plain p =
     let y : Entry = entry.End h.answered.event in
-    let this : Entry = entry.Judged r.number r.name r.held p.verdict p.cause in
+    let this : Entry = decided_entry (decision_by (after_steps policy before) r) in
+    let asked : List Told = told_if (was_done h.after.reply) (changes_asked (ready_of h) h.event) in
+    let front_plain : unordered (decisions_in p.front) ≡ decisions_in p.front = unordered_all (decisions_in p.front) (λ d a. plain d (subst (λ (l : List Decision). Has l d) p.told a)) in
+    let amid : unordered (decisions_in (h.answered.sweep.entries ++ p.front)) ≡ ds =
+    ap (λ (l : List Decision). unordered l) (decisions_append h.answered.sweep.entries p.front) ∙ unordered_append (decisions_in h.answered.sweep.entries) (decisions_in p.front)
+    ∙ ap (λ (l : List Decision). l ++ unordered (decisions_in p.front)) silent ∙ front_plain ∙ p.told in
     record {
       earlier = hs;
       event = h;
@@ -552,9 +591,8 @@ placed_new hs h rest r values entries listed p =
       in_run = refl;
       front = p.front;
       back = p.back ++ y ∷ [];
-      verdict = p.verdict;
-      cause = p.cause;
       in_event = entries ∙ ap (λ (es : List Entry). h.answered.sweep.entries ++ (es ++ y ∷ [])) p.at ∙ ap (λ (es : List Entry). h.answered.sweep.entries ++ es) (append_assoc p.front (this ∷ p.back) (y ∷ []));
+      told = told ∙ append_assoc (told_of hs) asked (decided ds) ∙ ap (λ (l : List Decision). told_of hs ++ (asked ++ decided l)) (sym amid);
       moment = p.moment_is;
       present = p.present_is ∙ ap (λ (b : Bool). not b) listed;
       device = p.device;

@@ -10,7 +10,6 @@ use Rattle.ug_kernel.specs.declared.control.Held.{Held}
 use Rattle.ug_types.specs.declared.verdict.Target.{Target}
 use Rattle.ug_types.specs.declared.verdict.Cause.{Cause}
 use Rattle.ug_types.specs.declared.verdict.Moment.{Moment}
-use Rattle.ug_types.proofs.Elements.{last_is}
 use Rattle.ug_kernel.specs.declared.device.Effect.{Effect}
 use Rattle.ug_kernel.specs.declared.calls.Wrote.{Wrote}
 use Rattle.ug_kernel.specs.Kernel.{Kernel}
@@ -23,8 +22,9 @@ use Rattle.ug_table.specs.Parts.{writes_in}
 use Rattle.ug_table.specs.State.{Terms}
 use Rattle.ug_table.specs.declared.standing.Standing.{Standing}
 use Rattle.ug_core.specs.Policy.{Judging, later_of, policy_answer, policy_later}
-use Rattle.ug_core.specs.InForce.{Decision, decisions_in, decision_of, or_else, standing_decision, in_force, numbers_on, Follow}
+use Rattle.ug_core.specs.InForce.{Decision, decisions_in, decided_entry, decision_of, or_else, standing_decision, in_force, numbers_on, Follow}
 use Rattle.ug_core.specs.Rulings.{Ruling, at_moment, ruling_answer, after_ruling, decision_by}
+use Rattle.ug_core.proofs.Splits.{never_in, where_last}
 use Rattle.ug_core.proofs.InForce.{told_numbers, decisions_append, decisions_more, has_decision, neither_none, standing_found, fresh, numbers_append, follow_append}
 
 -- rulings one after another, with nothing changed between them
@@ -48,13 +48,12 @@ pub decisions_then : (p : Judging) (rs qs : List Ruling) → decisions_by p (rs 
 decisions_then p [] qs = refl
 decisions_then p (r ∷ rs) qs = ap (λ (l : List Decision). decision_by p r ∷ l) (decisions_then (after_ruling p r) rs qs)
 
--- the ruling stands at its place among entries since the account began
-pub record IsAt (tried : Tries) (present : Bool) (moment : Moment) (start k : Kernel) (before : List Standing) (es : List Entry) (r : Ruling) : Type 0 where
+-- the ruling stands at its place among entries since the account began: where that decision is told, behind those
+pub record IsAt (tried : Tries) (present : Bool) (moment : Moment) (start k : Kernel) (before : List Standing) (es : List Entry) (ds : List Decision) (d : Decision) (r : Ruling) : Type 0 where
   pub front : List Entry
   pub back : List Entry
-  pub verdict : Target
-  pub cause : Cause
-  pub at : es ≡ front ++ entry.Judged r.number r.name r.held verdict cause ∷ back
+  pub at : es ≡ front ++ decided_entry d ∷ back
+  pub told : decisions_in front ≡ ds
   pub moment_is : r.moment ≡ moment
   pub present_is : r.present ≡ present
   pub device : IsDevice k r.device r.name r.held r.judged
@@ -81,19 +80,18 @@ pub record Walked (tried : Tries) (terms : Terms) (moment : Moment) (start k : K
   pub rulings : List Ruling
   pub told : decisions_in es ≡ decisions_by policy rulings
   pub judge_is : judge ≡ at_moment moment (after_rulings policy rulings)
-  pub placed : (r : Ruling) → Has rulings r → IsAt tried terms.present moment start k before es r
+  pub placed : (earlier : List Ruling) (r : Ruling) (later : List Ruling) → rulings ≡ earlier ++ r ∷ later → IsAt tried terms.present moment start k before es (decisions_by policy earlier) (decision_by (after_rulings policy earlier) r) r
   pub numbers : Follow next0 (told_numbers es) next
   pub added : List Effect
   pub log_is : log ≡ log0 ++ added
   pub written : Written terms.hub before k es added
 
-at_more : (tried : Tries) (present : Bool) (moment : Moment) (start k : Kernel) (before : List Standing) (es ws : List Entry) (r : Ruling) → IsAt tried present moment start k before es r → IsAt tried present moment start k before (es ++ ws) r
-at_more tried present moment start k before es ws r h = record {
+at_more : (tried : Tries) (present : Bool) (moment : Moment) (start k : Kernel) (before : List Standing) (es ws : List Entry) (ds : List Decision) (d : Decision) (r : Ruling) → IsAt tried present moment start k before es ds d r → IsAt tried present moment start k before (es ++ ws) ds d r
+at_more tried present moment start k before es ws ds d r h = record {
   front = h.front;
   back = h.back ++ ws;
-  verdict = h.verdict;
-  cause = h.cause;
-  at = ap (λ (l : List Entry). l ++ ws) h.at ∙ append_assoc h.front (entry.Judged r.number r.name r.held h.verdict h.cause ∷ h.back) ws;
+  at = ap (λ (l : List Entry). l ++ ws) h.at ∙ append_assoc h.front (decided_entry d ∷ h.back) ws;
+  told = h.told;
   moment_is = h.moment_is;
   present_is = h.present_is;
   device = h.device;
@@ -117,7 +115,7 @@ more tried terms moment start k before log0 policy next0 es ws log judge next no
   rulings = h.rulings;
   told = decisions_more es ws none ∙ h.told;
   judge_is = h.judge_is;
-  placed = λ r a. at_more tried terms.present moment start k before es ws r (h.placed r a);
+  placed = λ earlier r later e. at_more tried terms.present moment start k before es ws (decisions_by policy earlier) (decision_by (after_rulings policy earlier) r) r (h.placed earlier r later e);
   numbers = subst (λ (ds : List Decision). Follow next0 (numbers_on ds) next) (sym (decisions_more es ws none)) h.numbers;
   added = h.added;
   log_is = h.log_is;
@@ -146,9 +144,12 @@ judged_more tried terms moment start k before log0 policy next0 es log judge nex
       rulings = h.rulings ++ r ∷ [];
       told = whole ∙ ap (λ (l : List Decision). l ++ this ∷ []) h.told ∙ ap (λ (y : Decision). decisions_by policy h.rulings ++ y ∷ []) that ∙ sym (decisions_then policy h.rulings (r ∷ []));
       judge_is = ap (λ (j : Judging). policy_later j dev (is_none (parent_of name)) terms.present on ss) h.judge_is ∙ at_again moment p (allowed_records ss) dev (is_none (parent_of name)) terms.present ∙ ap (λ (j : Judging). at_moment moment j) (sym (after_append policy h.rulings (r ∷ [])));
-      placed = λ q y. elim (last_is h.rulings r q y) [
-        | inl z ↦ at_more tried terms.present moment start k before es (x ∷ []) q (h.placed q z)
-        | inr is ↦ subst (λ (q : Ruling). IsAt tried terms.present moment start k before (es ++ x ∷ []) q) is (record { front = es; back = []; verdict = a.0; cause = a.1; at = refl; moment_is = refl; present_is = refl; device = d; probed = b; stand = stand; left = left; marked = so })
+      placed = λ earlier q later e. elim (where_last h.rulings r earlier q later e) [
+        | inl c ↦ at_more tried terms.present moment start k before es (x ∷ []) (decisions_by policy earlier) (decision_by (after_rulings policy earlier) q) q (h.placed earlier q c.rest c.here)
+        | inr is ↦
+            subst (λ (rs : List Ruling). IsAt tried terms.present moment start k before (es ++ x ∷ []) (decisions_by policy rs) (decision_by (after_rulings policy rs) q) q) is.0
+            (subst (λ (q : Ruling). IsAt tried terms.present moment start k before (es ++ x ∷ []) (decisions_by policy h.rulings) (decision_by p q) q) is.1
+            (record { front = es; back = []; at = ap (λ (y : Decision). es ++ decided_entry y ∷ []) that; told = h.told; moment_is = refl; present_is = refl; device = d; probed = b; stand = stand; left = left; marked = so }))
       ];
       numbers = subst (λ (ds : List Decision). Follow next0 (numbers_on ds) (next + 1)) (sym whole) (subst (λ (l : List ℕ). Follow next0 l (next + 1)) (sym (numbers_append (decisions_in es) (this ∷ []))) (follow_append next0 (told_numbers es) (next ∷ []) next (next + 1) h.numbers (refl, refl)));
       added = h.added;
@@ -170,7 +171,7 @@ forced before es next0 next number name held verdict low distinct follow (inr t)
     (t.0, ap (λ (o : Option Decision). or_else o (standing_decision before number)) (f.told (record { number = number; name = name; held = held; verdict = verdict; cause = t.0 }) (has_decision es number name held verdict t.0 t.1)).1)
 
 pub walk : (tried : Tries) (terms : Terms) (moment : Moment) (start k : Kernel) (before : List Standing) (log0 : List Effect) (policy : Judging) (next0 : ℕ) → ((s : Standing) → Has before s → s.number < next0) → AllDistinct (numbers_of before) → (es : List Entry) (log : List Effect) (judge : Judging) (next : ℕ) → Account policy_answer policy_later terms tried start k before log0 (at_moment moment policy) next0 es log judge next → Walked tried terms moment start k before log0 policy next0 es log judge next
-walk tried terms moment start k before log0 policy next0 low distinct es log judge next Start = record { rulings = []; told = refl; judge_is = refl; placed = λ r h. absurd h; numbers = refl; added = []; log_is = sym (append-nil log0); written = None_written }
+walk tried terms moment start k before log0 policy next0 low distinct es log judge next Start = record { rulings = []; told = refl; judge_is = refl; placed = λ earlier r later e. absurd (never_in earlier r later e); numbers = refl; added = []; log_is = sym (append-nil log0); written = None_written }
 walk tried terms moment start k before log0 policy next0 low distinct es log judge next (Note fs m j n e t a) = more tried terms moment start k before log0 policy next0 fs (e ∷ []) m j n (ap (λ (l : List Decision). l ++ []) (neither_none e t)) (λ added w. Others fs (e ∷ []) added (neither_writes e t) w) (walk tried terms moment start k before log0 policy next0 low distinct fs m j n a)
 walk tried terms moment start k before log0 policy next0 low distinct es log judge next (Judge fs m j n i name held dev on ss d b stand left so a) = judged_more tried terms moment start k before log0 policy next0 fs m j n i name held dev on ss d b stand left so (walk tried terms moment start k before log0 policy next0 low distinct fs m j n a)
 walk tried terms moment start k before log0 policy next0 low distinct es log judge next (Had_not fs m j n i number name held dev verdict what outcome d v due once may a) = more tried terms moment start k before log0 policy next0 fs (wrote_entries number name what outcome) m j n refl (λ added w. Uneffected fs added number name what outcome may w) (walk tried terms moment start k before log0 policy next0 low distinct fs m j n a)
@@ -186,7 +187,7 @@ walk tried terms moment start k before log0 policy next0 low distinct es log jud
       rulings = old.rulings;
       told = decisions_more fs two refl ∙ old.told;
       judge_is = old.judge_is;
-      placed = λ r y. at_more tried terms.present moment start k before fs two r (old.placed r y);
+      placed = λ earlier r later e. at_more tried terms.present moment start k before fs two (decisions_by policy earlier) (decision_by (after_rulings policy earlier) r) r (old.placed earlier r later e);
       numbers = subst (λ (ds : List Decision). Follow next0 (numbers_on ds) n) (sym (decisions_more fs two refl)) old.numbers;
       added = old.added ++ new ∷ [];
       log_is = ap (λ (l : List Effect). l ++ new ∷ []) old.log_is ∙ append_assoc log0 old.added (new ∷ []);

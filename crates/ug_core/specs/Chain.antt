@@ -2,12 +2,9 @@
 -- left.
 use Rattle.std.specs.Prelude.{◌≡◌, ℕ, Bool, true, false, not, is_none, ◌&&◌, ◌||◌, List, [], ◌∷◌, ◌++◌, map, Option, Some, None, Ok, ◌⊎◌, slice_get}
 use Rattle.std.specs.List.{list_any}
-use Rattle.ug_types.specs.Elements.{Has}
 use Rattle.ug_types.specs.Names.{parent_of}
 use Rattle.ug_types.specs.declared.refusal.Refusal.TheVariants as refusal
 use Rattle.ug_types.specs.declared.saved.Saved.{Saved}
-use Rattle.ug_types.specs.declared.verdict.Target.{Target}
-use Rattle.ug_types.specs.declared.verdict.Cause.{Cause}
 use Rattle.ug_types.specs.declared.verdict.Cause.TheVariants as causes
 use Rattle.ug_types.specs.declared.verdict.Moment.{Moment}
 use Rattle.ug_kernel.specs.declared.control.Control.TheVariants.{Authorized}
@@ -40,11 +37,11 @@ use Rattle.ug_core.specs.Durable.{IsKept, unsure_behind, unsure_with, KeepsRules
 use Rattle.ug_core.specs.Event.{DaemonState, IsStarted, moment_of, ready}
 use Rattle.ug_core.specs.Pending.{TriesSave}
 use Rattle.ug_core.specs.Privileges.{is_granted}
-use Rattle.ug_core.specs.InForce.{Decision, decision_of, decisions_in, is_ordered, unordered, in_force, AgreeInForce, given_numbers, Follow}
+use Rattle.ug_core.specs.InForce.{Decision, IsLastTold, decision_of, decisions_in, decided_entry, is_ordered, unordered, in_force, AgreeInForce, given_numbers, Follow}
 use Rattle.ug_core.specs.Laws.{AnswersEvent, Handled, tried_in}
 use Rattle.ug_core.specs.Changes.{change_asked}
-use Rattle.ug_core.specs.Values.{on_by}
-use Rattle.ug_core.specs.Rulings.{CanTake, Changed, Decided, PolicyStep, Ruled, Ruling, Told, Was_changed, after_steps, at_moment, told_by}
+use Rattle.ug_core.specs.Values.{LogsValues, on_by}
+use Rattle.ug_core.specs.Rulings.{CanTake, Changed, Decided, PolicyStep, Ruled, Ruling, Told, Was_changed, after_steps, at_moment, decision_by, told_by}
 use Rattle.ug_core.specs.declared.changes.Change.{Change}
 use Rattle.ug_core.specs.declared.storing.Stored.{Stored}
 use Rattle.ug_types.specs.declared.event.Event.{Event}
@@ -146,24 +143,33 @@ abbrev pub IsAsMet : Kernel → Kernel → ℕ → Bool → Type 0
 IsAsMet k l i on = (d : Device) → slice_get k.devices i ≡ Some d
     → (more : List Effect) × (l.log ≡ k.log ++ more) × (on ≡ on_by i more d.on)
 
--- The place of a ruling in a run: its event, and in that the `judged` entry of its number. The
--- moment is the event's. Devices count as present where no listing of an earlier event had
--- succeeded. The record is that of the very device of the held file. The value is the one that this
--- device had when the sweep began, if it was there then; and that it had when the event began, but
--- for what the writes of its order made of it. The standings are those that are left there of the
--- ones that the last stage began with, and each is marked as settled as is told there.
-pub record IsPlaced (hs : List Happened) (k : Kernel) (r : Ruling) : Type 0 where
+-- what was told of the policy before the entries that the event's last stage noted behind these
+abbrev pub told_before : List Happened → Happened → List Entry → List Told
+told_before earlier h front =
+    told_of earlier
+    ++ (told_if (was_done h.after.reply) (changes_asked (ready_of h) h.event)
+    ++ decided (unordered (decisions_in (h.answered.sweep.entries ++ front))))
+
+-- The place of a ruling in a run, behind these steps of the policy: its event, and in that the
+-- `judged` entry of its number, with the verdict and the cause that the policy gave as these steps
+-- left it. They are just what was told before that entry. The moment is the event's. Devices count
+-- as present where no listing of an earlier event had succeeded. The record is that of the very
+-- device of the held file. The value is the one that this device had when the sweep began, if it
+-- was there then; and that it had when the event began, but for what the writes of its order made
+-- of it. The standings are those that are left there of the ones that the last stage began with,
+-- and each is marked as settled as is told there.
+pub record IsPlaced (policy : Judging) (hs : List Happened) (before : List PolicyStep) (k : Kernel)
+    (r : Ruling) : Type 0 where
   pub earlier : List Happened
   pub event : Happened
   pub later : List Happened
   pub in_run : hs ≡ earlier ++ event ∷ later
   pub front : List Entry
   pub back : List Entry
-  pub verdict : Target
-  pub cause : Cause
   pub in_event : event.after.sweep.entries
       ≡ event.answered.sweep.entries
-      ++ (front ++ entry.Judged r.number r.name r.held verdict cause ∷ back)
+      ++ (front ++ decided_entry (decision_by (after_steps policy before) r) ∷ back)
+  pub told : told_by policy before ≡ told_before earlier event front
   pub moment : r.moment ≡ moment_of event.event
   pub present : r.present ≡ not (has_listed earlier)
   pub device : IsDevice k r.device r.name r.held r.judged
@@ -174,11 +180,12 @@ pub record IsPlaced (hs : List Happened) (k : Kernel) (r : Ruling) : Type 0 wher
   pub marked : AreMarkedIn (tried_in event.answered.due) r.name event.answered.sweep.standings front
       r.standings
 
--- The decision is that of a ruling on that device at its place in the run: it was given by the
--- policy as all rulings and changes before it left it, with the words that they didn't take, and
--- with the histories of their judgements.
+-- The decision, which is told behind these entries of the journal, is that of a ruling on that
+-- device at just this place in the run: it was given by the policy as all rulings and changes
+-- before it left it, with the words that they didn't take, and with the histories of their
+-- judgements.
 pub record WasJudged (policy : Judging) (hs : List Happened) (steps : List PolicyStep) (k : Kernel)
-    (i : ℕ) (d : Decision) : Type 0 where
+    (es : List Entry) (i : ℕ) (d : Decision) : Type 0 where
   pub before : List PolicyStep
   pub ruling : Ruling
   pub after : List PolicyStep
@@ -187,16 +194,23 @@ pub record WasJudged (policy : Judging) (hs : List Happened) (steps : List Polic
   pub name : ruling.name ≡ d.name
   pub held : ruling.held ≡ d.held
   pub device : ruling.device ≡ i
-  pub placed : IsPlaced hs k ruling
+  pub placed : IsPlaced policy hs before k ruling
+  pub here : es
+      ≡ journal placed.earlier ++ (placed.event.answered.sweep.entries ++ placed.front)
   pub given : IsVerdict (at_moment ruling.moment (after_steps policy before))
       (allowed_records ruling.standings) ruling.judged (is_none (parent_of ruling.name))
       ruling.present ruling.on d.verdict d.cause
 
--- The change was ordered: an event of the run is an order of that user or group, which asks for it,
--- and which it may ask for.
-pub record WasAsked (hs : List Happened) (change : Change) : Type 0 where
+-- The change, which comes behind these steps of the policy, was ordered: the event behind what they
+-- tell is an order of that user or group, which asks for it, and which it may ask for; and it was
+-- answered as done.
+pub record WasAsked (policy : Judging) (hs : List Happened) (before : List PolicyStep)
+    (change : Change) : Type 0 where
+  pub earlier : List Happened
   pub event : Happened
-  pub in_run : Has hs event
+  pub later : List Happened
+  pub in_run : hs ≡ earlier ++ event ∷ later
+  pub told : told_by policy before ≡ told_of earlier
   pub moment : Moment
   pub who : Named
   pub line : List ℕ
@@ -206,11 +220,13 @@ pub record WasAsked (hs : List Happened) (change : Change) : Type 0 where
   pub asks : change_asked event.before.sweep.standings event.before.sweep.judge (Ok asked)
       ≡ Some change
   pub granted : is_granted event.before.access who (needs asked) ≡ true
+  pub done : was_done event.after.reply ≡ true
 
--- The decision was ordered: an event of the run is an order of that user or group, which asks for
--- that verdict on the device of that number, and which it may ask for. The number's standing had
--- that name and that held file.
-pub record WasOrdered (hs : List Happened) (d : Decision) : Type 0 where
+-- The decision, which is told behind these entries of the journal, was ordered: the event that has
+-- it there is an order of that user or group, which asks for that verdict on the device of that
+-- number, and which it may ask for. The number's standing had that name and that held file, and the
+-- verdict that was in force then.
+pub record WasOrdered (hs : List Happened) (es : List Entry) (d : Decision) : Type 0 where
   pub earlier : List Happened
   pub event : Happened
   pub later : List Happened
@@ -227,27 +243,34 @@ pub record WasOrdered (hs : List Happened) (d : Decision) : Type 0 where
       ≡ true
   pub standing : Standing
   pub stands : numbered d.number event.before.sweep.standings ≡ Some standing
+  pub force : in_force [] (journal earlier) d.number ≡ Some (decision_of standing)
   pub name : standing.name ≡ d.name
   pub held : standing.held ≡ d.held
-  pub in_event : Has event.answered.sweep.entries
-      (entry.Judged d.number d.name d.held d.verdict d.cause)
+  pub front : List Entry
+  pub back : List Entry
+  pub in_event : event.answered.sweep.entries ≡ front ++ decided_entry d ∷ back
+  pub here : es ≡ journal earlier ++ front
 
--- the decision was given on that device, by the policy or by an order
-abbrev pub WasDecided : Judging → List Happened → List PolicyStep → Kernel → ℕ → Decision → Type 0
-WasDecided policy hs steps k i d =
-    WasJudged policy hs steps k i d
+-- the decision that is told behind these entries was given on that device, by the policy or by an
+-- order
+abbrev pub WasDecided : Judging → List Happened → List PolicyStep → Kernel → List Entry → ℕ
+    → Decision → Type 0
+WasDecided policy hs steps k es i d =
+    WasJudged policy hs steps k es i d
     ⊎
-    (WasOrdered hs d
+    (WasOrdered hs es d
     × (slice_get k.held d.held.0 ≡ Some (record { device = i; control = Authorized })))
 
 -- Behind these entries the decision is in force, and calls for the effect, or the setting of the
--- defaults does; and it was given on the effect's device.
+-- defaults does. It is the last that they tell of its number, and where they tell it, it was given
+-- on the effect's device.
 pub record IsExplained (hub : Option Write) (policy : Judging) (hs : List Happened)
     (steps : List PolicyStep) (k : Kernel) (front : List Entry) (decision : Decision)
     (effect : Effect) : Type 0 where
   pub force : in_force [] front decision.number ≡ Some decision
   pub wanted : CallsFor hub decision.name decision.verdict effect.write
-  pub decided : WasDecided policy hs steps k effect.device decision
+  pub told : IsLastTold front decision
+  pub decided : WasDecided policy hs steps k told.before effect.device decision
 
 -- What a log gained, by the entries since, both in their order: an effect for each write that is
 -- told to have had one, and for no other but one that failed, which may have had its effect. Each
@@ -281,7 +304,8 @@ pub record AllExplained (hub : Option Write) (policy : Judging) (hs : List Happe
 pub record IsJudgedOnce (hub : Option Write) (policy : Judging) (hs : List Happened)
     (steps : List PolicyStep) (k : Kernel) (standings : List Standing) (i : ℕ) : Type 0 where
   pub stands : IsAsJudged hub k standings i
-  pub decided : WasDecided policy hs steps k i (decision_of stands.standing.s)
+  pub told : IsLastTold (journal hs) (decision_of stands.standing.s)
+  pub decided : WasDecided policy hs steps k told.before i (decision_of stands.standing.s)
   pub default : (what : Write) → parent_of stands.standing.s.name ≡ None
       → default_write hub ≡ Some what → default_at i k ≡ set_by what
   pub once : (number : ℕ) → IsJudged k (journal hs) number i → number ≡ stands.standing.s.number
@@ -323,21 +347,25 @@ IsKeptThroughout rules o hs p later =
 
 -- What holds of any run from a start with that policy. What its events tell of the policy, in
 -- order, is a list of steps: rulings, each at its place and each by the policy as the steps before
--- it left it, and changes, each as an order of one who may asked for it. All other decisions were
--- ordered by somebody who may. Each effect is explained. Each new device got the next number; each
--- standing has the verdict in force; what is written to the defaults stays, and is the default of
--- each device whose standing is marked so; and a device that still lives and stands as judged was
--- judged once. The rule file is kept.
+-- it left it, and changes, each by the order at its place, of one who may. All other decisions were
+-- ordered, each where it is told, by one who may. Each effect is explained, and values change by
+-- effects alone. Each new device got the next number; each standing has the verdict in force; what
+-- is written to the defaults stays, and is the default of each device whose standing is marked so;
+-- and a device that still lives and stands as judged was judged once. The rule file is kept.
 pub record IsRun (policy : Judging) (hub : Option Write) (first : Kernel) (o : Option Disk)
     (hs : List Happened) (k : Kernel) (p : Option Disk) (e : DaemonState) : Type 0 where
   pub steps : List PolicyStep
   pub told : told_of hs ≡ told_by policy steps
   pub can : CanTake policy steps
-  pub placed : (r : Ruling) → Has steps (Ruled r) → IsPlaced hs k r
-  pub changed : (change : Change) → Has steps (Changed change) → WasAsked hs change
-  pub ordered : (d : Decision) → Has (decisions_in (journal hs)) d → is_ordered d.cause ≡ true
-      → WasOrdered hs d
+  pub placed : (before : List PolicyStep) (r : Ruling) (after : List PolicyStep)
+      → steps ≡ before ++ Ruled r ∷ after → IsPlaced policy hs before k r
+  pub changed : (before : List PolicyStep) (change : Change) (after : List PolicyStep)
+      → steps ≡ before ++ Changed change ∷ after → WasAsked policy hs before change
+  pub ordered : (front : List Entry) (d : Decision) (back : List Entry)
+      → journal hs ≡ front ++ decided_entry d ∷ back → is_ordered d.cause ≡ true
+      → WasOrdered hs front d
   pub explained : AllExplained hub policy hs steps first k
+  pub values : LogsValues first k
   pub numbers : Follow 1 (given_numbers (journal hs)) e.sweep.next
   pub agree : AgreeInForce [] (journal hs) e.sweep.standings
   pub setting : e.sweep.hub ≡ hub

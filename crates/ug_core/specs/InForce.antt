@@ -24,6 +24,10 @@ decision_in (entry.Judged number name held verdict cause) =
     record { number = number; name = name; held = held; verdict = verdict; cause = cause } ∷ []
 decision_in e = []
 
+-- the entry that tells it
+abbrev pub decided_entry : Decision → Entry
+decided_entry d = entry.Judged d.number d.name d.held d.verdict d.cause
+
 -- those that entries tell, in order
 abbrev pub decisions_in : List Entry → List Decision
 decisions_in [] = []
@@ -53,6 +57,13 @@ last_judged es n = last_decision (decisions_in es) n
 abbrev pub standing_decision : List Standing → ℕ → Option Decision
 standing_decision [] n = None
 standing_decision (s ∷ ss) n = or_else (on_number n (decision_of s)) (standing_decision ss n)
+
+-- among these entries it is the last that is told of its number
+pub record IsLastTold (es : List Entry) (d : Decision) : Type 0 where
+  pub before : List Entry
+  pub since : List Entry
+  pub at : es ≡ before ++ decided_entry d ∷ since
+  pub none : last_judged since d.number ≡ None
 
 -- the last that was told since, or else the standing's from before
 abbrev pub in_force : List Standing → List Entry → ℕ → Option Decision

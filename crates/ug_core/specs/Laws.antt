@@ -46,6 +46,7 @@ use Rattle.ug_table.specs.Orders.{with_verdict, verdict_entry, ProbedOne, GoesAs
 use Rattle.ug_table.specs.Parts.{AllBear, failures_told, told_in_reply, unsettled_names, numbers_given, GoesInParts}
 use Rattle.ug_table.specs.Standings.{numbered}
 use Rattle.ug_table.specs.declared.standing.Settled.{Settled}
+use Rattle.ug_table.specs.declared.standing.Settled.TheVariants as settled
 use Rattle.ug_table.specs.declared.standing.Standing.{Standing}
 use Rattle.ug_core.specs.Bindings.{BindsJudged}
 use Rattle.ug_core.specs.Answering.{acting, answered_with, asking, deed_after, replying}
@@ -87,10 +88,11 @@ abbrev pub tried_in : Option (List (List ℕ)) → Tries
 tried_in None = swept_before
 tried_in (Some names) = before_among names
 
--- so it is, and the last entry is noted
+-- so it is, values change by its writes in the log alone, and the last entry is noted
 pub record Handled (k : Kernel) (d : DaemonState) (l : Kernel) (e : DaemonState) : Type 0 where
   pub swept : State Judging
   pub law : SettlesDue d.due k d.sweep l swept
+  pub values : LogsValues k l
   pub entries : e.sweep ≡ record swept { entries = swept.entries ++ entry.End d.event ∷ [] }
   pub hub : e.sweep.hub ≡ d.sweep.hub
   pub access : e.access ≡ d.access
@@ -305,6 +307,16 @@ pub record LeavesVerdict (number : ℕ) (verdict : Target) (before after : List 
   pub wanting : said ≡ Some (replies.Refused (refusal.Memory true)) → verdict ≡ target.Reject
   pub marks : LeavesMarks None (has_number number) before after how
 
+-- What is told of a verdict that was set: the lines of what was changed for it, where it stands, or
+-- where its device left behind the probe; else which call failed, with its count, or that memory
+-- was short behind it.
+abbrev pub TellsVerdict : List (List ℕ) → Settled → Option Reply → Type 0
+TellsVerdict lines settled.Stands said = said ≡ Some (replies.Lines lines)
+TellsVerdict lines settled.Nobody said = said ≡ Some (replies.Lines lines)
+TellsVerdict lines (settled.Fault failed) said =
+    said ≡ Some (replies.Refused (refusal.DeviceFault failed.call failed.count))
+TellsVerdict lines settled.Memory said = said ≡ Some (replies.Refused (refusal.Memory true))
+
 -- A verdict that was ordered by one who may. The device of that number's standing was there, with
 -- that value. If the verdict is to be permanent, its rule is saved and in force. The verdict is set
 -- and told, and the device is brought to it; and the reply tells what came of it. Values change by
@@ -338,6 +350,7 @@ pub record CarriesOut (who : Named) (line : List ℕ) (k : Kernel) (d : DaemonSt
   pub bears : AllBear standing.name rest
   pub given : numbers_given rest ≡ []
   pub values : LogsValues k l
+  pub tells : TellsVerdict (change_lines_of change d.sweep.judge.next) how e.reply
   pub state : e ≡ answered_with changed (change_lines_of change d.sweep.judge.next) (how, kept)
 
 -- what an order that needs no call of the kernel comes to: the lines of its reply, what it changes,

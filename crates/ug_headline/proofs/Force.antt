@@ -1,13 +1,13 @@
 -- The last verdict that entries tell of a number.
-use Rattle.std.proofs.Common.{◌≡◌, ℕ, List, [], ◌∷◌, ◌++◌, Option, Some, None, refl, sym, ◌∙◌, ap, inl, inr}
+use Rattle.std.proofs.Common.{◌≡◌, ℕ, List, [], ◌∷◌, Option, Some, None, refl, ◌∙◌, ap, inl, inr}
 use Rattle.ug_types.specs.Elements.{Has}
 use Rattle.ug_types.specs.declared.verdict.Cause.{Cause}
 use Rattle.ug_types.specs.declared.verdict.Target.{Target}
 use Rattle.ug_kernel.specs.declared.control.Held.{Held}
 use Rattle.ug_audit.specs.declared.entry.Entry.{Entry}
 use Rattle.ug_audit.specs.declared.entry.Entry.TheVariants as entry
-use Rattle.ug_core.specs.InForce.{Decision, decision_in, decisions_in, last_decision, on_number, or_else}
-use Rattle.ug_core.proofs.InForce.{has_decision, last_append, last_has, on_itself}
+use Rattle.ug_core.specs.InForce.{Decision, decisions_in, last_decision, last_judged, on_number, or_else}
+use Rattle.ug_core.proofs.InForce.{has_decision, on_itself}
 
 left_none : {X : Type 0} (a b : Option X) → or_else a b ≡ None → a ≡ None
 left_none None b h = refl
@@ -26,36 +26,6 @@ found_told (x ∷ ds) d (inl same) none =
     cc
 found_told (x ∷ ds) d (inr h) none = found_told ds d h (left_none (last_decision ds d.number) (on_number d.number x) none)
 
-abbrev pub told_as : Decision → Entry
-told_as d = entry.Judged d.number d.name d.held d.verdict d.cause
-
--- it is the last on its number
-pub record IsLast (es : List Entry) (d : Decision) : Type 0 where
-  pub before : List Entry
-  pub since : List Entry
-  pub last : es ≡ before ++ told_as d ∷ since
-  pub none : (n : List ℕ) (h : Held) (verdict : Target) (c : Cause) → Has since (entry.Judged d.number n h verdict c) → ⊥
-
-pub is_last : (es : List Entry) (d : Decision) → last_decision (decisions_in es) d.number ≡ Some d → IsLast es d
-is_last [] d h = let none : ⊥ = cc in absurd none
-is_last (e ∷ es) d h = by (λ k. is_last es d k) (last_decision (decisions_in es) d.number) refl (sym (last_append (decision_in e) (decisions_in es) d.number) ∙ h)
-  where
-    this : (x : Entry) → last_decision (decisions_in es) d.number ≡ None → last_decision (decision_in x) d.number ≡ Some d → IsLast (x ∷ es) d
-    this (entry.Judged number name held verdict cause) is h =
-        let own : Decision = record { number = number; name = name; held = held; verdict = verdict; cause = cause } in
-        elim (last_has (own ∷ []) d.number d h).0 [
-          | inl same ↦ record {
-            before = [];
-            since = es;
-            last = ap (λ (y : Decision). told_as y ∷ es) same;
-            none = λ n f v c a. found_told (decisions_in es) (record { number = d.number; name = n; held = f; verdict = v; cause = c }) (has_decision es d.number n f v c a) is;
-          }
-          | inr none ↦ absurd none
-        ]
-    this x is h = let none : ⊥ = cc in absurd none
-
-    by : (last_decision (decisions_in es) d.number ≡ Some d → IsLast es d) → (o : Option Decision) → last_decision (decisions_in es) d.number ≡ o → or_else o (last_decision (decision_in e) d.number) ≡ Some d → IsLast (e ∷ es) d
-    by rest (Some x) is h =
-        let k = rest (is ∙ h) in
-        record { before = e ∷ k.before; since = k.since; last = ap (λ (l : List Entry). e ∷ l) k.last; none = k.none }
-    by rest None is h = this e is h
+-- none of its number is told since
+pub none_since : (es : List Entry) (number : ℕ) → last_judged es number ≡ None → (n : List ℕ) (h : Held) (verdict : Target) (c : Cause) → Has es (entry.Judged number n h verdict c) → ⊥
+none_since es number none n h verdict c a = found_told (decisions_in es) (record { number = number; name = n; held = h; verdict = verdict; cause = c }) (has_decision es number n h verdict c a) none

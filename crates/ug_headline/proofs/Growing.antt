@@ -1,64 +1,15 @@
--- A run up to one of its events, and what the kernel keeps from there.
-use Rattle.std.proofs.Common.{◌≡◌, ℕ, List, [], ◌∷◌, ◌++◌, Option, Some, None, refl, sym, ◌∙◌, ap, subst, inl, inr, ◌⊎◌, append_assoc}
-use Rattle.ug_types.specs.declared.event.Event.{Event}
-use Rattle.ug_types.specs.declared.event.Event.TheVariants.{Sweep, Order, Hint}
-use Rattle.ug_kernel.specs.Kernel.{Kernel}
-use Rattle.ug_kernel.specs.Quiet.{Grows}
-use Rattle.ug_kernel.proofs.Grow.{grows_refl, grows_trans, quiet_grows}
-use Rattle.ug_kernel.proofs.Quiet.{moves_quiet}
-use Rattle.ug_kernel.proofs.Stayed.{unmoving}
+-- Places in a run: which event one is in, and which events come no later.
+use Rattle.std.proofs.Common.{◌≡◌, Bool, false, cond, List, [], ◌∷◌, ◌++◌, inl, inr, refl, sym, ◌∙◌, ap, append_assoc, append-nil}
+use Rattle.ug_types.proofs.Elements.{cancel}
 use Rattle.ug_audit.specs.declared.entry.Entry.{Entry}
-use Rattle.ug_store.specs.Disk.{Disk}
-use Rattle.ug_table.specs.Laws.{swept_before}
-use Rattle.ug_table.specs.State.{State, terms_for}
-use Rattle.ug_core.specs.declared.storing.Stored.{Stored}
-use Rattle.ug_core.specs.Chain.{Chain, Happened, IsEvent, journal, ready_of}
-use Rattle.ug_core.specs.Event.{DaemonState}
-use Rattle.ug_core.specs.Laws.{AnswersEvent, SettlesDue}
-use Rattle.ug_core.specs.Policy.{Judging, policy_answer, policy_later}
-use Rattle.ug_core.proofs.Kept.{stays_there}
-
-same_grows : (k l : Kernel) → l ≡ k → Grows k l
-same_grows k l e = subst (λ (v : Kernel). Grows k v) (sym e) (grows_refl k)
-
-answers_grow : (event : Event) (k : Kernel) (d : DaemonState) (became : Stored) (l : Kernel) (e : DaemonState) → AnswersEvent event k d became l e → Grows k l
-answers_grow (Sweep moment) k d became l e h = same_grows k l h.0
-answers_grow (Hint moment piece) k d became l e h = same_grows k l h.0
-answers_grow (Order moment who line) k d became l e (inl r) = quiet_grows k l r.quiet
-answers_grow (Order moment who line) k d became l e (inr (inl a)) = same_grows k l a.0
-answers_grow (Order moment who line) k d became l e (inr (inr c)) =
-    grows_trans k c.middle l (quiet_grows k c.middle c.probed.quiet) (c.law.fair policy_answer policy_later (terms_for c.changed.sweep) swept_before).grows
-
-settles_grow : (o : Option (List (List ℕ))) (k : Kernel) (w : State Judging) (l : Kernel) (v : State Judging) → SettlesDue o k w l v → Grows k l
-settles_grow None k w l v h = h.fair.grows
-settles_grow (Some names) k w l v h = h.0.fair.grows
-
-event_grows : (h : Happened) → IsEvent h → Grows h.kernel h.kernel_after
-event_grows h law =
-    grows_trans h.kernel h.kernel_answered h.kernel_after (answers_grow h.event h.kernel (ready_of h) h.became h.kernel_answered h.answered law.answers)
-    (settles_grow h.answered.due h.kernel_answered h.answered.sweep h.kernel_after law.handled.swept law.handled.law)
-
-chain_grows : (k : Kernel) (o : Option Disk) (d : DaemonState) (hs : List Happened) (l : Kernel) (p : Option Disk) (e : DaemonState) → Chain k o d hs l p e → Grows k l
-chain_grows k o d [] l p e c = quiet_grows k l (moves_quiet k l c.0)
-chain_grows k o d (h ∷ hs) l p e c =
-    grows_trans k h.kernel l (quiet_grows k h.kernel (moves_quiet k h.kernel c.0))
-    (grows_trans h.kernel h.kernel_after l (event_grows h c.3) (chain_grows h.kernel_after h.disk_after h.after hs l p e c.4))
-
--- a run up to an event, before it and with it
-pub record GoesTo (k : Kernel) (o : Option Disk) (d : DaemonState) (hs : List Happened) (g : Happened) (l : Kernel) : Type 0 where
-  pub before : Chain k o d hs g.kernel g.disk g.before
-  pub with_it : Chain k o d (hs ++ g ∷ []) g.kernel_after g.disk_after g.after
-  pub grows : Grows g.kernel_after l
-
-pub goes_to : (k : Kernel) (o : Option Disk) (d : DaemonState) (hs : List Happened) (g : Happened) (more : List Happened) (l : Kernel) (p : Option Disk) (e : DaemonState) → Chain k o d (hs ++ g ∷ more) l p e → GoesTo k o d hs g l
-goes_to k o d [] g more l p e c = record {
-  before = (c.0, c.1, c.2);
-  with_it = (c.0, c.1, c.2, c.3, (unmoving g.kernel_after, stays_there g.disk_after, refl));
-  grows = chain_grows g.kernel_after g.disk_after g.after more l p e c.4;
-}
-goes_to k o d (h ∷ hs) g more l p e c =
-    let r = goes_to h.kernel_after h.disk_after h.after hs g more l p e c.4 in
-    record { before = (c.0, c.1, c.2, c.3, r.before); with_it = (c.0, c.1, c.2, c.3, r.with_it); grows = r.grows }
+use Rattle.ug_core.specs.declared.changes.Change.{Change}
+use Rattle.ug_core.specs.Chain.{Happened, changes_asked, decided, journal, ready_of, told_before, told_if, told_in, told_of, was_done}
+use Rattle.ug_core.specs.InForce.{Decision, decisions_in, is_ordered, decided_entry, unordered}
+use Rattle.ug_core.specs.Rulings.{Decided, Told, Was_changed}
+use Rattle.ug_core.proofs.InForce.{decisions_append, unordered_append}
+use Rattle.ug_core.proofs.SoFar.{journal_append}
+use Rattle.ug_core.proofs.Splits.{never_in, where_cut}
+use Rattle.ug_headline.proofs.Stories.{map_append}
 
 -- a place in the journal is in one of the events
 
@@ -71,26 +22,6 @@ pub record IsIn (hs : List Happened) (es : List Entry) : Type 0 where
   pub rest : List Entry
   pub cut : es ≡ journal earlier ++ more
   pub in_event : event.after.sweep.entries ≡ more ++ rest
-
-record Cut {X : Type 0} (fs bs cs : List X) (x : X) (ds : List X) : Type 0 where
-  rest : List X
-  here : fs ≡ cs ++ x ∷ rest
-
-record Past {X : Type 0} (fs bs cs : List X) (x : X) (ds : List X) : Type 0 where
-  more : List X
-  beyond : cs ≡ fs ++ more
-  there : bs ≡ more ++ x ∷ ds
-
-where_cut : {X : Type 0} (fs bs cs : List X) (x : X) (ds : List X) → fs ++ bs ≡ cs ++ x ∷ ds → Cut fs bs cs x ds ⊎ Past fs bs cs x ds
-where_cut [] bs cs x ds e = inr (record { more = cs; beyond = refl; there = e })
-where_cut (a ∷ fs) bs [] x ds e = let head : a ≡ x = cc in inl (record { rest = fs; here = ap (λ (y : _). y ∷ fs) head })
-where_cut {X} (a ∷ fs) bs (c ∷ cs) x ds e =
-    let head : a ≡ c = cc in
-    let tail : fs ++ bs ≡ cs ++ x ∷ ds = cc in
-    elim (where_cut fs bs cs x ds tail) [
-      | inl h ↦ inl (record { rest = h.rest; here = ap (λ (y : X). y ∷ fs) head ∙ ap (λ (l : List X). c ∷ l) h.here })
-      | inr h ↦ inr (record { more = h.more; beyond = ap (λ (y : X). y ∷ cs) (sym head) ∙ ap (λ (l : List X). a ∷ l) h.beyond; there = h.there })
-    ]
 
 pub is_in : (hs : List Happened) (es : List Entry) (x : Entry) (back : List Entry) → journal hs ≡ es ++ x ∷ back → IsIn hs es
 is_in [] [] x back e = let none : ⊥ = cc in absurd none
@@ -110,3 +41,78 @@ is_in (h ∷ hs) es x back e = elim (where_cut h.after.sweep.entries (journal hs
         in_event = k.in_event;
       }
 ]
+
+-- the part of a run up to an event, with it, has that event
+pub record GoesOn (front earlier : List Happened) (event : Happened) : Type 0 where
+  pub later : List Happened
+  pub in_front : front ≡ earlier ++ event ∷ later
+
+beyond_itself : {X : Type 0} (xs ys : List X) (y : X) (more : List X) → xs ≡ xs ++ (ys ++ y ∷ more) → ⊥
+beyond_itself {X} xs ys y more e = never_in ys y more (sym (cancel xs (ys ++ y ∷ more) [] (sym e ∙ sym (append-nil xs))))
+
+-- what is told before a place is in an event no later than the place's
+pub told_within : (hs earlier : List Happened) (event : Happened) (later : List Happened) (front : List Entry) (d : Decision) (since : List Entry) (es : List Entry) (at : IsIn hs es) → hs ≡ earlier ++ event ∷ later → es ≡ (journal earlier ++ front) ++ decided_entry d ∷ since → GoesOn (at.earlier ++ at.event ∷ []) earlier event
+told_within hs earlier event later front d since es at in_run told =
+    elim (where_cut (at.earlier ++ at.event ∷ []) at.later earlier event later (append_assoc at.earlier (at.event ∷ []) at.later ∙ sym at.in_run ∙ in_run)) [
+      | inl c ↦ record { later = c.rest; in_front = c.here }
+      | inr c ↦
+          let x : List Entry = at.event.after.sweep.entries in
+          let there : journal earlier ≡ journal at.earlier ++ (x ++ journal c.more) =
+          ap (λ (l : List Happened). journal l) (c.beyond ∙ append_assoc at.earlier (at.event ∷ []) c.more) ∙ journal_append at.earlier (at.event ∷ c.more) in
+          let rest : List Entry = (at.rest ++ journal c.more) ++ (front ++ decided_entry d ∷ since) in
+          let whole : journal at.earlier ++ at.more ≡ journal at.earlier ++ (at.more ++ rest) =
+          sym at.cut ∙ told ∙ append_assoc (journal earlier) front (decided_entry d ∷ since)
+          ∙ ap (λ (l : List Entry). l ++ (front ++ decided_entry d ∷ since)) (there ∙ ap (λ (l : List Entry). journal at.earlier ++ (l ++ journal c.more)) at.in_event)
+          ∙ append_assoc (journal at.earlier) ((at.more ++ at.rest) ++ journal c.more) (front ++ decided_entry d ∷ since)
+          ∙ ap (λ (l : List Entry). journal at.earlier ++ (l ++ (front ++ decided_entry d ∷ since))) (append_assoc at.more at.rest (journal c.more))
+          ∙ ap (λ (l : List Entry). journal at.earlier ++ l) (append_assoc at.more (at.rest ++ journal c.more) (front ++ decided_entry d ∷ since)) in
+          let own : at.more ≡ at.more ++ rest = cancel (journal at.earlier) at.more (at.more ++ rest) whole in
+          absurd (beyond_itself at.more ((at.rest ++ journal c.more) ++ front) (decided_entry d) since (own ∙ ap (λ (l : List Entry). at.more ++ l) (sym (append_assoc (at.rest ++ journal c.more) front (decided_entry d ∷ since)))))
+    ]
+
+-- ---- what the events tell of the policy
+
+pub tells_append : (gs hs : List Happened) → told_of (gs ++ hs) ≡ told_of gs ++ told_of hs
+tells_append [] hs = refl
+tells_append (g ∷ gs) hs = ap (λ (l : List Told). told_in g ++ l) (tells_append gs hs) ∙ sym (append_assoc (told_in g) (told_of gs) (told_of hs))
+
+-- a decision that its event tells, behind what was told before
+pub record ToldThere (hs : List Happened) (before : List Told) (d : Decision) : Type 0 where
+  pub after : List Told
+  pub at : told_of hs ≡ before ++ Decided d ∷ after
+
+pub told_there : (earlier : List Happened) (h : Happened) (later : List Happened) (front : List Entry) (d : Decision) (back : List Entry) → h.after.sweep.entries ≡ h.answered.sweep.entries ++ (front ++ decided_entry d ∷ back) → is_ordered d.cause ≡ false → ToldThere (earlier ++ h ∷ later) (told_before earlier h front) d
+told_there earlier h later front d back entries plain =
+    let asked : List Told = told_if (was_done h.after.reply) (changes_asked (ready_of h) h.event) in
+    let fs : List Entry = h.answered.sweep.entries ++ front in
+    let ds : List Told = decided (unordered (decisions_in fs)) in
+    let ls : List Told = decided (unordered (decisions_in back)) in
+    let cut : decisions_in h.after.sweep.entries ≡ decisions_in fs ++ d ∷ decisions_in back =
+    ap (λ (l : List Entry). decisions_in l) (entries ∙ sym (append_assoc h.answered.sweep.entries front (decided_entry d ∷ back))) ∙ decisions_append fs (decided_entry d ∷ back) in
+    let one : unordered (d ∷ decisions_in back) ≡ d ∷ unordered (decisions_in back) = ap (λ (b : Bool). cond b (unordered (decisions_in back)) (d ∷ unordered (decisions_in back))) plain in
+    let inner : decided (unordered (decisions_in h.after.sweep.entries)) ≡ ds ++ Decided d ∷ ls =
+    ap (λ (l : List Decision). decided (unordered l)) cut
+    ∙ ap (λ (l : List Decision). decided l) (unordered_append (decisions_in fs) (d ∷ decisions_in back) ∙ ap (λ (l : List Decision). unordered (decisions_in fs) ++ l) one)
+    ∙ map_append Decided (unordered (decisions_in fs)) (d ∷ unordered (decisions_in back)) in
+    record {
+      after = ls ++ told_of later;
+      at = tells_append earlier (h ∷ later)
+          ∙ ap (λ (l : List Told). told_of earlier ++ ((asked ++ l) ++ told_of later)) inner
+          ∙ ap (λ (l : List Told). told_of earlier ++ (l ++ told_of later)) (sym (append_assoc asked ds (Decided d ∷ ls)))
+          ∙ ap (λ (l : List Told). told_of earlier ++ l) (append_assoc (asked ++ ds) (Decided d ∷ ls) (told_of later))
+          ∙ sym (append_assoc (told_of earlier) (asked ++ ds) (Decided d ∷ (ls ++ told_of later)));
+    }
+
+-- a change that is told before a decision is told by an event no later than the decision's
+pub changed_within : (hs front rest earlier : List Happened) (event : Happened) (later : List Happened) (change : Change) (more : List Told) (before : List Told) (d : Decision) → hs ≡ front ++ rest → hs ≡ earlier ++ event ∷ later → ToldThere front before d → before ≡ told_of earlier ++ Was_changed change ∷ more → GoesOn front earlier event
+changed_within hs front rest earlier event later change more before d cut in_run there told =
+    elim (where_cut front rest earlier event later (sym cut ∙ in_run)) [
+      | inl c ↦ record { later = c.rest; in_front = c.here }
+      | inr c ↦
+          let more_told : List Told = told_of c.more in
+          let whole : told_of earlier ≡ told_of earlier ++ ([] ++ Was_changed change ∷ (more ++ (Decided d ∷ (there.after ++ more_told)))) =
+          ap (λ (l : List Happened). told_of l) c.beyond ∙ tells_append front c.more ∙ ap (λ (l : List Told). l ++ more_told) (there.at ∙ ap (λ (l : List Told). l ++ Decided d ∷ there.after) told)
+          ∙ append_assoc (told_of earlier ++ Was_changed change ∷ more) (Decided d ∷ there.after) more_told
+          ∙ append_assoc (told_of earlier) (Was_changed change ∷ more) (Decided d ∷ (there.after ++ more_told)) in
+          absurd (beyond_itself (told_of earlier) [] (Was_changed change) (more ++ (Decided d ∷ (there.after ++ more_told))) whole)
+    ]

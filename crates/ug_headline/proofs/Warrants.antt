@@ -12,7 +12,7 @@ use Rattle.ug_types.specs.declared.verdict.Cause.{Cause}
 use Rattle.ug_types.specs.declared.verdict.Moment.{Moment}
 use Rattle.ug_types.specs.declared.verdict.Target.{Target}
 use Rattle.ug_types.specs.declared.verdict.Target.TheVariants as target
-use Rattle.ug_types.proofs.Elements.{has_left, has_map, has_right, map_has}
+use Rattle.ug_types.proofs.Elements.{has_map, has_right, map_has}
 use Rattle.ug_kernel.specs.declared.control.Control.TheVariants.{Authorized}
 use Rattle.ug_kernel.specs.declared.control.Held.{Held}
 use Rattle.ug_kernel.specs.declared.control.Write.{Write}
@@ -37,24 +37,25 @@ use Rattle.ug_table.specs.Laws.{IsDevice, IsProbed, wrote_entries}
 use Rattle.ug_table.specs.declared.standing.Standing.{Standing}
 use Rattle.ug_table.proofs.NamedStandings.{numbered_has}
 use Rattle.ug_core.specs.declared.changes.Change.{Change}
-use Rattle.ug_core.specs.Chain.{Chain, Explains, Had_effect, Had_none, Happened, IsExplained, IsPlaced, IsRun, No_write, Nothing_told, WasAsked, WasDecided, WasOrdered, changes_asked, journal, told_of}
-use Rattle.ug_core.specs.Changes.{change_asked}
-use Rattle.ug_core.specs.Event.{DaemonState, IsStarted, moment_of}
-use Rattle.ug_core.specs.InForce.{Decision, decision_of, decisions_in, is_ordered, last_decision}
+use Rattle.ug_core.specs.Chain.{Explains, Had_effect, Had_none, Happened, IsExplained, IsPlaced, IsRun, No_write, Nothing_told, WasAsked, WasDecided, WasJudged, WasOrdered, changes_asked, journal, told_before, told_of}
+use Rattle.ug_core.specs.Changes.{change_asked, changed_by}
+use Rattle.ug_core.specs.Event.{DaemonState, moment_of}
+use Rattle.ug_core.specs.InForce.{Decision, decision_of, decisions_in, is_ordered, decided_entry, last_decision}
 use Rattle.ug_core.specs.Policy.{Judging, context_at, verdict_of}
 use Rattle.ug_core.specs.Privileges.{is_granted}
-use Rattle.ug_core.specs.Rulings.{CanTake, Changed, Decided, PolicyStep, Ruled, Ruling, Told, after_ruling, after_steps, at_moment, decision_by, judgements_for, ruling_answer, told_by, words_for}
+use Rattle.ug_core.specs.Rulings.{CanTake, Changed, Decided, PolicyStep, Ruled, Ruling, Told, Was_changed, after_steps, at_moment, decision_by, judgements_for, ruling_answer, told_by, words_for}
 use Rattle.ug_core.specs.Verdicts.{IsLater}
 use Rattle.ug_core.proofs.Chained.{is_run}
-use Rattle.ug_core.proofs.InForce.{decisions_append, last_has, or_else_none, unordered_has}
-use Rattle.ug_core.proofs.Known.{decision_has, same_device}
-use Rattle.ug_core.proofs.SoFar.{journal_append, placed_stays, ruling_of, step_has, told_has}
-use Rattle.ug_core.proofs.Verdicts.{steps_later}
+use Rattle.ug_core.proofs.InForce.{last_has, or_else_none}
+use Rattle.ug_core.proofs.Known.{decision_has}
+use Rattle.ug_core.proofs.SoFar.{verdict_given}
+use Rattle.ug_core.proofs.Verdicts.{steps_later, verdict_is}
+use Rattle.ug_core.proofs.Splits.{has_at, place_of}
 use Rattle.ug_headline.specs.Headline.{has_listed_all, Deed, IsWarranted, Judges, Line, Reason, Seen, Tells, Tells_effect, Tells_failed, Tells_none, Tells_other, Verdict, WasJudgedByRules, WasOrderedByOne, after_deeds}
 use Rattle.ug_headline.specs.Seeing.{EachWriteIsWarranted, is_granted_in, is_granted_read, line_of, ordered_by, seen, verdict_in, verdict_read}
 use Rattle.ug_headline.proofs.Devices.{judged_device, root_name}
-use Rattle.ug_headline.proofs.Force.{is_last, told_as}
-use Rattle.ug_headline.proofs.Growing.{IsIn, goes_to, is_in}
+use Rattle.ug_headline.proofs.Force.{none_since}
+use Rattle.ug_headline.proofs.Growing.{GoesOn, IsIn, ToldThere, changed_within, is_in, told_there, told_within}
 use Rattle.ug_headline.proofs.Reasons.{reason}
 use Rattle.ug_headline.proofs.Stories.{applied_told, can_before, change_has, changes_alone, deed, deeds_seen, journal_seen, line_judged, listed_seen, map_append, of_standing, same_clock, same_stream, silent_lines, told_split}
 
@@ -77,18 +78,18 @@ order_granted : (access : _) (who : _) (asked : Request) (moment : Moment) (line
 order_granted access who asked moment line event is reads granted =
     ap (λ (e : Event). is_granted_in access e) is ∙ ap (λ (r : _). is_granted_read access who r) reads ∙ granted
 
-change_seen : (hs : List Happened) (change : Change) → WasAsked hs change → (e : Seen) × Has (map seen hs) e × (e.change ≡ Some change) × (e.granted ≡ true)
-change_seen hs change w =
+change_seen : (start : Judging) (hs front : List Happened) (before : List PolicyStep) (change : Change) (w : WasAsked start hs before change) → GoesOn front w.earlier w.event → (e : Seen) × Has (map seen front) e × (e.change ≡ Some change) × (e.granted ≡ true)
+change_seen start hs front before change w there =
     let h : Happened = w.event in
     let asks : changes_asked h.before h.event ≡ Some change =
     ap (λ (e : Event). changes_asked h.before e) w.is_order ∙ ap (λ (r : _). change_asked h.before.sweep.standings h.before.sweep.judge r) w.reads ∙ w.asks in
-    (seen h, has_map seen hs h w.in_run, asks, order_granted h.before.access w.who w.asked w.moment w.line h.event w.is_order w.reads w.granted)
+    (seen h, has_map seen front h (subst (λ (l : List Happened). Has l h) (sym there.in_front) (has_at w.earlier h there.later)), asks, order_granted h.before.access w.who w.asked w.moment w.line h.event w.is_order w.reads w.granted)
 
 -- the events before one and behind it
 seen_split : (hs earlier : List Happened) (h : Happened) (later : List Happened) → hs ≡ earlier ++ h ∷ later → map seen hs ≡ map seen earlier ++ seen h ∷ map seen later
 seen_split hs earlier h later is = ap (λ (l : List Happened). map seen l) is ∙ map_append seen earlier (h ∷ later)
 
-module _ (start : Judging) (hub : Option Write) (first : Kernel) (o : Option Disk) (hs : List Happened) (k : Kernel) (p : Option Disk) (e : DaemonState) (new : IsLater start 0 [] start) (run : IsRun start hub first o hs k p e) (l : Kernel) (grows : Grows k l) where
+module _ (start : Judging) (hub : Option Write) (first : Kernel) (o : Option Disk) (hs : List Happened) (k : Kernel) (p : Option Disk) (e : DaemonState) (new : IsLater start 0 [] start) (run : IsRun start hub first o hs k p e) where
   -- a verdict by the rules
 
   amid_from : (from to : Kernel) (name : List ℕ) (held i : ℕ) (on : Bool) (x : IsProbed from to name held i on) → Grows from x.lived.probing
@@ -101,12 +102,12 @@ module _ (start : Judging) (hub : Option Write) (first : Kernel) (o : Option Dis
   amid_to : (from to : Kernel) (name : List ℕ) (held i : ℕ) (on : Bool) (x : IsProbed from to name held i on) → Grows x.lived.probing to
   amid_to from to name held i on x = grows_trans x.lived.probing x.last to (quiet_grows x.lived.probing x.last x.lived.end) x.until
 
-  by_ruling : (before after : List PolicyStep) (r : Ruling) → run.steps ≡ before ++ Ruled r ∷ after → (why : Cause) → ruling_answer (after_steps start before) r ≡ (target.Allow, why) → WasJudgedByRules start (map seen hs) l r.number r.device r.name r.held why
-  by_ruling before after r at why said =
-      let x : IsPlaced hs k r = run.placed r (step_has run.steps before after r at) in
+  -- in a part of the run that has the event
+  by_ruling : (front rest : List Happened) (before after : List PolicyStep) (r : Ruling) (at : run.steps ≡ before ++ Ruled r ∷ after) (x : IsPlaced start hs before k r) → hs ≡ front ++ rest → GoesOn front x.earlier x.event → (why : Cause) → ruling_answer (after_steps start before) r ≡ (target.Allow, why) → WasJudgedByRules start (map seen front) k r.number r.device r.name r.held why
+  by_ruling front rest before after r at x cut there why said =
       let h : Happened = x.event in
-      let there : IsPlaced (hs ++ []) l r = placed_stays hs [] k l r grows x in
       let q : Judging = after_steps start before in
+      let d : Decision = decision_by q r in
       let beside : List DeviceRecord = allowed_records r.standings in
       let root : Bool = is_none (parent_of r.name) in
       let words : ℕ = words_for start before in
@@ -117,27 +118,28 @@ module _ (start : Judging) (hub : Option Write) (first : Kernel) (o : Option Dis
       subst (λ (j : Judging). IsLater j words judgements q) (changes_alone start start before)
       (steps_later start before new (can_before start before (Ruled r ∷ after) (subst (λ (l : List PolicyStep). CanTake start l) at run.can))) in
       let own = has_record now q words judgements later r.moment beside r.judged root r.present r.on why said in
-      let more : List Deed = map deed (told_by (after_ruling q r) after) in
-      let tale : told_of hs ≡ told_by start before ++ Decided (decision_by q r) ∷ told_by (after_ruling q r) after =
-      run.told ∙ ap (λ (l : List PolicyStep). told_by start l) at ∙ told_split start before (Ruled r ∷ after) in
+      let plain : is_ordered d.cause ≡ false = verdict_given (at_moment r.moment q) beside r.judged root r.present r.on in
+      let told : ToldThere front (told_by start before) d =
+      subst (λ (l : List Told). ToldThere front l d) (sym x.told)
+      (subst (λ (l : List Happened). ToldThere l (told_before x.earlier h x.front) d) (sym there.in_front) (told_there x.earlier h there.later x.front d x.back x.in_event plain)) in
+      let more : List Deed = map deed told.after in
       let known : Reason now judgements (context_at start.clock r.moment) beside (behind words start.stream) own.dev root r.present r.on why =
       subst (λ (s : Stream). Reason now judgements (context_at start.clock r.moment) beside (behind words s) own.dev root r.present r.on why) (same_stream deeds start)
       (subst (λ (c : ℕ → ℕ). Reason now judgements (context_at c r.moment) beside (behind words now.stream) own.dev root r.present r.on why) (same_clock deeds start) own.reason) in
       record {
         earlier = map seen x.earlier;
         event = seen h;
-        later = map seen x.later;
-        in_run = seen_split hs x.earlier h x.later x.in_run;
+        later = map seen there.later;
+        in_run = seen_split front x.earlier h there.later there.in_front;
         noted = (
-          x.verdict,
-          x.cause,
-          has_map line_of h.after.sweep.entries (entry.Judged r.number r.name r.held x.verdict x.cause)
-              (subst (λ (l : List Entry). Has l (entry.Judged r.number r.name r.held x.verdict x.cause)) (sym x.in_event)
-              (has_right h.answered.sweep.entries (x.front ++ entry.Judged r.number r.name r.held x.verdict x.cause ∷ x.back) (entry.Judged r.number r.name r.held x.verdict x.cause)
-              (has_right x.front (entry.Judged r.number r.name r.held x.verdict x.cause ∷ x.back) (entry.Judged r.number r.name r.held x.verdict x.cause) (inl refl)))),
+          d.verdict,
+          d.cause,
+          has_map line_of h.after.sweep.entries (decided_entry d)
+              (subst (λ (l : List Entry). Has l (decided_entry d)) (sym x.in_event)
+              (has_right h.answered.sweep.entries (x.front ++ decided_entry d ∷ x.back) (decided_entry d) (has_at x.front (decided_entry d) x.back))),
         );
         dev = own.dev;
-        device = judged_device l r.device r.name r.held own.dev (subst (λ (j : Judged). IsDevice l r.device r.name r.held j) own.is there.device);
+        device = judged_device k r.device r.name r.held own.dev (subst (λ (j : Judged). IsDevice k r.device r.name r.held j) own.is x.device);
         on = r.on;
         amid = (x.probed.lived.probing, amid_from h.kernel_answered h.kernel_after r.name r.held.0 r.device r.on x.probed, amid_to h.kernel_answered h.kernel_after r.name r.held.0 r.device r.on x.probed, x.probed.lived.alive);
         beside = beside;
@@ -147,9 +149,15 @@ module _ (start : Judging) (hub : Option Write) (first : Kernel) (o : Option Dis
             (d.0, z.s.name, z.s.held, judged_device h.kernel_after d.0 z.s.name z.s.held y (subst (λ (j : Judged). IsDevice h.kernel_after d.0 z.s.name z.s.held j) z.judged d.1));
         before = deeds;
         after = more;
-        in_order = deeds_seen hs ∙ ap (λ (l : List Told). map deed l) tale ∙ map_append deed (told_by start before) (Decided (decision_by q r) ∷ told_by (after_ruling q r) after)
+        in_order = deeds_seen front ∙ ap (λ (l : List Told). map deed l) told.at ∙ map_append deed (told_by start before) (Decided d ∷ told.after)
             ∙ ap (λ (v : Target × Cause). deeds ++ Judges r.number r.name r.held v.0 v.1 ∷ more) said;
-        ordered = λ change a. change_seen hs change (run.changed change (subst (λ (l : List PolicyStep). Has l (Changed change)) (sym at) (has_left before (Ruled r ∷ after) (Changed change) (change_has start before change a))));
+        ordered = λ change a.
+            let y = place_of before (Changed change) (change_has start before change a) in
+            let whole : run.steps ≡ y.0 ++ Changed change ∷ (y.1 ++ Ruled r ∷ after) = at ∙ ap (λ (l : List PolicyStep). l ++ Ruled r ∷ after) y.2 ∙ append_assoc y.0 (Changed change ∷ y.1) (Ruled r ∷ after) in
+            let w : WasAsked start hs y.0 change = run.changed y.0 change (y.1 ++ Ruled r ∷ after) whole in
+            let more : List Told = told_by (changed_by change (after_steps start y.0)) y.1 in
+            let tale : told_by start before ≡ told_of w.earlier ++ Was_changed change ∷ more = ap (λ (l : List PolicyStep). told_by start l) y.2 ∙ told_split start y.0 (Changed change ∷ y.1) ∙ ap (λ (l : List Told). l ++ Was_changed change ∷ more) w.told in
+            change_seen start hs front y.0 change w (changed_within hs front rest w.earlier w.event w.later change more (told_by start before) d cut w.in_run told tale);
         judgements = judgements;
         applied = applied_told start before;
         words = words;
@@ -159,32 +167,27 @@ module _ (start : Judging) (hub : Option Write) (first : Kernel) (o : Option Dis
             (subst (λ (m : Moment). Reason now judgements (context_at start.clock m) beside (behind words start.stream) own.dev root r.present r.on why) x.moment known)));
       }
 
-  -- a decision that was told, where nobody ordered it
-  by_rules : (i : ℕ) (d : Decision) → d.verdict ≡ target.Allow → is_ordered d.cause ≡ false → Has (decisions_in (journal hs)) d → slice_get l.held d.held.0 ≡ Some (record { device = i; control = Authorized }) → WasJudgedByRules start (map seen hs) l d.number i d.name d.held d.cause
-  by_rules i d allows is told file =
-      let x = ruling_of start run.steps d (subst (λ (ts : List Told). Has ts (Decided d)) run.told (told_has hs d (unordered_has (decisions_in (journal hs)) d is told))) in
-      let r : Ruling = x.ruling in
-      let q : Judging = after_steps start x.before in
-      let both : ruling_answer q r ≡ (d.verdict, d.cause) = ap (λ (y : Decision). (y.verdict, y.cause)) x.is in
+  -- a decision that the policy gave
+  by_rules : (front rest : List Happened) (es : List Entry) (i : ℕ) (d : Decision) → d.verdict ≡ target.Allow → (w : WasJudged start hs run.steps k es i d) → hs ≡ front ++ rest → GoesOn front w.placed.earlier w.placed.event → WasJudgedByRules start (map seen front) k d.number i d.name d.held d.cause
+  by_rules front rest es i d allows w cut there =
+      let r : Ruling = w.ruling in
+      let q : Judging = after_steps start w.before in
+      let both : ruling_answer q r ≡ (d.verdict, d.cause) = verdict_is (at_moment r.moment q) (allowed_records r.standings) r.judged (is_none (parent_of r.name)) r.present r.on d.verdict d.cause w.given in
       let said : ruling_answer q r ≡ (target.Allow, d.cause) = both ∙ ap (λ (v : Target). (v, d.cause)) allows in
-      let w : WasJudgedByRules start (map seen hs) l r.number r.device r.name r.held d.cause = by_ruling x.before x.after r x.at d.cause said in
-      let held : r.held ≡ d.held = ap (λ (y : Decision). y.held) x.is in
-      let own : slice_get l.held r.held.0 ≡ Some (record { device = i; control = Authorized }) = subst (λ (f : Held). slice_get l.held f.0 ≡ Some (record { device = i; control = Authorized })) (sym held) file in
-      subst (λ (n : ℕ). WasJudgedByRules start (map seen hs) l n i d.name d.held d.cause) (ap (λ (y : Decision). y.number) x.is)
-      (subst (λ (j : ℕ). WasJudgedByRules start (map seen hs) l r.number j d.name d.held d.cause) (same_device l r.held.0 r.device i w.device.file own)
-      (subst (λ (n : List ℕ). WasJudgedByRules start (map seen hs) l r.number r.device n d.held d.cause) (ap (λ (y : Decision). y.name) x.is)
-      (subst (λ (f : Held). WasJudgedByRules start (map seen hs) l r.number r.device r.name f d.cause) held w)))
+      let own : WasJudgedByRules start (map seen front) k r.number r.device r.name r.held d.cause = by_ruling front rest w.before w.after r w.at w.placed cut there d.cause said in
+      subst (λ (n : ℕ). WasJudgedByRules start (map seen front) k n i d.name d.held d.cause) w.number
+      (subst (λ (j : ℕ). WasJudgedByRules start (map seen front) k r.number j d.name d.held d.cause) w.device
+      (subst (λ (n : List ℕ). WasJudgedByRules start (map seen front) k r.number r.device n d.held d.cause) w.name
+      (subst (λ (f : Held). WasJudgedByRules start (map seen front) k r.number r.device r.name f d.cause) w.held own)))
 
 -- a number that an order finds was told before as that of its file
-by_order : (start : Judging) (hub : Option Write) (number : ℕ) (first : Kernel) (o : Option Disk) (a : DaemonState) (hs : List Happened) (k : Kernel) (p : Option Disk) (e : DaemonState) → IsStarted start hub number a → Chain first o a hs k p e → (d : Decision) → d.verdict ≡ target.Allow → WasOrdered hs d → WasOrderedByOne (map seen hs) d.number d.name d.held d.cause
-by_order start hub number first o a hs k p e started c d allows w =
-    let front = (goes_to first o a w.earlier w.event w.later k p e (subst (λ (l : List Happened). Chain first o a l k p e) w.in_run c)).before in
-    let run : IsRun start hub first o w.earlier w.event.kernel w.event.disk w.event.before = is_run start hub number first o a w.earlier w.event.kernel w.event.disk w.event.before started front in
+by_order : (hs front : List Happened) (at : List Entry) (d : Decision) → d.verdict ≡ target.Allow → (w : WasOrdered hs at d) → GoesOn front w.earlier w.event → WasOrderedByOne (map seen front) d.number d.name d.held d.cause
+by_order hs front at d allows w in_front =
     let s : Standing = w.standing in
     let has = numbered_has d.number w.event.before.sweep.standings s w.stands in
     let es : List Entry = journal w.earlier in
-    let last : last_decision (decisions_in es) s.number ≡ Some (decision_of s) = sym (or_else_none (last_decision (decisions_in es) s.number)) ∙ run.agree s has.0 in
-    let told : Has es (entry.Judged s.number s.name s.held s.verdict s.cause) = decision_has es (decision_of s) (last_has (decisions_in es) s.number (decision_of s) last).0 in
+    let last : last_decision (decisions_in es) d.number ≡ Some (decision_of s) = sym (or_else_none (last_decision (decisions_in es) d.number)) ∙ w.force in
+    let told : Has es (entry.Judged s.number s.name s.held s.verdict s.cause) = decision_has es (decision_of s) (last_has (decisions_in es) d.number (decision_of s) last).0 in
     let there : Has es (entry.Judged d.number d.name d.held s.verdict s.cause) =
     subst (λ (n : ℕ). Has es (entry.Judged n d.name d.held s.verdict s.cause)) has.1
     (subst (λ (n : List ℕ). Has es (entry.Judged s.number n d.held s.verdict s.cause)) w.name
@@ -193,8 +196,8 @@ by_order start hub number first o a hs k p e started c d allows w =
     record {
       earlier = map seen w.earlier;
       event = seen w.event;
-      later = map seen w.later;
-      in_run = seen_split hs w.earlier w.event w.later w.in_run;
+      later = map seen in_front.later;
+      in_run = seen_split front w.earlier w.event in_front.later in_front.in_front;
       asks = ap (λ (x : Event). verdict_in x) w.is_order ∙ ap (λ (r : _). verdict_read r) asked;
       granted = order_granted w.event.before.access w.who (request.Device d.number d.verdict w.permanent) w.moment w.line w.event.event w.is_order w.asked w.granted;
       who = (w.who, ap (λ (x : Event). ordered_by x) w.is_order, w.cause);
@@ -208,12 +211,15 @@ wants_allow target.Allow h = refl
 wants_allow target.Block h = let none : ⊥ = cc in absurd none
 wants_allow target.Reject h = let none : ⊥ = cc in absurd none
 
-module _ (start : Judging) (hub : Option Write) (number : ℕ) (first : Kernel) (o : Option Disk) (a : DaemonState) (hs : List Happened) (k : Kernel) (p : Option Disk) (e : DaemonState) (started : IsStarted start hub number a) (new : IsLater start 0 [] start) (c : Chain first o a hs k p e) (steps : List PolicyStep) where
-  file_of : (i : ℕ) (d : Decision) → WasDecided start hs steps k i d → slice_get k.held d.held.0 ≡ Some (record { device = i; control = Authorized })
-  file_of i d (inl w) =
+module _ (start : Judging) (hub : Option Write) (first : Kernel) (o : Option Disk) (hs : List Happened) (k : Kernel) (p : Option Disk) (e : DaemonState) (new : IsLater start 0 [] start) (run : IsRun start hub first o hs k p e) where
+  abbrev steps : List PolicyStep
+  steps = run.steps
+
+  file_of : (es : List Entry) (i : ℕ) (d : Decision) → WasDecided start hs steps k es i d → slice_get k.held d.held.0 ≡ Some (record { device = i; control = Authorized })
+  file_of es i d (inl w) =
       subst (λ (j : ℕ). slice_get k.held d.held.0 ≡ Some (record { device = j; control = Authorized })) w.device
       (subst (λ (f : Held). slice_get k.held f.0 ≡ Some (record { device = w.ruling.device; control = Authorized })) w.held w.placed.device.file)
-  file_of i d (inr w) = w.1
+  file_of es i d (inr w) = w.1
 
   -- the entries end within an event
   warrant : (es : List Entry) (d : Decision) (effect : Effect) (at : IsIn hs es) → IsExplained hub start hs steps k es d effect → effect.write ≡ write.On → IsWarranted start (map seen hs) k (map line_of es) d.number effect.device
@@ -221,27 +227,10 @@ module _ (start : Judging) (hub : Option Write) (number : ℕ) (first : Kernel) 
       let g : Happened = at.event in
       let hs' : List Happened = at.earlier ++ g ∷ [] in
       let allows : d.verdict ≡ target.Allow = wants_allow d.verdict (subst (λ (v : Write). CallsFor hub d.name d.verdict v) on x.wanted) in
-      let force : last_decision (decisions_in es) d.number ≡ Some d = sym (or_else_none (last_decision (decisions_in es) d.number)) ∙ x.force in
-      let is = is_last es d force in
-      let to = goes_to first o a at.earlier g at.later k p e (subst (λ (l : List Happened). Chain first o a l k p e) at.in_run c) in
-      let front : IsRun start hub first o hs' g.kernel_after g.disk_after g.after = is_run start hub number first o a hs' g.kernel_after g.disk_after g.after started to.with_it in
-      let cut : journal hs' ≡ es ++ (at.rest ++ []) =
-      journal_append at.earlier (g ∷ [])
-      ∙ ap (λ (l : List Entry). journal at.earlier ++ (l ++ [])) at.in_event
-      ∙ ap (λ (l : List Entry). journal at.earlier ++ l) (append_assoc at.more at.rest [])
-      ∙ sym (append_assoc (journal at.earlier) at.more (at.rest ++ []))
-      ∙ ap (λ (l : List Entry). l ++ (at.rest ++ [])) (sym at.cut) in
-      let told : Has (decisions_in (journal hs')) d =
-      subst (λ (ds : List Decision). Has ds d) (sym (ap (λ (l : List Entry). decisions_in l) cut ∙ decisions_append es (at.rest ++ [])))
-      (has_left (decisions_in es) (decisions_in (at.rest ++ [])) d (last_has (decisions_in es) d.number d force).0) in
-      let file = file_of effect.device d x.decided in
+      let file = file_of x.told.before effect.device d x.decided in
       let seen_to : map seen hs' ≡ map seen at.earlier ++ seen g ∷ [] = map_append seen at.earlier (g ∷ []) in
+      let cut : hs ≡ hs' ++ at.later = at.in_run ∙ sym (append_assoc at.earlier (g ∷ []) at.later) in
       let It : List Seen → Type 0 = λ l. WasJudgedByRules start l k d.number effect.device d.name d.held d.cause ⊎ WasOrderedByOne l d.number d.name d.held d.cause in
-      let T : Bool → Type 0 = λ b. is_ordered d.cause ≡ b → It (map seen hs') in
-      let by : (b : Bool) → T b = λ b. elim b as T [
-        | true ↦ λ so. inr (by_order start hub number first o a hs' g.kernel_after g.disk_after g.after started to.with_it d allows (front.ordered d told so))
-        | false ↦ λ so. inl (by_rules start hub first o hs' g.kernel_after g.disk_after g.after new front k to.grows effect.device d allows so told file)
-      ] in
       record {
         earlier = map seen at.earlier;
         event = seen g;
@@ -256,14 +245,17 @@ module _ (start : Judging) (hub : Option Write) (number : ℕ) (first : Kernel) 
         name = d.name;
         held = d.held;
         why = d.cause;
-        before = map line_of is.before;
-        since = map line_of is.since;
-        last = subst (λ (v : Target). map line_of es ≡ map line_of is.before ++ Verdict d.number d.name d.held v d.cause ∷ map line_of is.since) allows (ap (λ (l : List Entry). map line_of l) is.last ∙ map_append line_of is.before (told_as d ∷ is.since));
+        before = map line_of x.told.before;
+        since = map line_of x.told.since;
+        last = subst (λ (v : Target). map line_of es ≡ map line_of x.told.before ++ Verdict d.number d.name d.held v d.cause ∷ map line_of x.told.since) allows (ap (λ (l : List Entry). map line_of l) x.told.at ∙ map_append line_of x.told.before (decided_entry d ∷ x.told.since));
         none = λ n f v why h.
-            let y = map_has line_of is.since (Verdict d.number n f v why) h in
-            is.none n f v why (subst (λ (z : Entry). Has is.since z) (line_judged y.0 d.number n f v why y.2) y.1);
+            let y = map_has line_of x.told.since (Verdict d.number n f v why) h in
+            none_since x.told.since d.number x.told.none n f v why (subst (λ (z : Entry). Has x.told.since z) (line_judged y.0 d.number n f v why y.2) y.1);
         file = file;
-        allowed = subst It seen_to (by (is_ordered d.cause) refl);
+        allowed = subst It seen_to (elim x.decided [
+          | inl w ↦ inl (by_rules start hub first o hs k p e new run hs' at.later x.told.before effect.device d allows w cut (told_within hs w.placed.earlier w.placed.event w.placed.later (w.placed.event.answered.sweep.entries ++ w.placed.front) d x.told.since es at w.placed.in_run (x.told.at ∙ ap (λ (l : List Entry). l ++ decided_entry d ∷ x.told.since) w.here)))
+          | inr w ↦ inr (by_order hs hs' x.told.before d allows w.0 (told_within hs w.0.earlier w.0.event w.0.later w.0.front d x.told.since es at w.0.in_run (x.told.at ∙ ap (λ (l : List Entry). l ++ decided_entry d ∷ x.told.since) w.0.here)))
+        ]);
       }
 
   tells : (es : List Entry) (log : List Effect) (back : List Entry) → journal hs ≡ es ++ back → Explains hub start hs steps k es log → Tells start (map seen hs) k (map line_of es) log
@@ -289,5 +281,5 @@ each_write start hub number first o a hs k p e started new c =
       added = run.explained.added;
       log = run.explained.log;
       each = subst (λ (l : List Line). Tells start (map seen hs) k l run.explained.added) (sym (journal_seen hs))
-          (tells start hub number first o a hs k p e started new c run.steps (journal hs) run.explained.added [] (sym (append-nil (journal hs))) run.explained.each);
+          (tells start hub first o hs k p e new run (journal hs) run.explained.added [] (sym (append-nil (journal hs))) run.explained.each);
     }

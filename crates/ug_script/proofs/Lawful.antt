@@ -45,6 +45,9 @@ use Rattle.ug_core.specs.Event.{trying}
 use Rattle.ug_types.specs.declared.event.Event.{Event}
 use Rattle.ug_types.specs.declared.event.Event.TheVariants.{Sweep, Order, Hint}
 use Rattle.ug_core.proofs.Kept.{sweep_adds}
+use Rattle.ug_kernel.proofs.Told.{told_run}
+use Rattle.ug_core.specs.Values.{LogsValues}
+use Rattle.ug_core.proofs.Values.{runs_values}
 use Rattle.ug_core.proofs.Handled as handled_names
 use Rattle.ug_core.proofs.Handled.{names_settle, names_tell, sweep_tells}
 use Rattle.ug_core.proofs.Plain.{due_keeps_hub}
@@ -178,9 +181,12 @@ swept_from a m order h =
     let run : t.ran_out ≡ false = play_told p m h.told in
     let swept = due_settles a.due a.sweep m t v order (play_runs p m) t.kernel (told_at t run) in
     let same : swept.0 ≡ m.kernel = same_Some swept.0 m.kernel (sym swept.1 ∙ told_at m h.told) in
+    let whole = told_run Gives told does_what_it_may p m v t t.kernel (play_runs p m) (told_at t run) in
+    let one : whole.kernel ≡ m.kernel = same_Some whole.kernel m.kernel (sym whole.was ∙ told_at m h.told) in
     rw (plays_sweep a m) (record {
       swept = v;
       law = subst (λ (k : Kernel). SettlesDue a.due k a.sweep t.kernel v) same (swept.2 (rw same h.sound) (rw same h.stand));
+      values = subst (λ (k : Kernel). LogsValues k t.kernel) one (runs_values p whole.kernel v t.kernel (whole.run (rw one h.sound)).0);
       entries = refl;
       hub = due_keeps_hub Gives a.due m a.sweep v t (play_runs p m);
       access = refl;

@@ -1,5 +1,8 @@
-use Rattle.std.proofs.Common.{◌+◌, ℕ, refl, sym, ap, ◌∙◌, List, ◌++◌, ◌∷◌, [], Option, subst}
+use Rattle.std.proofs.Common.{◌≡◌, ◌+◌, ℕ, refl, sym, ap, ◌∙◌, List, ◌++◌, ◌∷◌, [], Option, subst}
+use Rattle.std.proofs.lemmas.Option.{same_Some}
+use Rattle.ug_kernel.specs.Kernel.{Kernel, IsKernel}
 use Rattle.ug_kernel.specs.Tree.{Runs}
+use Rattle.ug_kernel.proofs.Told.{told_run}
 use Rattle.ug_audit.specs.declared.entry.Entry.{Entry}
 use Rattle.ug_audit.specs.declared.entry.Entry.TheVariants as entry
 use Rattle.ug_audit.specs.Noted.{Noted}
@@ -10,8 +13,10 @@ use Rattle.ug_core.proofs.Noted.{noted_more}
 use Rattle.ug_table.specs.State.{State, state_of}
 use Rattle.ug_core.specs.Due.{TellsDue}
 use Rattle.ug_core.specs.Policy.{Judging, judging_of}
-use Rattle.ug_core.specs.Event.{DaemonState, daemon_of, settling_due}
+use Rattle.ug_core.specs.Event.{DaemonState, daemon_of, handling, settling_due}
 use Rattle.ug_core.specs.Laws.{SettlesDue}
+use Rattle.ug_core.specs.Values.{LogsValues}
+use Rattle.ug_core.proofs.Values.{runs_values}
 use Rattle.ug_core.proofs.Handled.{handled, handles_run}
 use Rattle.ug_core.proofs.Failures.{event_names}
 use Rattle.ug_core.proofs.daemon.Daemon.settle.Goals as goal
@@ -31,12 +36,15 @@ returns-clause-law g c = λ l e.
     let q = c.settle_due.ensures.law l e in
     let d : DaemonState = daemon_of c.args.self.now in
     let es : List Entry = (noted_in c.join-journal.result).entries in
-    let v : State Judging = state_of c.args.self.now.hub_default c.settle_due.new.table (judging_of g.Z.Zone.clock g.R.Rng.stream c.settle_due.new.policy) (noted_in c.settle_due.new.out).entries in (
+    let v : State Judging = state_of c.args.self.now.hub_default c.settle_due.new.table (judging_of g.Z.Zone.clock g.R.Rng.stream c.settle_due.new.policy) (noted_in c.settle_due.new.out).entries in
+    let x = told_run g.Y.Sysfs.gives g.Y.Sysfs.told g.met.Y.Sysfs.did (handling d) c.args.sysfs.now _ c.settle_due.new.sysfs l (returns-clause-runs g c) e in
+    let same : x.kernel ≡ q.0 = same_Some x.kernel q.0 (sym x.was ∙ q.1) in (
       q.0,
       q.1,
       λ sound stand. handled d q.0 l v es _
           (ap (λ (x : Noted). without_drops x.entries) c.join-journal.ensures.now)
           (subst (λ (x : Option (List (List ℕ))). SettlesDue x q.0 (record d.sweep { entries = es }) l v) c.take-due.ensures.value (q.2 sound stand))
+          (subst (λ (k : Kernel). LogsValues k l) same (runs_values (handling d) x.kernel _ l (x.run (subst (λ (k : Kernel). IsKernel k) (sym same) sound)).0))
           (ap (λ (xs : List Entry). record v { entries = xs }) c.push.ensures.entries)
           refl
           refl
