@@ -1,5 +1,7 @@
 pub mod Calls
 pub mod Ending
+pub mod Fetched
+pub mod Ordered
 pub mod Front
 pub mod NoticeWords
 pub mod NoticeLines

@@ -7,3 +7,6 @@ pub mod Notices
 pub mod ReadSoFar
 pub mod Watching
 pub mod WholeBytes
+pub mod Fetching
+pub mod Choosing
+pub mod Ordering
