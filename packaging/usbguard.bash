@@ -81,16 +81,16 @@ _usbguard_options() {
         ;;
     allow-device | block-device | reject-device)
         if [[ $1 == -* ]]; then
-            _usbguard_words "$1" --socket -p
+            _usbguard_words "$1" --permanent --socket -p
         else
             _usbguard_numbers "$1" list-devices
         fi
         ;;
     append-rule)
-        if [[ $2 == -a ]]; then
+        if [[ $2 == -a || $2 == --after ]]; then
             _usbguard_numbers "$1" list-rules
         elif [[ $1 == -* ]]; then
-            _usbguard_words "$1" --socket -a -t
+            _usbguard_words "$1" --after --socket --temporary -a -t
         fi
         ;;
     remove-rule)
@@ -102,7 +102,7 @@ _usbguard_options() {
         ;;
     lint-rules) [[ $1 != -* ]] || _usbguard_words "$1" --prune ;;
     replay) [[ $1 != -* ]] || _usbguard_words "$1" --summary ;;
-    watch) [[ $1 != -* ]] || _usbguard_words "$1" --socket -n ;;
+    watch) [[ $1 != -* ]] || _usbguard_words "$1" --most --socket -n ;;
     get-parameter | set-parameter)
         if [[ $1 == -* ]]; then
             _usbguard_words "$1" --socket
@@ -110,7 +110,8 @@ _usbguard_options() {
             _usbguard_parameter "$1" "$2" "$3"
         fi
         ;;
-    list-devices | list-rules) [[ $1 != -* ]] || _usbguard_words "$1" --socket ;;
+    list-devices) [[ $1 != -* ]] || _usbguard_words "$1" --allowed --blocked --socket -a -b ;;
+    list-rules) [[ $1 != -* ]] || _usbguard_words "$1" --socket ;;
     esac
 }
 

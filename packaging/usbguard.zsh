@@ -12,7 +12,7 @@ _usbguard_commands() {
         'generate-policy:write rules that allow the devices of a script'
         'get-parameter:print what a setting is'
         'lint-rules:tell which rules of a text can never decide, or take them out'
-        'list-devices:print all devices'
+        'list-devices:print devices'
         'list-rules:print all rules'
         "read-descriptor:list what a device's file descriptors says"
         'reject-device:reject a device'
@@ -64,12 +64,13 @@ _usbguard_numbers() {
 _usbguard_options() {
     case $words[2] in
         add-user) compadd -- --devices --exceptions --parameters --policy ;;
-        allow-device|block-device|reject-device) compadd -- --socket -p ;;
-        append-rule) compadd -- --socket -a -t ;;
+        allow-device|block-device|reject-device) compadd -- --permanent --socket -p ;;
+        append-rule) compadd -- --after --socket --temporary -a -t ;;
         lint-rules) compadd -- --prune ;;
         replay) compadd -- --summary ;;
-        watch) compadd -- --socket -n ;;
-        get-parameter|list-devices|list-rules|remove-rule|set-parameter) compadd -- --socket ;;
+        watch) compadd -- --most --socket -n ;;
+        list-devices) compadd -- --allowed --blocked --socket -a -b ;;
+        get-parameter|list-rules|remove-rule|set-parameter) compadd -- --socket ;;
     esac
 }
 

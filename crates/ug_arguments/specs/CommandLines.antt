@@ -1,8 +1,9 @@
 -- What command lines ask for, by example.
-use Rattle.std.specs.Prelude.{ℕ, List, Option, Some, codes, false, true}
+use Rattle.std.specs.Prelude.{ℕ, Bool, List, Option, Some, None, codes, false, true}
 use Rattle.ug_types.specs.Principals.{Named}
 use Rattle.ug_proto.specs.declared.request.Request.{Request}
 use Rattle.ug_acl.specs.declared.lists.Listed.{Listed}
+use Rattle.ug_rows.specs.declared.choice.Choice.{Choice}
 use Rattle.ug_arguments.specs.declared.command.Command.{Command}
 use Rattle.ug_arguments.specs.declared.command.Command.TheVariants.{AddUser, Ask}
 
@@ -28,3 +29,7 @@ adds who devices policy exceptions parameters =
     Some
     (AddUser who (record
     { devices = devices; policy = policy; exceptions = exceptions; parameters = parameters }))
+
+-- the devices that are allowed, those that are blocked, or both
+abbrev pub wanted_rows : Bool → Bool → Choice
+wanted_rows allowed blocked = record { allowed = allowed; blocked = blocked; query = None }

@@ -1,13 +1,19 @@
 -- What the words of a command line mean.
 use Rattle.std.specs.Prelude.{ℕ, ◌≡◌, ◌&&◌, not, nat_eq, nat_le, List, [], ◌∷◌, length, Option, Some, None, if◌then◌else◌}
-use Rattle.std.specs.Prelude.{option_and_then, option_map, unwrap_or, codes}
+use Rattle.std.specs.Prelude.{option_and_then, option_map, unwrap_or, codes, Bool, is_none, is_some, Result, Ok, Err}
 use Rattle.clap.specs.Words.{Row, first_of}
 use Rattle.ug_types.specs.Principals.{principal_of}
 use Rattle.ug_types.specs.declared.access.Section.{Section}
 use Rattle.ug_types.specs.declared.access.Section.TheVariants.{Devices, Policy, Exceptions, Parameters}
 use Rattle.ug_types.specs.declared.rule.After.{After}
 use Rattle.ug_types.specs.declared.rule.After.TheVariants as after
+use Rattle.ug_types.specs.declared.rule.Query.{Query}
 use Rattle.ug_types.specs.declared.verdict.Target.{Target}
+use Rattle.ug_types.specs.Targets.{target_of}
+use Rattle.ug_rule.specs.Rules.{query_read}
+use Rattle.ug_rule.specs.declared.fault.Fault.{Fault}
+use Rattle.ug_rows.specs.Cuts.{cut_at_mark}
+use Rattle.ug_rows.specs.declared.choice.Choice.{Choice}
 use Rattle.ug_lines.specs.Numbers.{number_in}
 use Rattle.ug_proto.specs.Texts.{request_text}
 use Rattle.ug_proto.specs.declared.request.Request.{Request}
@@ -19,7 +25,7 @@ use Rattle.ug_arguments.specs.CommandWords.{word_in}
 use Rattle.ug_arguments.specs.SimpleCommands.{app_of_word, daemon_app, rows_in}
 use Rattle.ug_arguments.specs.Values.{is_event_count, is_line, is_most, is_rule, is_set, is_start, is_plain_word, number_found, passing, text_found}
 use Rattle.ug_arguments.specs.declared.command.Command.{Command}
-use Rattle.ug_arguments.specs.declared.command.Command.TheVariants.{Replay, Summarize, MakeScript, ReadDescriptor, CheckRules, LintRules, GeneratePolicy, AddUser, Ask, Watch}
+use Rattle.ug_arguments.specs.declared.command.Command.TheVariants.{Replay, Summarize, MakeScript, ReadDescriptor, CheckRules, LintRules, GeneratePolicy, AddUser, Ask, ListChosen, Order, Watch}
 use Rattle.ug_arguments.specs.declared.command.WordsFault.{WordsFault}
 use Rattle.ug_arguments.specs.declared.command.WordsFault.TheVariants.{Bad, Memory}
 use Rattle.ug_arguments.specs.declared.command_word.CommandWord.{CommandWord}
@@ -121,6 +127,66 @@ ask_in asked rows =
     option_and_then (λ request. option_map (λ socket. Ask socket request) (socket_in rows))
     (option_and_then sendable asked)
 
+-- ---- lists of devices, and orders on devices
+
+abbrev pub good_query : Result Query Fault → Option Query
+good_query (Ok query) = Some query
+good_query (Err fault) = None
+
+unfoldable pub query_in : List ℕ → Option Query
+query_in text = good_query (query_read text)
+
+-- a query, or none where none is given
+abbrev pub query_given : Option (List ℕ) → Option (Option Query)
+query_given None = Some None
+query_given (Some text) = option_map (λ query. Some query) (query_in text)
+
+abbrev pub choice_in : Option Query → List Row → Choice
+choice_in query rows = record {
+  allowed = is_set (codes "allowed") rows;
+  blocked = is_set (codes "blocked") rows;
+  query = query;
+}
+
+abbrev pub list_chosen_in : List Row → Option Command
+list_chosen_in rows =
+    option_and_then (λ socket. option_map (λ query. ListChosen socket (choice_in query rows))
+    (query_given (first_of (codes "query") rows))) (socket_in rows)
+
+-- nothing says that some rows alone are wanted
+abbrev pub is_whole_list : List Row → Bool
+is_whole_list rows =
+    is_none (first_of (codes "query") rows) && not (is_set (codes "allowed") rows)
+    && not (is_set (codes "blocked") rows)
+
+abbrev pub list_devices_in : List Row → Option Command
+list_devices_in rows =
+    if is_whole_list rows then ask_in (Some request.ListDevices) rows else list_chosen_in rows
+
+-- a target in front of the attributes counts for nothing
+abbrev pub behind_target_of : List ℕ → Option (List ℕ × List ℕ) → List ℕ
+behind_target_of text None = text
+behind_target_of text (Some cut) = if is_some (target_of cut.0) then cut.1 else text
+
+abbrev pub behind_target : List ℕ → List ℕ
+behind_target text = behind_target_of text (cut_at_mark 32 text)
+
+abbrev pub order_in : Target → List ℕ → List Row → Option Command
+order_in target text rows =
+    option_and_then (λ socket. option_map
+    (λ query. Order socket query target (is_set (codes "permanent") rows))
+    (query_in (behind_target text))) (socket_in rows)
+
+-- on the device of that number, or on those that a query matches
+abbrev pub order_by : Target → Option (List ℕ) → List Row → Option Command
+order_by target None rows = None
+order_by target (Some text) rows =
+    if is_some (number_in text) then ask_in (device_in target rows) rows
+    else order_in target text rows
+
+abbrev pub device_command_in : Target → List Row → Option Command
+device_command_in target rows = order_by target (first_of (codes "number") rows) rows
+
 unfoldable pub default_most : ℕ
 default_most = 1000000
 
@@ -152,8 +218,8 @@ meaning command.GeneratePolicy rows = Some GeneratePolicy
 meaning command.AddUser rows = add_user_in rows
 meaning command.GetParameter rows = ask_in (get_parameter_in rows) rows
 meaning command.SetParameter rows = ask_in (set_parameter_in rows) rows
-meaning command.ListDevices rows = ask_in (Some request.ListDevices) rows
-meaning (command.Device target) rows = ask_in (device_in target rows) rows
+meaning command.ListDevices rows = list_devices_in rows
+meaning (command.Device target) rows = device_command_in target rows
 meaning command.ListRules rows = ask_in (Some request.ListRules) rows
 meaning command.AppendRule rows = ask_in (append_rule_in rows) rows
 meaning command.RemoveRule rows = ask_in (remove_rule_in rows) rows

@@ -14,13 +14,18 @@ required_word id = record (new_rule id) { required = true }
 abbrev pub long_option : List ℕ → Rule
 long_option id = record (new_rule id) { long = Some id }
 
--- `-L VALUE`, which may be left out
-abbrev pub short_option : List ℕ → ℕ → Rule
-short_option id letter = record (new_rule id) { short = Some letter }
+-- a word that may be left out
+abbrev pub optional_word : List ℕ → Rule
+optional_word id = new_rule id
 
--- `-L`, which may be left out
+-- `-L VALUE` or `--NAME VALUE`, which may be left out
+abbrev pub short_option : List ℕ → ℕ → Rule
+short_option id letter = record (new_rule id) { long = Some id; short = Some letter }
+
+-- `-L` or `--NAME`, which may be left out
 abbrev pub flag : List ℕ → ℕ → Rule
-flag id letter = record (new_rule id) { short = Some letter; action = Some SetTrue }
+flag id letter =
+    record (new_rule id) { long = Some id; short = Some letter; action = Some SetTrue }
 
 -- `--NAME`, which may be left out
 abbrev pub long_flag : List ℕ → Rule
@@ -51,7 +56,14 @@ add_user_app =
 abbrev pub asking_app : List ℕ → App
 asking_app name = with_rule (new_app name) (long_option (codes "socket"))
 
--- allow-device NUMBER [-p] [--socket PATH], and the like
+-- list-devices [QUERY] [-a] [-b] [--socket PATH]
+abbrev pub list_devices_app : App
+list_devices_app =
+    with_rule
+    (with_rule (with_rule (asking_app (codes "list-devices")) (optional_word (codes "query")))
+    (flag (codes "allowed") 97)) (flag (codes "blocked") 98)
+
+-- allow-device NUMBER [-p] [--socket PATH], and the like; a query may stand in place of the number
 abbrev pub device_app : List ℕ → App
 device_app name =
     with_rule (with_rule (asking_app name) (required_word (codes "number")))
@@ -96,7 +108,7 @@ app_of_word command.GeneratePolicy = new_app (codes "generate-policy")
 app_of_word command.AddUser = add_user_app
 app_of_word command.GetParameter = get_parameter_app
 app_of_word command.SetParameter = set_parameter_app
-app_of_word command.ListDevices = asking_app (codes "list-devices")
+app_of_word command.ListDevices = list_devices_app
 app_of_word (command.Device Allow) = device_app (codes "allow-device")
 app_of_word (command.Device Block) = device_app (codes "block-device")
 app_of_word (command.Device Reject) = device_app (codes "reject-device")

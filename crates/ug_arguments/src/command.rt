@@ -3,7 +3,8 @@ ghost use Rattle.std.specs.Prelude.{◌≡◌};
 
 use ug_acl::Asked;
 use ug_proto::Request;
-use ug_types::{NoMemory, Principal, Text};
+use ug_rows::Choice;
+use ug_types::{NoMemory, Principal, Query, Target, Text};
 
 /// A command of usbguard(1), with what its words say.
 #[derive(Drop)]
@@ -22,6 +23,15 @@ pub enum Command {
     AddUser { name: Principal, asked: Asked },
     /// Asks the daemon that listens at that path. The path and the request hold no newline.
     Ask { socket: Text, request: Request },
+    /// Asks it for its devices, and prints those that are chosen.
+    ListChosen { socket: Text, choice: Choice },
+    /// Asks it for its devices, and orders the target for each that the query matches.
+    Order {
+        socket: Text,
+        query: Query,
+        target: Target,
+        permanent: bool,
+    },
     /// Asks it for notices, and prints so many at most.
     Watch { socket: Text, most: u64 },
 }
@@ -33,6 +43,19 @@ impl Command {
             Command::Ask { socket, request } => {
                 drop(socket);
                 request.discard();
+            }
+            Command::ListChosen { socket, choice } => {
+                drop(socket);
+                choice.discard();
+            }
+            Command::Order {
+                socket,
+                query,
+                target: _,
+                permanent: _,
+            } => {
+                drop(socket);
+                query.discard();
             }
             Command::Watch { socket, most: _ } => drop(socket),
             Command::Replay

@@ -4,9 +4,9 @@ ghost use Rattle.ug_types.specs.declared.rule.After.TheVariants as after;
 ghost use Rattle.ug_types.specs.declared.verdict.Target.TheVariants as target;
 ghost use Rattle.ug_proto.specs.declared.request.Request.TheVariants as request;
 ghost use Rattle.ug_acl.specs.Lists.{nothing_listed};
-ghost use Rattle.ug_arguments.specs.CommandLines.{adds, asking_command, joe, listen_alone, listing, root_socket};
+ghost use Rattle.ug_arguments.specs.CommandLines.{adds, asking_command, joe, listen_alone, listing, root_socket, wanted_rows};
 ghost use Rattle.ug_arguments.specs.Commands.{command_in, settings_path};
-ghost use Rattle.ug_arguments.specs.declared.command.Command.TheVariants.{Ask, CheckRules, GeneratePolicy, LintRules, MakeScript, ReadDescriptor, Replay, Summarize, Watch};
+ghost use Rattle.ug_arguments.specs.declared.command.Command.TheVariants.{Ask, CheckRules, GeneratePolicy, LintRules, ListChosen, MakeScript, ReadDescriptor, Replay, Summarize, Watch};
 
 /// Each command that reads texts.
 pub fn command_lines_law()
@@ -79,6 +79,31 @@ pub fn asking_lines_law()
     ensures watch { command_in (codes "watch" ∷ [])
         ≡ Some (Watch root_socket 1000000) }
     ensures most { command_in (codes "watch" ∷ codes "-n" ∷ codes "7" ∷ [])
+        ≡ Some (Watch root_socket 7) }
+{}
+
+/// Which devices `list-devices` is asked for.
+pub fn list_lines_law()
+    ensures allowed { command_in (codes "list-devices" ∷ codes "-a" ∷ [])
+        ≡ Some (ListChosen root_socket (wanted_rows true false)) }
+    ensures allowed_long { command_in (codes "list-devices" ∷ codes "--allowed" ∷ [])
+        ≡ Some (ListChosen root_socket (wanted_rows true false)) }
+    ensures blocked { command_in (codes "list-devices" ∷ codes "-b" ∷ [])
+        ≡ Some (ListChosen root_socket (wanted_rows false true)) }
+    ensures blocked_long { command_in (codes "list-devices" ∷ codes "--blocked" ∷ [])
+        ≡ Some (ListChosen root_socket (wanted_rows false true)) }
+{}
+
+/// The long options that stand for letters.
+pub fn long_options_law()
+    ensures permanent { command_in (codes "allow-device" ∷ codes "7" ∷ codes "--permanent" ∷ [])
+        ≡ asking_command (request.Device 7 target.Allow true) }
+    ensures temporary { command_in (codes "append-rule" ∷ codes "a b" ∷ codes "--temporary" ∷ [])
+        ≡ asking_command (request.AppendRule after.End false (codes "a b")) }
+    ensures after { command_in (codes "append-rule" ∷ codes "a b" ∷ codes "--after" ∷ codes "7"
+        ∷ [])
+        ≡ asking_command (request.AppendRule (after.Rule 7) true (codes "a b")) }
+    ensures most { command_in (codes "watch" ∷ codes "--most" ∷ codes "7" ∷ [])
         ≡ Some (Watch root_socket 7) }
 {}
 

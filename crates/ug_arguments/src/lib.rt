@@ -5,6 +5,7 @@ mod arguments;
 mod command;
 mod command_word;
 mod daemon;
+mod devices;
 mod laws;
 mod matches;
 mod meaning;
@@ -16,4 +17,7 @@ mod values;
 pub use arguments::read_command;
 pub use command::{Command, WordsFault};
 pub use daemon::read_daemon_words;
-pub use laws::{add_user_lines_law, asking_lines_law, command_lines_law, daemon_lines_law};
+pub use laws::{
+    add_user_lines_law, asking_lines_law, command_lines_law, daemon_lines_law, list_lines_law,
+    long_options_law,
+};

@@ -7,8 +7,9 @@ ghost use Rattle.ug_proto.specs.declared.request.Request.{Request};
 
 use crate::command::{Command, WordsFault};
 use crate::command_word::CommandWord;
+use crate::devices::{device_command, list_devices};
 use crate::matches::is_set;
-use crate::requests::{append_rule, device, get_parameter, remove_rule, set_parameter};
+use crate::requests::{append_rule, get_parameter, remove_rule, set_parameter};
 use crate::sending::is_sendable;
 use crate::values::{is_event_count, is_start, listed, most, number, principal, socket};
 use clap::ArgMatches;
@@ -83,7 +84,8 @@ fn watch(alloc: Global, matches: &ArgMatches) -> Result<Command, WordsFault>
     Ok(Command::Watch { socket, most })
 }
 
-fn ask(alloc: Global, matches: &ArgMatches, request: Request) -> Result<Command, WordsFault>
+/// The command that sends the request.
+pub fn ask(alloc: Global, matches: &ArgMatches, request: Request) -> Result<Command, WordsFault>
     ensures ok { IfOk result (λ c. ask_in (Some request) (rows_of (found_of matches.now))
         ≡ Some c) }
     ensures err { IfErr result (NotRead (ask_in (Some request) (rows_of (found_of matches.now)))) }
@@ -97,8 +99,8 @@ fn ask(alloc: Global, matches: &ArgMatches, request: Request) -> Result<Command,
     }
 }
 
-// The command that asks what was read, if it was read.
-fn ask_for(
+/// The command that asks what was read, if it was read.
+pub fn ask_for(
     alloc: Global,
     matches: &ArgMatches,
     request: Result<Request, WordsFault>,
@@ -137,8 +139,8 @@ pub fn meaning(
         CommandWord::AddUser => add_user(matches),
         CommandWord::GetParameter => ask_for(alloc, matches, get_parameter(alloc, matches)),
         CommandWord::SetParameter => ask_for(alloc, matches, set_parameter(alloc, matches)),
-        CommandWord::ListDevices => ask(alloc, matches, Request::ListDevices),
-        CommandWord::Device(target) => ask_for(alloc, matches, device(matches, target)),
+        CommandWord::ListDevices => list_devices(alloc, matches),
+        CommandWord::Device(target) => device_command(alloc, matches, target),
         CommandWord::ListRules => ask(alloc, matches, Request::ListRules),
         CommandWord::AppendRule => ask_for(alloc, matches, append_rule(alloc, matches)),
         CommandWord::RemoveRule => ask_for(alloc, matches, remove_rule(matches)),

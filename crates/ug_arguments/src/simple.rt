@@ -12,13 +12,15 @@ use std::alloc::{AllocError, Global};
 pub enum Argument<'a> {
     /// A word that has to be there.
     Word(&'a str),
+    /// A word that may be left out.
+    OptionalWord(&'a str),
     /// `--NAME VALUE`, which may be left out.
     LongOption(&'a str),
-    /// `-L VALUE`, which may be left out.
+    /// `-L VALUE` or `--NAME VALUE`, which may be left out.
     ShortOption(&'a str, char),
     /// `--NAME`, which may be left out.
     LongFlag(&'a str),
-    /// `-L`, which may be left out.
+    /// `-L` or `--NAME`, which may be left out.
     Flag(&'a str, char),
 }
 
@@ -28,10 +30,12 @@ fn arg_of<'a>(alloc: Global, argument: &Argument<'a>) -> Arg<'a>
 {
     match argument {
         Argument::Word(id) => Arg::new(alloc, id).required(true),
+        Argument::OptionalWord(id) => Arg::new(alloc, id),
         Argument::LongOption(id) => Arg::new(alloc, id).long(id),
-        Argument::ShortOption(id, letter) => Arg::new(alloc, id).short(*letter),
+        Argument::ShortOption(id, letter) => Arg::new(alloc, id).long(id).short(*letter),
         Argument::LongFlag(id) => Arg::new(alloc, id).long(id).action(ArgAction::SetTrue),
         Argument::Flag(id, letter) => Arg::new(alloc, id)
+            .long(id)
             .short(*letter)
             .action(ArgAction::SetTrue),
     }
@@ -75,7 +79,13 @@ fn arguments_of<'a>(word: CommandWord) -> &'a [Argument<'a>]
             Argument::Word("name"),
             Argument::Word("value"),
         ],
-        CommandWord::ListDevices | CommandWord::ListRules => &[Argument::LongOption("socket")],
+        CommandWord::ListDevices => &[
+            Argument::LongOption("socket"),
+            Argument::OptionalWord("query"),
+            Argument::Flag("allowed", 'a'),
+            Argument::Flag("blocked", 'b'),
+        ],
+        CommandWord::ListRules => &[Argument::LongOption("socket")],
         CommandWord::Device(_) => &[
             Argument::LongOption("socket"),
             Argument::Word("number"),

@@ -8,15 +8,23 @@ use Rattle.ug_command_io.specs.WholeInputs.{AnswersWhole}
 use Rattle.ug_command_io.specs.declared.results.Ended.{Ended}
 use Rattle.ug_command_io.specs.declared.results.Ended.TheVariants.{Memory, WriteFault}
 use Rattle.ug_links.specs.declared.link_call.LinkCall.{LinkCall}
+use Rattle.ug_client.specs.Asking.{request_line}
 use Rattle.ug_client.specs.Calls.{Unprinted}
+use Rattle.ug_client.specs.Fetching.{FetchesReply}
+use Rattle.ug_client.specs.declared.fetch.Fetched.TheVariants as fetched
+use Rattle.ug_client.specs.declared.orders.Wanted.{Wanted}
+use Rattle.ug_proto.specs.declared.request.Request.TheVariants as request
+use Rattle.ug_types.specs.declared.rule.Query.{Query}
+use Rattle.ug_rows.specs.declared.choice.Choice.{Choice}
 use Rattle.ug_client.specs.declared.asked.Asked.TheVariants as asked
 use Rattle.ug_client.proofs.Calls.{tells_nothing}
 use Rattle.ug_client.proofs.Ending.{unsent_memory}
+use Rattle.ug_client.proofs.Fetched.{fetch_short}
 use Rattle.ug_client.proofs.WatchCalls.{ends_before}
 use Rattle.ug_script.specs.Generating.{TellsFaultAlone}
 use Rattle.ug_script.specs.Summing.{TellsSummary}
 use Rattle.ug_sysfs.specs.World.{World}
-use Rattle.ug_tool.specs.Client.{AsksAndEnds, WatchesAndEnds}
+use Rattle.ug_tool.specs.Client.{AsksAndEnds, ChoosesAndEnds, OrdersAndEnds, WatchesAndEnds}
 use Rattle.ug_arguments.specs.Commands.{NotRead}
 use Rattle.ug_arguments.specs.declared.command.WordsFault.{WordsFault}
 use Rattle.ug_arguments.specs.declared.command.WordsFault.TheVariants as fault
@@ -103,6 +111,43 @@ request_unsent path line calls sent left before held faults status h = record {
   between = before;
   asks = unsent_memory path line calls calls sent sent left left before (Unprinted refl (tells_nothing calls)) (Keeps-refl sent) (Keeps-refl left);
   cause = λ e. absurd (memory_failed e);
+  ends = h;
+}
+
+-- of a list or of orders
+fetch_unsent : (path line : List ℕ) (calls : Option (List LinkCall)) (sent left : Option (List ℕ)) → FetchesReply path line calls calls sent sent left left fetched.Memory
+fetch_unsent path line calls sent left = fetch_short path line calls calls sent sent left left None (unsent_memory path line calls calls sent sent left left None (Unprinted refl (tells_nothing calls)) (Keeps-refl sent) (Keeps-refl left))
+
+pub list_unsent : (path : List ℕ) (choice : Choice) (calls : Option (List LinkCall)) (sent left before held : Option (List ℕ)) (faults status : ℕ)
+    → IsOutOfMemory before held status → ChoosesAndEnds path choice calls calls sent sent left left before held faults faults status
+list_unsent path choice calls sent left before held faults status h = record {
+  came = asked.Memory;
+  between = before;
+  lists = record {
+    came = fetched.Memory;
+    fetches = fetch_unsent path (request_line request.ListDevices) calls sent left;
+    written = (refl, Keeps-refl before);
+  };
+  cause = λ e. absurd (memory_failed e);
+  ends = h;
+}
+
+some_memory_failed : ¬ (Some asked.Memory ≡ Some asked.LinkFailed)
+some_memory_failed e = cc
+
+pub orders_unsent : (path : List ℕ) (query : Query) (wanted : Wanted) (calls : Option (List LinkCall)) (sent left before held : Option (List ℕ)) (faults status : ℕ)
+    → IsOutOfMemory before held status → OrdersAndEnds path query wanted calls calls sent sent left left before held faults faults status
+orders_unsent path query wanted calls sent left before held faults status h = record {
+  came = Some asked.Memory;
+  between = before;
+  orders = record {
+    came = fetched.Memory;
+    between = record { calls = calls; sent = sent; left = left; held = before };
+    fetches = fetch_unsent path (request_line request.ListDevices) calls sent left;
+    unwritten = refl;
+    told = (asked.Memory, refl, (refl, Keeps-refl before), refl);
+  };
+  cause = λ e. absurd (some_memory_failed e);
   ends = h;
 }
 

@@ -24,8 +24,11 @@ use Rattle.ug_proto.specs.declared.request.Request.{Request}
 use Rattle.ug_proto.specs.declared.request.Request.TheVariants as request
 use Rattle.ug_client.specs.Asking.{request_line}
 use Rattle.ug_arguments.specs.declared.command.Command.{Command}
-use Rattle.ug_arguments.specs.declared.command.Command.TheVariants.{AddUser, Ask, CheckRules, GeneratePolicy, LintRules, MakeScript, ReadDescriptor, Replay, Summarize, Watch}
-use Rattle.ug_tool.specs.Client.{AsksAndEnds, WatchesAndEnds}
+use Rattle.ug_arguments.specs.declared.command.Command.TheVariants.{AddUser, Ask, CheckRules, GeneratePolicy, LintRules, ListChosen, MakeScript, Order, ReadDescriptor, Replay, Summarize, Watch}
+use Rattle.ug_types.specs.declared.rule.Query.{Query}
+use Rattle.ug_rows.specs.declared.choice.Choice.{Choice}
+use Rattle.ug_client.specs.declared.orders.Wanted.{Wanted}
+use Rattle.ug_tool.specs.Client.{AsksAndEnds, ChoosesAndEnds, OrdersAndEnds, WatchesAndEnds}
 use Rattle.ug_tool.specs.Faults.{EndsIn, IsOutOfMemory}
 use Rattle.ug_tool.specs.Replay.{new_world}
 
@@ -101,6 +104,18 @@ AsksRequest socket request before after status = AsksAndEnds socket (request_lin
     before.calls after.calls before.sent after.sent before.incoming after.incoming
     before.output after.output before.faults after.faults status × (after.input ≡ before.input)
 
+-- `list-devices` where some devices are wanted
+abbrev pub ListsDevices : List ℕ → Choice → Streams → Streams → ℕ → Type 0
+ListsDevices socket choice before after status = ChoosesAndEnds socket choice
+    before.calls after.calls before.sent after.sent before.incoming after.incoming
+    before.output after.output before.faults after.faults status × (after.input ≡ before.input)
+
+-- `allow-device` and the like, by a query
+abbrev pub OrdersDevices : List ℕ → Query → Wanted → Streams → Streams → ℕ → Type 0
+OrdersDevices socket query wanted before after status = OrdersAndEnds socket query wanted
+    before.calls after.calls before.sent after.sent before.incoming after.incoming
+    before.output after.output before.faults after.faults status × (after.input ≡ before.input)
+
 -- `watch`: so many notices at most
 abbrev pub WatchesNotices : List ℕ → ℕ → Streams → Streams → ℕ → Type 0
 WatchesNotices socket most before after status = WatchesAndEnds socket
@@ -119,4 +134,7 @@ CarriesCommandOut (LintRules prune) = AnswersInput (AnswersLint prune) check_sta
 CarriesCommandOut GeneratePolicy = GeneratesPolicy
 CarriesCommandOut (AddUser name asked) = AnswersInput (AnswersAdding asked) status_of
 CarriesCommandOut (Ask socket request) = AsksRequest socket request
+CarriesCommandOut (ListChosen socket choice) = ListsDevices socket choice
+CarriesCommandOut (Order socket query target permanent) =
+    OrdersDevices socket query (record { target = target; permanent = permanent })
 CarriesCommandOut (Watch socket most) = WatchesNotices socket most

@@ -1,10 +1,17 @@
 -- How a command ends that asks the daemon.
-use Rattle.std.specs.Prelude.{◌≡◌, ℕ, List, Option, codes}
+use Rattle.std.specs.Prelude.{◌≡◌, ℕ, List, Option, Some, None, codes}
 use Rattle.std.specs.Io.KnownBytes.{Keeps}
 use Rattle.ug_types.specs.Ends.{Rose}
 use Rattle.ug_command_io.specs.Fold.{no_memory}
 use Rattle.ug_links.specs.declared.link_call.LinkCall.{LinkCall}
-use Rattle.ug_client.specs.Asking.{AsksDaemon}
+use Rattle.ug_proto.specs.declared.request.Request.TheVariants as request
+use Rattle.ug_types.specs.declared.rule.Query.{Query}
+use Rattle.ug_rows.specs.declared.choice.Choice.{Choice}
+use Rattle.ug_client.specs.Asking.{AsksDaemon, request_line}
+use Rattle.ug_client.specs.Choosing.{chosen_text}
+use Rattle.ug_client.specs.Fetching.{AsksShowing}
+use Rattle.ug_client.specs.Ordering.{Around, OrdersMatching}
+use Rattle.ug_client.specs.declared.orders.Wanted.{Wanted}
 use Rattle.ug_client.specs.Watching.{Watches}
 use Rattle.ug_client.specs.declared.asked.Asked.{Asked}
 use Rattle.ug_client.specs.declared.asked.Asked.TheVariants as asked
@@ -41,3 +48,35 @@ pub record WatchesAndEnds (path line : List ℕ) (most : ℕ) (calls0 calls : Op
     pub watches : Watches path line most calls0 calls sent0 sent left0 left held0 between came
     pub cause : came ≡ asked.LinkFailed → Rose faults0 faults
     pub ends : EndsAsked between held came status
+
+-- a list of devices of which some are wanted
+pub record ChoosesAndEnds (path : List ℕ) (choice : Choice) (calls0 calls : Option (List LinkCall))
+    (sent0 sent left0 left held0 held : Option (List ℕ)) (faults0 faults : ℕ) (status : ℕ) : Type 0
+  where
+    pub came : Asked
+    pub between : Option (List ℕ)
+    pub lists : AsksShowing (chosen_text choice) path (request_line request.ListDevices)
+        calls0 calls sent0 sent left0 left held0 between came
+    pub cause : came ≡ asked.LinkFailed → Rose faults0 faults
+    pub ends : EndsAsked between held came status
+
+unfoldable pub no_device : List ℕ
+no_device = codes "no device matches\n"
+
+-- the status of orders, and the line that tells where no device matched
+abbrev pub EndsOrdered : Option (List ℕ) → Option (List ℕ) → Option Asked → ℕ → Type 0
+EndsOrdered before after None status = EndsIn no_device 7 before after status
+EndsOrdered before after (Some ended) status = EndsAsked before after ended status
+
+-- orders on the devices that a query matches
+pub record OrdersAndEnds (path : List ℕ) (query : Query) (wanted : Wanted)
+    (calls0 calls : Option (List LinkCall)) (sent0 sent left0 left held0 held : Option (List ℕ))
+    (faults0 faults : ℕ) (status : ℕ) : Type 0
+  where
+    pub came : Option Asked
+    pub between : Option (List ℕ)
+    pub orders : OrdersMatching path query wanted
+        (record { calls = calls0; sent = sent0; left = left0; held = held0 })
+        (record { calls = calls; sent = sent; left = left; held = between }) came
+    pub cause : came ≡ Some asked.LinkFailed → Rose faults0 faults
+    pub ends : EndsOrdered between held came status

@@ -1,7 +1,7 @@
 -- Which commands do what beside.
 use Rattle.std.specs.Prelude.{Bool, true, false}
 use Rattle.ug_arguments.specs.declared.command.Command.{Command}
-use Rattle.ug_arguments.specs.declared.command.Command.TheVariants.{Replay, Summarize, MakeScript, ReadDescriptor, CheckRules, LintRules, GeneratePolicy, AddUser, Ask, Watch}
+use Rattle.ug_arguments.specs.declared.command.Command.TheVariants.{Replay, Summarize, MakeScript, ReadDescriptor, CheckRules, LintRules, GeneratePolicy, AddUser, Ask, ListChosen, Order, Watch}
 
 -- the command `replay`, with `--summary` or without
 abbrev pub replay_of : Bool → Command
@@ -19,4 +19,6 @@ asks_daemon (LintRules prune) = false
 asks_daemon GeneratePolicy = false
 asks_daemon (AddUser name asked) = false
 asks_daemon (Ask socket request) = true
+asks_daemon (ListChosen socket choice) = true
+asks_daemon (Order socket query target permanent) = true
 asks_daemon (Watch socket most) = true

@@ -1,16 +1,17 @@
 // The commands that ask the daemon.
-ghost use Rattle.std.specs.Prelude.{◌≡◌, ◌≢◌, ◌≤◌};
+ghost use Rattle.std.specs.Prelude.{◌≡◌, ◌≢◌, ◌≤◌, Some};
 ghost use Rattle.ug_types.specs.Ends.{Rose};
 ghost use Rattle.ug_proto.specs.declared.request.Request.TheVariants as request;
 ghost use Rattle.ug_client.specs.Asking.{request_line};
-ghost use Rattle.ug_tool.specs.Client.{AsksAndEnds, EndsAsked, WatchesAndEnds};
+ghost use Rattle.ug_tool.specs.Client.{AsksAndEnds, ChoosesAndEnds, EndsAsked, EndsOrdered, OrdersAndEnds, WatchesAndEnds};
 
 use crate::faults::end_with;
 use std::alloc::Global;
-use ug_client::{Asked, ask, watch};
+use ug_client::{Asked, Wanted, ask, ask_chosen, order_matching, watch};
 use ug_links::Link;
 use ug_proto::Request;
-use ug_types::Sink;
+use ug_rows::Choice;
+use ug_types::{Query, Sink};
 
 /// The status, and the fault line that belongs to it.
 #[tactic(auto, unfolding(crate::specs::Client::link_fault, ug_command_io::specs::Fold::no_memory))]
@@ -49,6 +50,60 @@ pub fn ask_daemon<L: Link, K: Sink>(
 {
     let asked = ask(alloc, link, path, request, out);
     end(out, asked)
+}
+
+/// Asks for the devices, and prints those that are wanted.
+pub fn list_chosen<L: Link, K: Sink>(
+    alloc: Global,
+    link: &mut L,
+    path: &[u8],
+    choice: &Choice,
+    out: &mut K,
+) -> u8
+    ensures lists { ChoosesAndEnds path.now choice.now (L.told link.old) (L.told link.new)
+        (L.sent link.old) (L.sent link.new)
+        (L.left link.old) (L.left link.new) (K.held out.old) (K.held out.new)
+        (L.faults link.old) (L.faults link.new) result }
+    ensures not_read { result ≢ 4 }
+    ensures written { result ≡ 5 → Rose (K.faults out.old) (K.faults out.new) }
+{
+    let asked = ask_chosen(alloc, link, path, choice, out);
+    end(out, asked)
+}
+
+/// The status of orders, and the fault line that belongs to it.
+#[tactic(auto, unfolding(crate::specs::Client::no_device))]
+fn end_orders<K: Sink>(out: &mut K, ordered: Option<Asked>) -> u8
+    ensures ends { EndsOrdered (K.held out.old) (K.held out.new) ordered result }
+    ensures not_read { result ≢ 4 }
+    ensures counted { K.faults out.old ≤ K.faults out.new }
+    ensures written { ordered ≢ Some Asked.WriteFault → result ≡ 5
+        → Rose (K.faults out.old) (K.faults out.new) }
+{
+    match ordered {
+        Some(asked) => end(out, asked),
+        None => end_with(out, b"no device matches\n", 7),
+    }
+}
+
+/// Gives an order on each device that the query matches.
+pub fn order_devices<L: Link, K: Sink>(
+    alloc: Global,
+    link: &mut L,
+    path: &[u8],
+    query: &Query,
+    wanted: Wanted,
+    out: &mut K,
+) -> u8
+    ensures orders { OrdersAndEnds path.now query.now wanted (L.told link.old) (L.told link.new)
+        (L.sent link.old) (L.sent link.new)
+        (L.left link.old) (L.left link.new) (K.held out.old) (K.held out.new)
+        (L.faults link.old) (L.faults link.new) result }
+    ensures not_read { result ≢ 4 }
+    ensures written { result ≡ 5 → Rose (K.faults out.old) (K.faults out.new) }
+{
+    let ordered = order_matching(alloc, link, path, query, wanted, out);
+    end_orders(out, ordered)
 }
 
 /// Asks for notices, and prints so many at most.

@@ -8,11 +8,12 @@ ghost use Rattle.ug_tool.specs.CarriedOut.{CarriesCommandOut};
 ghost use Rattle.ug_tool.specs.Faults.{EndsIn};
 ghost use Rattle.ug_tool.specs.Tool.{asks_daemon};
 
-use crate::client::{ask_daemon, watch_daemon};
+use crate::client::{ask_daemon, list_chosen, order_devices, watch_daemon};
 use crate::replay::replay_over;
 use std::alloc::Global;
 use ug_acl::add_user;
 use ug_arguments::Command;
+use ug_client::Wanted;
 use ug_commands::{check_rules, lint_rules, list_descriptors, make_script};
 use ug_links::Link;
 use ug_script::{generate_policy, summarize};
@@ -87,6 +88,21 @@ pub fn carry_out<S: Source, K: Sink, L: Link>(
         }
         Command::AddUser { name: _, asked } => add_user(alloc, asked, input, out),
         Command::Ask { socket, request } => ask_daemon(alloc, link, socket.bytes(), request, out),
+        Command::ListChosen { socket, choice } => {
+            list_chosen(alloc, link, socket.bytes(), choice, out)
+        }
+        Command::Order {
+            socket,
+            query,
+            target,
+            permanent,
+        } => {
+            let wanted = Wanted {
+                target: *target,
+                permanent: *permanent,
+            };
+            order_devices(alloc, link, socket.bytes(), query, wanted, out)
+        }
         Command::Watch { socket, most } => watch_daemon(alloc, link, socket.bytes(), *most, out),
     }
 }

@@ -118,6 +118,8 @@ fn read_replay(alloc: Global, words: &[&str]) -> Result<bool, WordsFault>
         | Command::GeneratePolicy
         | Command::AddUser { .. }
         | Command::Ask { .. }
+        | Command::ListChosen { .. }
+        | Command::Order { .. }
         | Command::Watch { .. } => Err(WordsFault::Bad),
     }
 }

@@ -10,6 +10,7 @@ mod input;
 mod last_line;
 mod link_words;
 mod open_hubs;
+mod ordered;
 mod refusals;
 mod rule_place;
 mod script_place;

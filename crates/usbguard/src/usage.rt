@@ -1,5 +1,6 @@
 // What the program tells a person of its words and its end.
 use crate::bad_words::{Wrong, wrong_word};
+use crate::ordered::advice_on_orders;
 use crate::refusals::ERROR;
 use std::alloc::{AllocError, Global};
 
@@ -11,7 +12,10 @@ struct Usage {
 }
 
 const A_DEVICE: &str =
-    "NUMBER is a device's, as list-devices prints it: digits alone, with no leading zero. With -p a rule says the same from now on.";
+    "NUMBER is a device's, as list-devices prints it: digits alone, with no leading zero. QUERY is attributes of a rule as one word, as 'id 1050:*', and each device that it matches gets the order. With -p a rule says the same from now on.";
+
+const A_LIST: &str =
+    "QUERY is attributes of a rule as one word, as 'id 1050:*': devices that it matches are listed. With -a those that are allowed are, and with -b those that are blocked.";
 
 const AN_INPUT: &str =
     "It reads standard input, and takes no other word: write < before the name of a file.";
@@ -30,7 +34,7 @@ const USAGES: [Usage; 18] = [
     },
     Usage {
         word: "allow-device",
-        line: "usbguard allow-device NUMBER [-p] [--socket PATH]",
+        line: "usbguard allow-device NUMBER|QUERY [-p] [--socket PATH]",
         hint: A_DEVICE,
     },
     Usage {
@@ -40,7 +44,7 @@ const USAGES: [Usage; 18] = [
     },
     Usage {
         word: "block-device",
-        line: "usbguard block-device NUMBER [-p] [--socket PATH]",
+        line: "usbguard block-device NUMBER|QUERY [-p] [--socket PATH]",
         hint: A_DEVICE,
     },
     Usage {
@@ -70,8 +74,8 @@ const USAGES: [Usage; 18] = [
     },
     Usage {
         word: "list-devices",
-        line: "usbguard list-devices [--socket PATH]",
-        hint: A_SOCKET,
+        line: "usbguard list-devices [QUERY] [-a] [-b] [--socket PATH]",
+        hint: A_LIST,
     },
     Usage {
         word: "list-rules",
@@ -90,7 +94,7 @@ const USAGES: [Usage; 18] = [
     },
     Usage {
         word: "reject-device",
-        line: "usbguard reject-device NUMBER [-p] [--socket PATH]",
+        line: "usbguard reject-device NUMBER|QUERY [-p] [--socket PATH]",
         hint: A_DEVICE,
     },
     Usage {
@@ -229,7 +233,7 @@ pub fn tell(rt: &HostRuntime, words: &[&str], status: u8) {
     }
     let sentence = match words {
         ["daemon", ..] => None,
-        _ => advice(status),
+        _ => advice_on_orders(rt, words, status).or(advice(status)),
     };
     if let Some(sentence) = sentence {
         eprintln!(ERROR; "usbguard: {sentence}");

@@ -29,7 +29,11 @@ fn input_of(command: &Command) -> Option<(&'static str, &'static str)> {
             "a script",
             "usbguard-script -r /etc/usbguard/rules.conf | usbguard replay",
         )),
-        Command::MakeScript { .. } | Command::Ask { .. } | Command::Watch { .. } => None,
+        Command::MakeScript { .. }
+        | Command::Ask { .. }
+        | Command::ListChosen { .. }
+        | Command::Order { .. }
+        | Command::Watch { .. } => None,
     }
 }
 

@@ -1,6 +1,6 @@
 use Rattle.std.proofs.Common.{◌≡◌, Bool, List, Some, Result, IfOk, IfErr, sym, ap, subst, ◌∙◌}
 use Rattle.clap.specs.Words.{Row, found_of, rows_of}
-use Rattle.ug_arguments.specs.Commands.{NotRead, append_rule_in, device_in, get_parameter_in, meaning, remove_rule_in, set_parameter_in}
+use Rattle.ug_arguments.specs.Commands.{NotRead, append_rule_in, get_parameter_in, meaning, remove_rule_in, set_parameter_in}
 use Rattle.ug_arguments.specs.declared.command.Command.{Command}
 use Rattle.ug_arguments.specs.declared.command.Command.TheVariants.{LintRules}
 use Rattle.ug_arguments.specs.declared.command.WordsFault.{WordsFault}
@@ -71,27 +71,27 @@ returns-in-SetParameter-clause-err c = err c.args.word _ c.in-SetParameter.is (r
 
 pub returns-in-ListDevices-clause-ok : goal.returns-in-ListDevices-clause-ok
 unfolding meaning
-returns-in-ListDevices-clause-ok c = ok c.args.word _ c.in-ListDevices.is (rows_of (found_of c.args.matches.now)) _ c.ask.ensures.ok
+returns-in-ListDevices-clause-ok c = ok c.args.word _ c.in-ListDevices.is (rows_of (found_of c.args.matches.now)) _ c.list_devices.ensures.ok
 
 pub returns-in-ListDevices-clause-err : goal.returns-in-ListDevices-clause-err
 unfolding meaning
-returns-in-ListDevices-clause-err c = err c.args.word _ c.in-ListDevices.is (rows_of (found_of c.args.matches.now)) _ c.ask.ensures.err
+returns-in-ListDevices-clause-err c = err c.args.word _ c.in-ListDevices.is (rows_of (found_of c.args.matches.now)) _ c.list_devices.ensures.err
 
 pub returns-in-Device-clause-ok : goal.returns-in-Device-clause-ok
 unfolding meaning
-returns-in-Device-clause-ok c = ok c.args.word _ c.in-Device.is (rows_of (found_of c.args.matches.now)) _ (c.ask_for-in-Device.ensures.ok (device_in c.in-Device.target (rows_of (found_of c.args.matches.now))) c.device.ensures.ok)
+returns-in-Device-clause-ok c = ok c.args.word _ c.in-Device.is (rows_of (found_of c.args.matches.now)) _ c.device_command.ensures.ok
 
 pub returns-in-Device-clause-err : goal.returns-in-Device-clause-err
 unfolding meaning
-returns-in-Device-clause-err c = err c.args.word _ c.in-Device.is (rows_of (found_of c.args.matches.now)) _ (c.ask_for-in-Device.ensures.err (device_in c.in-Device.target (rows_of (found_of c.args.matches.now))) c.device.ensures.ok c.device.ensures.err)
+returns-in-Device-clause-err c = err c.args.word _ c.in-Device.is (rows_of (found_of c.args.matches.now)) _ c.device_command.ensures.err
 
 pub returns-in-ListRules-clause-ok : goal.returns-in-ListRules-clause-ok
 unfolding meaning
-returns-in-ListRules-clause-ok c = ok c.args.word _ c.in-ListRules.is (rows_of (found_of c.args.matches.now)) _ c.ask-in-ListRules.ensures.ok
+returns-in-ListRules-clause-ok c = ok c.args.word _ c.in-ListRules.is (rows_of (found_of c.args.matches.now)) _ c.ask.ensures.ok
 
 pub returns-in-ListRules-clause-err : goal.returns-in-ListRules-clause-err
 unfolding meaning
-returns-in-ListRules-clause-err c = err c.args.word _ c.in-ListRules.is (rows_of (found_of c.args.matches.now)) _ c.ask-in-ListRules.ensures.err
+returns-in-ListRules-clause-err c = err c.args.word _ c.in-ListRules.is (rows_of (found_of c.args.matches.now)) _ c.ask.ensures.err
 
 pub returns-in-AppendRule-clause-ok : goal.returns-in-AppendRule-clause-ok
 unfolding meaning

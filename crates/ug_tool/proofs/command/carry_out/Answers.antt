@@ -74,6 +74,12 @@ returns-in-AddUser-clause-carried g c = rw c.in-AddUser.is (record {
 pub returns-in-Ask-clause-carried : goal.returns-in-Ask-clause-carried
 returns-in-Ask-clause-carried g c = rw c.in-Ask.is (rw c.bytes.ensures at c.ask_daemon.ensures.asks, refl)
 
+pub returns-in-ListChosen-clause-carried : goal.returns-in-ListChosen-clause-carried
+returns-in-ListChosen-clause-carried g c = rw c.in-ListChosen.is (rw c.bytes-in-ListChosen.ensures at c.list_chosen.ensures.lists, refl)
+
+pub returns-in-Order-clause-carried : goal.returns-in-Order-clause-carried
+returns-in-Order-clause-carried g c = rw c.in-Order.is (rw c.bytes-in-Order.ensures at c.order_devices.ensures.orders, refl)
+
 pub returns-in-Watch-clause-carried : goal.returns-in-Watch-clause-carried
 returns-in-Watch-clause-carried g c = rw c.in-Watch.is (rw c.bytes-in-Watch.ensures at c.watch_daemon.ensures.watches, refl)
 
@@ -157,6 +163,24 @@ returns-in-Ask-clause-written g c = c.ask_daemon.ensures.written
 
 pub returns-in-Ask-clause-link : goal.returns-in-Ask-clause-link
 returns-in-Ask-clause-link g c = rw c.in-Ask.is (λ e. let none : ⊥ = cc in absurd none)
+
+pub returns-in-ListChosen-clause-read : goal.returns-in-ListChosen-clause-read
+returns-in-ListChosen-clause-read g c = λ four. absurd (c.list_chosen.ensures.not_read four)
+
+pub returns-in-ListChosen-clause-written : goal.returns-in-ListChosen-clause-written
+returns-in-ListChosen-clause-written g c = c.list_chosen.ensures.written
+
+pub returns-in-ListChosen-clause-link : goal.returns-in-ListChosen-clause-link
+returns-in-ListChosen-clause-link g c = rw c.in-ListChosen.is (λ e. let none : ⊥ = cc in absurd none)
+
+pub returns-in-Order-clause-read : goal.returns-in-Order-clause-read
+returns-in-Order-clause-read g c = λ four. absurd (c.order_devices.ensures.not_read four)
+
+pub returns-in-Order-clause-written : goal.returns-in-Order-clause-written
+returns-in-Order-clause-written g c = c.order_devices.ensures.written
+
+pub returns-in-Order-clause-link : goal.returns-in-Order-clause-link
+returns-in-Order-clause-link g c = rw c.in-Order.is (λ e. let none : ⊥ = cc in absurd none)
 
 pub returns-in-Watch-clause-read : goal.returns-in-Watch-clause-read
 returns-in-Watch-clause-read g c = λ four. absurd (c.watch_daemon.ensures.not_read four)
