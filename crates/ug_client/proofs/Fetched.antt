@@ -1,5 +1,5 @@
 -- How a fetching ends, and what is written of what was fetched.
-use Rattle.std.proofs.Common.{◌≡◌, ℕ, inr, List, [], drop, Option, None, sym, ◌∙◌, refl}
+use Rattle.std.proofs.Common.{ℕ, inr, List, [], drop, Option, None}
 use Rattle.std.proofs.KnownBytes.{Appends-kept, Keeps-refl}
 use Rattle.std.specs.Io.KnownBytes.{Appends, Keeps}
 use Rattle.ug_proto.specs.declared.reply.Reply.{Reply}

@@ -20,12 +20,7 @@ pub enum Fetched {
 }
 
 /// Connects to the socket of that path, sends the request, and takes its reply, as `ask` does.
-pub fn fetch_reply<L: Link>(
-    alloc: Global,
-    link: &mut L,
-    path: &[u8],
-    request: &Request,
-) -> Fetched
+pub fn fetch_reply<L: Link>(alloc: Global, link: &mut L, path: &[u8], request: &Request) -> Fetched
     ensures fetches { FetchesReply path.now (request_line request.now) (L.told link.old)
         (L.told link.new)
         (L.sent link.old) (L.sent link.new)

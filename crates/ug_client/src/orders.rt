@@ -144,9 +144,5 @@ pub fn give_orders<L: Link, K: Sink>(
             ended => return ended,
         }
     }
-    if refused {
-        Asked::Refused
-    } else {
-        Asked::Done
-    }
+    if refused { Asked::Refused } else { Asked::Done }
 }

@@ -32,11 +32,7 @@ fn is_wanted(allowed: bool, blocked: bool, verdict: Option<Target>) -> bool
     }
 }
 
-fn matches_given(
-    alloc: Global,
-    query: &Option<Query>,
-    text: &[u8],
-) -> Result<bool, NoMemory>
+fn matches_given(alloc: Global, query: &Option<Query>, text: &[u8]) -> Result<bool, NoMemory>
     ensures { IfOk result (λ matched. matched ≡ rows.matches_given query.now text.now) }
 {
     match query {

@@ -69,10 +69,7 @@ fn given_items(values: &Option<Values<Iface>>) -> &[Iface]
     }
 }
 
-fn told_triples(
-    alloc: Global,
-    values: &Option<Values<Iface>>,
-) -> Result<List<Triple>, NoMemory>
+fn told_triples(alloc: Global, values: &Option<Values<Iface>>) -> Result<List<Triple>, NoMemory>
     ensures { IfOk result (λ triples. triples ≡ devices.told_triples values.now) }
 {
     let mut triples = Vec::new(alloc);

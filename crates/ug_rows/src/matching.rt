@@ -32,11 +32,7 @@ fn push_number(numbers: &mut Vec<u64>, number: Option<u64>) -> Result<(), NoMemo
 
 /// The numbers of the rows whose devices the query matches, in the order of the rows.
 #[tactic(auto, using(crate::proofs::Numbers::one_more))]
-pub fn matching_numbers(
-    alloc: Global,
-    query: &Query,
-    list: &[Text],
-) -> Result<Vec<u64>, NoMemory>
+pub fn matching_numbers(alloc: Global, query: &Query, list: &[Text]) -> Result<Vec<u64>, NoMemory>
     ensures { IfOk result (λ numbers. numbers.items ≡ rows.matching_numbers query.now list.now) }
 {
     let mut numbers = Vec::new(alloc);
