@@ -13,18 +13,32 @@ pub enum Command {
     /// Writes numbers of the journal that `Replay` writes.
     Summarize,
     /// Writes a script of that many events, at least 1 and at most 500,000.
-    MakeScript { events: u32, start: u32 },
+    MakeScript {
+        events: u32,
+        start: u32,
+    },
     ReadDescriptor,
     CheckRules,
     /// Finds the rules that can never decide, or takes out those that earlier ones cover.
-    LintRules { prune: bool },
+    LintRules {
+        prune: bool,
+    },
     GeneratePolicy,
     /// Adds privileges to the access text of a user or a group.
-    AddUser { name: Principal, asked: Asked },
+    AddUser {
+        name: Principal,
+        asked: Asked,
+    },
     /// Asks the daemon that listens at that path. The path and the request hold no newline.
-    Ask { socket: Text, request: Request },
+    Ask {
+        socket: Text,
+        request: Request,
+    },
     /// Asks it for its devices, and prints those that are chosen.
-    ListChosen { socket: Text, choice: Choice },
+    ListChosen {
+        socket: Text,
+        choice: Choice,
+    },
     /// Asks it for its devices, and orders the target for each that the query matches.
     Order {
         socket: Text,
@@ -33,7 +47,10 @@ pub enum Command {
         permanent: bool,
     },
     /// Asks it for notices, and prints so many at most.
-    Watch { socket: Text, most: u64 },
+    Watch {
+        socket: Text,
+        most: u64,
+    },
 }
 
 impl Command {

@@ -83,7 +83,13 @@ fn behind_target(text: &[u8]) -> &[u8]
     ensures { result.now ≡ commands.behind_target text.now }
 {
     match cut_at_mark(b' ', text) {
-        Some((word, rest)) => { if Target::named(word).is_some() { rest } else { text } }
+        Some((word, rest)) => {
+            if Target::named(word).is_some() {
+                rest
+            } else {
+                text
+            }
+        }
         None => text,
     }
 }

@@ -12,7 +12,7 @@ use Rattle.ug_kernel.specs.declared.calls.ReadOut.TheVariants as out
 use Rattle.ug_kernel.specs.Kernel.{Kernel}
 use Rattle.ug_record.specs.Records.{judged_of}
 use Rattle.ug_table.specs.Laws.{IsDevice}
-use Rattle.ug_headline.specs.Devices.{IsJudgedDevice, IsParentOf, files_of, is_long, is_root_name, text_of}
+use Rattle.ug_headline.specs.Devices.{IsJudgedDevice, IsParentOf, files_shown, is_long, is_root_name, text_up_to}
 
 -- names
 
@@ -68,7 +68,7 @@ root_name name =
 
 -- files
 
-bytes_within : (limit : ℕ) (bytes : List ℕ) → file_bytes (within_limit limit bytes) ≡ text_of limit (Some bytes)
+bytes_within : (limit : ℕ) (bytes : List ℕ) → file_bytes (within_limit limit bytes) ≡ text_up_to limit (Some bytes)
 bytes_within limit bytes = by (nat_le (length bytes) limit)
   where
     by : (b : Bool) → file_bytes (cond b (out.Bytes bytes) out.TooLong) ≡ cond b bytes []
@@ -82,7 +82,7 @@ long_within limit bytes = by (nat_le (length bytes) limit)
     by true = refl
     by false = refl
 
-bytes_of : (o : Option (List ℕ)) → file_bytes (text_within o) ≡ text_of 4096 o
+bytes_of : (o : Option (List ℕ)) → file_bytes (text_within o) ≡ text_up_to 4096 o
 bytes_of None = refl
 bytes_of (Some bytes) = bytes_within 4096 bytes
 
@@ -107,11 +107,11 @@ made_of a b c e t = record { descriptors = a; product = b; serial = c; connect =
 same_made : (a b c e f g h j : List ℕ) (t u : Bool) → a ≡ f → b ≡ g → c ≡ h → e ≡ j → t ≡ u → made_of a b c e t ≡ made_of f g h j u
 same_made a b c e f g h j t u p q r s v = cc
 
-own_files : (d : Device) → attrs_of d ≡ files_of d.connect d
+own_files : (d : Device) → attrs_of d ≡ files_shown d.connect d
 unfolding made_of
 own_files d = same_made _ _ _ _ _ _ _ _ _ _ (bytes_within 131072 d.descriptors) (bytes_of d.product) (bytes_of d.serial) (bytes_of d.connect) (long_all d d.connect)
 
-parent_files : (d : Device) → parent_attrs_of d ≡ files_of None d
+parent_files : (d : Device) → parent_attrs_of d ≡ files_shown None d
 unfolding made_of
 parent_files d = same_made _ _ _ _ _ _ _ _ _ _ (bytes_within 131072 d.descriptors) (bytes_of d.product) (bytes_of d.serial) refl (sym (or_false _) ∙ long_all d None)
 

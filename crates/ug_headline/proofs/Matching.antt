@@ -30,23 +30,23 @@ use Rattle.ug_cond.specs.Truth.{ConditionHolds, ConditionsHold, IsRecent, IsSo, 
 use Rattle.ug_cond.specs.Words.{with_words}
 use Rattle.ug_cond.proofs.Truths.{conditions_decide}
 use Rattle.ug_policy.specs.Deciding.{rule_conditions_hold}
-use Rattle.ug_headline.specs.Rules.{Attribute, Compare, Hold, InOrder, IsId, IsInterface, IsNumber, IsText, IsTrueNow, IsWithin, Matches, Pass, Passes, Unless}
+use Rattle.ug_headline.specs.Rules.{Attribute, Compare, Hold, MatchInOrder, MatchesId, MatchesInterface, MatchesNumber, MatchesText, IsTrueNow, IsNoOlder, Matches, PassAs, PassesNow, Unless}
 
 -- values
 
-number_decides : (given : Option ℕ) (n : ℕ) → Decides (covers_number given n) (IsNumber given n)
+number_decides : (given : Option ℕ) (n : ℕ) → Decides (covers_number given n) (MatchesNumber given n)
 number_decides None n = (λ h. tt, λ h. refl)
 number_decides (Some m) n = Decides-eqb m n
 
-id_decides : (rule : Id) (device : DeviceId) → Decides (covers_id rule device) (IsId rule device)
+id_decides : (rule : Id) (device : DeviceId) → Decides (covers_id rule device) (MatchesId rule device)
 id_decides rule device = Decides-and (covers_number rule.vendor device.vendor) (covers_number rule.product device.product) (number_decides rule.vendor device.vendor) (number_decides rule.product device.product)
 
-interface_decides : (rule : Iface) (device : Triple) → Decides (covers_interface rule device) (IsInterface rule device)
+interface_decides : (rule : Iface) (device : Triple) → Decides (covers_interface rule device) (MatchesInterface rule device)
 interface_decides rule device =
     let one = nat_eq rule.class device.class in
     let two = covers_number rule.subclass device.subclass in
     let three = covers_number rule.protocol device.protocol in
-    Decides-like {P = ((rule.class ≡ device.class) × IsNumber rule.subclass device.subclass) × IsNumber rule.protocol device.protocol} (covers_interface rule device) (λ h. (h.0.0, h.0.1, h.1)) (λ h. ((h.0, h.1), h.2))
+    Decides-like {P = ((rule.class ≡ device.class) × MatchesNumber rule.subclass device.subclass) × MatchesNumber rule.protocol device.protocol} (covers_interface rule device) (λ h. (h.0.0, h.0.1, h.1)) (λ h. ((h.0, h.1), h.2))
     (Decides-and (one && two) three (Decides-and one two (Decides-eqb rule.class device.class) (number_decides rule.subclass device.subclass)) (number_decides rule.protocol device.protocol))
 
 -- operators
@@ -55,7 +55,7 @@ module _ {X Y : Type 0} (covers : X → Y → Bool) (Is : X → Y → Type 0) (e
   abbrev Pairs : List X → List Y → Type 0
   Pairs xs ys = (length xs ≡ length ys) × ((pair : X × Y) → Has (zip xs ys) pair → IsTrue (covers pair.0 pair.1))
 
-  to_order : (xs : List X) (ys : List Y) → Pairs xs ys → InOrder Is xs ys
+  to_order : (xs : List X) (ys : List Y) → Pairs xs ys → MatchInOrder Is xs ys
   to_order [] [] h = tt
   to_order [] (y ∷ ys) h = let e : 0 ≡ length (y ∷ ys) = h.0 in let none : ⊥ = grind arith in absurd none
   to_order (x ∷ xs) [] h = let e : length (x ∷ xs) ≡ 0 = h.0 in let none : ⊥ = grind arith in absurd none
@@ -64,7 +64,7 @@ module _ {X Y : Type 0} (covers : X → Y → Bool) (Is : X → Y → Type 0) (e
       let rest : length xs ≡ length ys = grind arith in
       ((each x y).0 (h.1 (x, y) (inl refl)), to_order xs ys (rest, λ pair a. h.1 pair (inr a)))
 
-  from_order : (xs : List X) (ys : List Y) → InOrder Is xs ys → Pairs xs ys
+  from_order : (xs : List X) (ys : List Y) → MatchInOrder Is xs ys → Pairs xs ys
   from_order [] [] h = (refl, λ pair a. absurd a)
   from_order [] (y ∷ ys) h = absurd h
   from_order (x ∷ xs) [] h = absurd h
@@ -93,7 +93,7 @@ pub matches_decides : (query : Query) (device : DeviceRecord) → Decides (query
 unfolding query_matches
 matches_decides query device =
     let own : DeviceId = record { vendor = device.vendor; product = device.product } in
-    let text : (given : Option (Values (List ℕ))) (value : List ℕ) → Decides (attribute covers_text given (value ∷ [])) (Attribute IsText given (value ∷ [])) = λ given value. attribute_decides covers_text IsText bytes_decides given (value ∷ []) in
+    let text : (given : Option (Values (List ℕ))) (value : List ℕ) → Decides (attribute covers_text given (value ∷ [])) (Attribute MatchesText given (value ∷ [])) = λ given value. attribute_decides covers_text MatchesText bytes_decides given (value ∷ []) in
     let a = attribute covers_id query.id (own ∷ []) in
     let b = attribute covers_text query.serial (device.serial ∷ []) in
     let c = attribute covers_text query.name (device.name ∷ []) in
@@ -111,17 +111,17 @@ matches_decides query device =
     (Decides-and (a && b && c && d) e
     (Decides-and (a && b && c) d
     (Decides-and (a && b) c
-    (Decides-and a b (attribute_decides covers_id IsId id_decides query.id (own ∷ [])) (text query.serial device.serial))
+    (Decides-and a b (attribute_decides covers_id MatchesId id_decides query.id (own ∷ [])) (text query.serial device.serial))
     (text query.name device.name)) (text query.hash device.hash)) (text query.parent_hash device.parent_hash)) (text query.via_port device.via_port))
-    (attribute_decides covers_interface IsInterface interface_decides query.interface device.interfaces)) (text query.connect device.connect))
+    (attribute_decides covers_interface MatchesInterface interface_decides query.interface device.interfaces)) (text query.connect device.connect))
 
 -- conditions
 
-to_within : (past : Option ℕ) (now m : Moment) → IsRecent past now m → IsWithin past now m
+to_within : (past : Option ℕ) (now m : Moment) → IsRecent past now m → IsNoOlder past now m
 to_within None now m h = tt
 to_within (Some n) now m h = h
 
-from_within : (past : Option ℕ) (now m : Moment) → IsWithin past now m → IsRecent past now m
+from_within : (past : Option ℕ) (now m : Moment) → IsNoOlder past now m → IsRecent past now m
 from_within None now m h = tt
 from_within (Some n) now m h = h
 
@@ -129,8 +129,8 @@ module _ (judgements : List Judgement) (id : ℕ) (ctx : Context) (beside : List
   to_now : (word : ℕ) (k : CondKind) → IsSo judgements id ctx beside word k → IsTrueNow judgements id ctx beside word k
   to_now word (kind.LocalTime begin end) h = h
   to_now word (kind.AllowedMatches query) h = (h.0, h.1, (matches_decides query h.0).0 h.2)
-  to_now word (kind.RuleApplied past) h = let w = h.1 in (w.0, w.1, w.2, subst (λ (x : Moment). IsWithin past ctx.moment x) (sym w.3) (to_within past ctx.moment h.0 h.2))
-  to_now word (kind.RuleEvaluated past) h = let w = h.1 in (w.0, w.1, w.2, subst (λ (x : Moment). IsWithin past ctx.moment x) (sym w.3) (to_within past ctx.moment h.0 h.2))
+  to_now word (kind.RuleApplied past) h = let w = h.1 in (w.0, w.1, w.2, subst (λ (x : Moment). IsNoOlder past ctx.moment x) (sym w.3) (to_within past ctx.moment h.0 h.2))
+  to_now word (kind.RuleEvaluated past) h = let w = h.1 in (w.0, w.1, w.2, subst (λ (x : Moment). IsNoOlder past ctx.moment x) (sym w.3) (to_within past ctx.moment h.0 h.2))
   to_now word (kind.Random billionths) h = h
   to_now word kind.True h = tt
   to_now word kind.False h = h
@@ -144,28 +144,28 @@ module _ (judgements : List Judgement) (id : ℕ) (ctx : Context) (beside : List
   from_now word kind.True h = tt
   from_now word kind.False h = h
 
-  to_passes : (c : Cond × ℕ) → ConditionHolds judgements id ctx beside c → Passes judgements id ctx beside c
+  to_passes : (c : Cond × ℕ) → ConditionHolds judgements id ctx beside c → PassesNow judgements id ctx beside c
   to_passes c = by c.0.negated
     where
       by : (b : Bool) → unless_negated b (IsSo judgements id ctx beside c.1 c.0.kind) → Unless b (IsTrueNow judgements id ctx beside c.1 c.0.kind)
       by true h = λ x. h (from_now c.1 c.0.kind x)
       by false h = to_now c.1 c.0.kind h
 
-  from_passes : (c : Cond × ℕ) → Passes judgements id ctx beside c → ConditionHolds judgements id ctx beside c
+  from_passes : (c : Cond × ℕ) → PassesNow judgements id ctx beside c → ConditionHolds judgements id ctx beside c
   from_passes c = by c.0.negated
     where
       by : (b : Bool) → Unless b (IsTrueNow judgements id ctx beside c.1 c.0.kind) → unless_negated b (IsSo judgements id ctx beside c.1 c.0.kind)
       by true h = λ x. h (to_now c.1 c.0.kind x)
       by false h = from_now c.1 c.0.kind h
 
-  to_pass : (op : Op) (cs : List (Cond × ℕ)) → PassBy op (ConditionHolds judgements id ctx beside) cs → Pass op (Passes judgements id ctx beside) cs
+  to_pass : (op : Op) (cs : List (Cond × ℕ)) → PassBy op (ConditionHolds judgements id ctx beside) cs → PassAs op (PassesNow judgements id ctx beside) cs
   to_pass AllOf cs h = λ c a. to_passes c (h c a)
   to_pass OneOf cs h = (h.0, h.1, to_passes h.0 h.2)
   to_pass NoneOf cs h = λ c a x. h c a (from_passes c x)
   to_pass Equals cs h = λ c a. to_passes c (h c a)
   to_pass EqualsOrdered cs h = λ c a. to_passes c (h c a)
 
-  from_pass : (op : Op) (cs : List (Cond × ℕ)) → Pass op (Passes judgements id ctx beside) cs → PassBy op (ConditionHolds judgements id ctx beside) cs
+  from_pass : (op : Op) (cs : List (Cond × ℕ)) → PassAs op (PassesNow judgements id ctx beside) cs → PassBy op (ConditionHolds judgements id ctx beside) cs
   from_pass AllOf cs h = λ c a. from_passes c (h c a)
   from_pass OneOf cs h = (h.0, h.1, from_passes h.0 h.2)
   from_pass NoneOf cs h = λ c a x. h c a (to_passes c x)

@@ -17,7 +17,7 @@ use Rattle.ug_conf.specs.declared.settings.Present.TheVariants as present
 use Rattle.ug_policy.specs.declared.entry.RuleEntry.{RuleEntry}
 use Rattle.ug_core.specs.declared.changes.Change.{Change}
 use Rattle.ug_core.specs.Policy.{Judging, context_at}
-use Rattle.ug_headline.specs.Headline.{By_keeping, By_none, By_rule, By_setting, Changes, Deed, IsWarranted, Judges, Line, Reason, Seen, Tells, Tells_effect, Tells_failed, Tells_none, Tells_other, WasJudgedByRules, WasOrderedByOne, after_deeds, has_listed_all, present_setting}
+use Rattle.ug_headline.specs.Headline.{By_keeping, By_none, By_rule, By_setting, Changes, Deed, IsWarranted, Judges, Line, Reason, Seen, TellsLog, Tells_effect, Tells_failed, Tells_none, Tells_other, WasJudgedByRules, WasOrderedByOne, after_deeds, has_listed_all, present_setting}
 use Rattle.ug_headline.specs.Devices.{is_root_name}
 use Rattle.ug_headline.specs.Rules.{Finds, Finds_none, Finds_this, Finds_unheld, Finds_unmatched}
 use Rattle.ug_headline.specs.Silence.{AllowsNothing, NothingAuthorised}
@@ -79,7 +79,7 @@ module _ (start : Judging) (run : List Seen) (k : Kernel) (silent : AllowsNothin
         | inr o ↦ no_order start front k silent early number w.name w.held w.why o
       ]
 
-  none_on : (es : List Line) (log : List Effect) → Tells start run k es log → (i : ℕ) → Has log (record { device = i; write = write.On }) → ⊥
+  none_on : (es : List Line) (log : List Effect) → TellsLog start run k es log → (i : ℕ) → Has log (record { device = i; write = write.On }) → ⊥
   none_on _ _ Tells_none i h = h
   none_on _ _ (Tells_other es more log none t) i h = none_on es log t i h
   none_on _ _ (Tells_failed es log number name what outcome may t) i h = none_on es log t i h

@@ -39,8 +39,8 @@ use Rattle.ug_core.specs.Event.{DaemonState, ready}
 use Rattle.ug_core.specs.InForce.{Decision, decisions_in, unordered}
 use Rattle.ug_core.specs.Policy.{Judging, by_choice, cause_for, choice_for, found_for, is_apply, judgements_if, judgements_of, verdict_of}
 use Rattle.ug_core.specs.Rulings.{CanTake, Changed, Decided, PolicyStep, Ruled, Told, Was_changed, after_ruling, after_steps, at_moment, changed_alone, decision_by, judgements_for, told_by}
-use Rattle.ug_headline.specs.Headline.{AreSilent, Changes, Deed, Judges, Line, Verdict, after_deeds, applied_by, applied_in, change_in, deeds_of, has_listed_all, journal_of, judged_by, judged_in}
-use Rattle.ug_headline.specs.Seeing.{line_of, seen}
+use Rattle.ug_headline.specs.Headline.{AreSilent, Changes, Deed, Judges, Line, Verdict, after_deeds, applied_by, applied_in, done_change, deeds_of, has_listed_all, lines_of_run, verdict_deed, verdict_deeds}
+use Rattle.ug_headline.specs.Seeing.{line_of, seen_of}
 
 -- what was told, as deeds
 abbrev pub deed : Told → Deed
@@ -76,42 +76,42 @@ same_changes at tried d (Order moment who line) = same_asked d.sweep.standings d
 
 -- the account, part by part
 
-pub journal_seen : (hs : List Happened) → journal_of (map seen hs) ≡ map line_of (journal hs)
+pub journal_seen : (hs : List Happened) → lines_of_run (map seen_of hs) ≡ map line_of (journal hs)
 journal_seen [] = refl
 journal_seen (h ∷ hs) = ap (λ (es : List Line). map line_of h.after.sweep.entries ++ es) (journal_seen hs) ∙ sym (map_append line_of h.after.sweep.entries (journal hs))
 
-pub listed_seen : (hs : List Happened) → has_listed_all (map seen hs) ≡ has_listed hs
+pub listed_seen : (hs : List Happened) → has_listed_all (map seen_of hs) ≡ has_listed hs
 listed_seen [] = refl
 listed_seen (h ∷ hs) = ap (λ (b : Bool). lists_all h || b) (listed_seen hs)
 
-deeds_if : (done : Bool) (o : Option Change) → map deed (told_if done o) ≡ change_in done o
+deeds_if : (done : Bool) (o : Option Change) → map deed (told_if done o) ≡ done_change done o
 deeds_if true (Some change) = refl
 deeds_if true None = refl
 deeds_if false o = refl
 
 deeds_one : (number : ℕ) (name : List ℕ) (held : Held) (verdict : Target) (why : Cause) (ds : List Decision) (later : List Deed) → map deed (decided (unordered ds)) ≡ later
-    → map deed (decided (unordered (record { number = number; name = name; held = held; verdict = verdict; cause = why } ∷ ds))) ≡ judged_by (Verdict number name held verdict why) ++ later
+    → map deed (decided (unordered (record { number = number; name = name; held = held; verdict = verdict; cause = why } ∷ ds))) ≡ verdict_deed (Verdict number name held verdict why) ++ later
 deeds_one number name held verdict (cause.Order who) ds later rest = rest
 deeds_one number name held verdict why ds later rest = ap (λ (l : List Deed). Judges number name held verdict why ∷ l) rest
 
-deeds_decided : (es : List Entry) → map deed (decided (unordered (decisions_in es))) ≡ judged_in (map line_of es)
+deeds_decided : (es : List Entry) → map deed (decided (unordered (decisions_in es))) ≡ verdict_deeds (map line_of es)
 deeds_decided [] = refl
-deeds_decided (entry.Judged number name held verdict why ∷ es) = deeds_one number name held verdict why (decisions_in es) (judged_in (map line_of es)) (deeds_decided es)
+deeds_decided (entry.Judged number name held verdict why ∷ es) = deeds_one number name held verdict why (decisions_in es) (verdict_deeds (map line_of es)) (deeds_decided es)
 deeds_decided (e ∷ es) = deeds_decided es
 
-deeds_in : (h : Happened) → map deed (told_in h) ≡ change_in (was_done h.after.reply) (changes_asked h.before h.event) ++ judged_in (map line_of h.after.sweep.entries)
+deeds_in : (h : Happened) → map deed (told_in h) ≡ done_change (was_done h.after.reply) (changes_asked h.before h.event) ++ verdict_deeds (map line_of h.after.sweep.entries)
 deeds_in h =
     let here : List Told = told_if (was_done h.after.reply) (changes_asked (ready_of h) h.event) in
     let ds : List Decision = unordered (decisions_in h.after.sweep.entries) in
     map_append deed here (decided ds)
-    ∙ ap (λ (l : List Deed). l ++ map deed (decided ds)) (deeds_if (was_done h.after.reply) (changes_asked (ready_of h) h.event) ∙ ap (λ (o : Option Change). change_in (was_done h.after.reply) o) (same_changes h.event h.tried h.before h.event))
-    ∙ ap (λ (l : List Deed). change_in (was_done h.after.reply) (changes_asked h.before h.event) ++ l) (deeds_decided h.after.sweep.entries)
+    ∙ ap (λ (l : List Deed). l ++ map deed (decided ds)) (deeds_if (was_done h.after.reply) (changes_asked (ready_of h) h.event) ∙ ap (λ (o : Option Change). done_change (was_done h.after.reply) o) (same_changes h.event h.tried h.before h.event))
+    ∙ ap (λ (l : List Deed). done_change (was_done h.after.reply) (changes_asked h.before h.event) ++ l) (deeds_decided h.after.sweep.entries)
 
-pub deeds_seen : (hs : List Happened) → deeds_of (map seen hs) ≡ map deed (told_of hs)
+pub deeds_seen : (hs : List Happened) → deeds_of (map seen_of hs) ≡ map deed (told_of hs)
 deeds_seen [] = refl
 deeds_seen (h ∷ hs) =
-    let here : List Deed = change_in (was_done h.after.reply) (changes_asked h.before h.event) in
-    let next : List Deed = judged_in (map line_of h.after.sweep.entries) in
+    let here : List Deed = done_change (was_done h.after.reply) (changes_asked h.before h.event) in
+    let next : List Deed = verdict_deeds (map line_of h.after.sweep.entries) in
     ap (λ (l : List Deed). here ++ (next ++ l)) (deeds_seen hs)
     ∙ sym (append_assoc here next (map deed (told_of hs)))
     ∙ ap (λ (l : List Deed). l ++ map deed (told_of hs)) (sym (deeds_in h))

@@ -51,8 +51,8 @@ use Rattle.ug_core.proofs.Known.{decision_has}
 use Rattle.ug_core.proofs.SoFar.{verdict_given}
 use Rattle.ug_core.proofs.Verdicts.{steps_later, verdict_is}
 use Rattle.ug_core.proofs.Splits.{has_at, place_of}
-use Rattle.ug_headline.specs.Headline.{has_listed_all, Deed, IsWarranted, Judges, Line, Reason, Seen, Tells, Tells_effect, Tells_failed, Tells_none, Tells_other, Verdict, WasJudgedByRules, WasOrderedByOne, after_deeds}
-use Rattle.ug_headline.specs.Seeing.{EachWriteIsWarranted, is_granted_in, is_granted_read, line_of, ordered_by, seen, verdict_in, verdict_read}
+use Rattle.ug_headline.specs.Headline.{has_listed_all, Deed, IsWarranted, Judges, Line, Reason, Seen, TellsLog, Tells_effect, Tells_failed, Tells_none, Tells_other, Verdict, WasJudgedByRules, WasOrderedByOne, after_deeds}
+use Rattle.ug_headline.specs.Seeing.{EachWriteIsWarranted, is_granted_in, is_granted_read, line_of, ordered_by, seen_of, verdict_in, verdict_read}
 use Rattle.ug_headline.proofs.Devices.{judged_device, root_name}
 use Rattle.ug_headline.proofs.Force.{none_since}
 use Rattle.ug_headline.proofs.Growing.{GoesOn, IsIn, ToldThere, changed_within, is_in, told_there, told_within}
@@ -78,16 +78,16 @@ order_granted : (access : _) (who : _) (asked : Request) (moment : Moment) (line
 order_granted access who asked moment line event is reads granted =
     ap (λ (e : Event). is_granted_in access e) is ∙ ap (λ (r : _). is_granted_read access who r) reads ∙ granted
 
-change_seen : (start : Judging) (hs front : List Happened) (before : List PolicyStep) (change : Change) (w : WasAsked start hs before change) → GoesOn front w.earlier w.event → (e : Seen) × Has (map seen front) e × (e.change ≡ Some change) × (e.granted ≡ true)
+change_seen : (start : Judging) (hs front : List Happened) (before : List PolicyStep) (change : Change) (w : WasAsked start hs before change) → GoesOn front w.earlier w.event → (e : Seen) × Has (map seen_of front) e × (e.change ≡ Some change) × (e.granted ≡ true)
 change_seen start hs front before change w there =
     let h : Happened = w.event in
     let asks : changes_asked h.before h.event ≡ Some change =
     ap (λ (e : Event). changes_asked h.before e) w.is_order ∙ ap (λ (r : _). change_asked h.before.sweep.standings h.before.sweep.judge r) w.reads ∙ w.asks in
-    (seen h, has_map seen front h (subst (λ (l : List Happened). Has l h) (sym there.in_front) (has_at w.earlier h there.later)), asks, order_granted h.before.access w.who w.asked w.moment w.line h.event w.is_order w.reads w.granted)
+    (seen_of h, has_map seen_of front h (subst (λ (l : List Happened). Has l h) (sym there.in_front) (has_at w.earlier h there.later)), asks, order_granted h.before.access w.who w.asked w.moment w.line h.event w.is_order w.reads w.granted)
 
 -- the events before one and behind it
-seen_split : (hs earlier : List Happened) (h : Happened) (later : List Happened) → hs ≡ earlier ++ h ∷ later → map seen hs ≡ map seen earlier ++ seen h ∷ map seen later
-seen_split hs earlier h later is = ap (λ (l : List Happened). map seen l) is ∙ map_append seen earlier (h ∷ later)
+seen_split : (hs earlier : List Happened) (h : Happened) (later : List Happened) → hs ≡ earlier ++ h ∷ later → map seen_of hs ≡ map seen_of earlier ++ seen_of h ∷ map seen_of later
+seen_split hs earlier h later is = ap (λ (l : List Happened). map seen_of l) is ∙ map_append seen_of earlier (h ∷ later)
 
 module _ (start : Judging) (hub : Option Write) (first : Kernel) (o : Option Disk) (hs : List Happened) (k : Kernel) (p : Option Disk) (e : DaemonState) (new : IsLater start 0 [] start) (run : IsRun start hub first o hs k p e) where
   -- a verdict by the rules
@@ -103,7 +103,7 @@ module _ (start : Judging) (hub : Option Write) (first : Kernel) (o : Option Dis
   amid_to from to name held i on x = grows_trans x.lived.probing x.last to (quiet_grows x.lived.probing x.last x.lived.end) x.until
 
   -- in a part of the run that has the event
-  by_ruling : (front rest : List Happened) (before after : List PolicyStep) (r : Ruling) (at : run.steps ≡ before ++ Ruled r ∷ after) (x : IsPlaced start hs before k r) → hs ≡ front ++ rest → GoesOn front x.earlier x.event → (why : Cause) → ruling_answer (after_steps start before) r ≡ (target.Allow, why) → WasJudgedByRules start (map seen front) k r.number r.device r.name r.held why
+  by_ruling : (front rest : List Happened) (before after : List PolicyStep) (r : Ruling) (at : run.steps ≡ before ++ Ruled r ∷ after) (x : IsPlaced start hs before k r) → hs ≡ front ++ rest → GoesOn front x.earlier x.event → (why : Cause) → ruling_answer (after_steps start before) r ≡ (target.Allow, why) → WasJudgedByRules start (map seen_of front) k r.number r.device r.name r.held why
   by_ruling front rest before after r at x cut there why said =
       let h : Happened = x.event in
       let q : Judging = after_steps start before in
@@ -127,9 +127,9 @@ module _ (start : Judging) (hub : Option Write) (first : Kernel) (o : Option Dis
       subst (λ (s : Stream). Reason now judgements (context_at start.clock r.moment) beside (behind words s) own.dev root r.present r.on why) (same_stream deeds start)
       (subst (λ (c : ℕ → ℕ). Reason now judgements (context_at c r.moment) beside (behind words now.stream) own.dev root r.present r.on why) (same_clock deeds start) own.reason) in
       record {
-        earlier = map seen x.earlier;
-        event = seen h;
-        later = map seen there.later;
+        earlier = map seen_of x.earlier;
+        event = seen_of h;
+        later = map seen_of there.later;
         in_run = seen_split front x.earlier h there.later there.in_front;
         noted = (
           d.verdict,
@@ -161,27 +161,27 @@ module _ (start : Judging) (hub : Option Write) (first : Kernel) (o : Option Dis
         judgements = judgements;
         applied = applied_told start before;
         words = words;
-        reason = subst (λ (b : Bool). Reason now judgements (context_at start.clock (moment_of h.event)) beside (behind words start.stream) own.dev b (not (has_listed_all (map seen x.earlier))) r.on why) (root_name r.name)
+        reason = subst (λ (b : Bool). Reason now judgements (context_at start.clock (moment_of h.event)) beside (behind words start.stream) own.dev b (not (has_listed_all (map seen_of x.earlier))) r.on why) (root_name r.name)
             (subst (λ (b : Bool). Reason now judgements (context_at start.clock (moment_of h.event)) beside (behind words start.stream) own.dev root (not b) r.on why) (sym (listed_seen x.earlier))
             (subst (λ (b : Bool). Reason now judgements (context_at start.clock (moment_of h.event)) beside (behind words start.stream) own.dev root b r.on why) x.present
             (subst (λ (m : Moment). Reason now judgements (context_at start.clock m) beside (behind words start.stream) own.dev root r.present r.on why) x.moment known)));
       }
 
   -- a decision that the policy gave
-  by_rules : (front rest : List Happened) (es : List Entry) (i : ℕ) (d : Decision) → d.verdict ≡ target.Allow → (w : WasJudged start hs run.steps k es i d) → hs ≡ front ++ rest → GoesOn front w.placed.earlier w.placed.event → WasJudgedByRules start (map seen front) k d.number i d.name d.held d.cause
+  by_rules : (front rest : List Happened) (es : List Entry) (i : ℕ) (d : Decision) → d.verdict ≡ target.Allow → (w : WasJudged start hs run.steps k es i d) → hs ≡ front ++ rest → GoesOn front w.placed.earlier w.placed.event → WasJudgedByRules start (map seen_of front) k d.number i d.name d.held d.cause
   by_rules front rest es i d allows w cut there =
       let r : Ruling = w.ruling in
       let q : Judging = after_steps start w.before in
       let both : ruling_answer q r ≡ (d.verdict, d.cause) = verdict_is (at_moment r.moment q) (allowed_records r.standings) r.judged (is_none (parent_of r.name)) r.present r.on d.verdict d.cause w.given in
       let said : ruling_answer q r ≡ (target.Allow, d.cause) = both ∙ ap (λ (v : Target). (v, d.cause)) allows in
-      let own : WasJudgedByRules start (map seen front) k r.number r.device r.name r.held d.cause = by_ruling front rest w.before w.after r w.at w.placed cut there d.cause said in
-      subst (λ (n : ℕ). WasJudgedByRules start (map seen front) k n i d.name d.held d.cause) w.number
-      (subst (λ (j : ℕ). WasJudgedByRules start (map seen front) k r.number j d.name d.held d.cause) w.device
-      (subst (λ (n : List ℕ). WasJudgedByRules start (map seen front) k r.number r.device n d.held d.cause) w.name
-      (subst (λ (f : Held). WasJudgedByRules start (map seen front) k r.number r.device r.name f d.cause) w.held own)))
+      let own : WasJudgedByRules start (map seen_of front) k r.number r.device r.name r.held d.cause = by_ruling front rest w.before w.after r w.at w.placed cut there d.cause said in
+      subst (λ (n : ℕ). WasJudgedByRules start (map seen_of front) k n i d.name d.held d.cause) w.number
+      (subst (λ (j : ℕ). WasJudgedByRules start (map seen_of front) k r.number j d.name d.held d.cause) w.device
+      (subst (λ (n : List ℕ). WasJudgedByRules start (map seen_of front) k r.number r.device n d.held d.cause) w.name
+      (subst (λ (f : Held). WasJudgedByRules start (map seen_of front) k r.number r.device r.name f d.cause) w.held own)))
 
 -- a number that an order finds was told before as that of its file
-by_order : (hs front : List Happened) (at : List Entry) (d : Decision) → d.verdict ≡ target.Allow → (w : WasOrdered hs at d) → GoesOn front w.earlier w.event → WasOrderedByOne (map seen front) d.number d.name d.held d.cause
+by_order : (hs front : List Happened) (at : List Entry) (d : Decision) → d.verdict ≡ target.Allow → (w : WasOrdered hs at d) → GoesOn front w.earlier w.event → WasOrderedByOne (map seen_of front) d.number d.name d.held d.cause
 by_order hs front at d allows w in_front =
     let s : Standing = w.standing in
     let has = numbered_has d.number w.event.before.sweep.standings s w.stands in
@@ -194,9 +194,9 @@ by_order hs front at d allows w in_front =
     (subst (λ (f : Held). Has es (entry.Judged s.number s.name f s.verdict s.cause)) w.held told)) in
     let asked : request_read w.line ≡ Ok (request.Device d.number target.Allow w.permanent) = subst (λ (v : Target). request_read w.line ≡ Ok (request.Device d.number v w.permanent)) allows w.asked in
     record {
-      earlier = map seen w.earlier;
-      event = seen w.event;
-      later = map seen in_front.later;
+      earlier = map seen_of w.earlier;
+      event = seen_of w.event;
+      later = map seen_of in_front.later;
       in_run = seen_split front w.earlier w.event in_front.later in_front.in_front;
       asks = ap (λ (x : Event). verdict_in x) w.is_order ∙ ap (λ (r : _). verdict_read r) asked;
       granted = order_granted w.event.before.access w.who (request.Device d.number d.verdict w.permanent) w.moment w.line w.event.event w.is_order w.asked w.granted;
@@ -222,19 +222,19 @@ module _ (start : Judging) (hub : Option Write) (first : Kernel) (o : Option Dis
   file_of es i d (inr w) = w.1
 
   -- the entries end within an event
-  warrant : (es : List Entry) (d : Decision) (effect : Effect) (at : IsIn hs es) → IsExplained hub start hs steps k es d effect → effect.write ≡ write.On → IsWarranted start (map seen hs) k (map line_of es) d.number effect.device
+  warrant : (es : List Entry) (d : Decision) (effect : Effect) (at : IsIn hs es) → IsExplained hub start hs steps k es d effect → effect.write ≡ write.On → IsWarranted start (map seen_of hs) k (map line_of es) d.number effect.device
   warrant es d effect at x on =
       let g : Happened = at.event in
       let hs' : List Happened = at.earlier ++ g ∷ [] in
       let allows : d.verdict ≡ target.Allow = wants_allow d.verdict (subst (λ (v : Write). CallsFor hub d.name d.verdict v) on x.wanted) in
       let file = file_of x.told.before effect.device d x.decided in
-      let seen_to : map seen hs' ≡ map seen at.earlier ++ seen g ∷ [] = map_append seen at.earlier (g ∷ []) in
+      let seen_to : map seen_of hs' ≡ map seen_of at.earlier ++ seen_of g ∷ [] = map_append seen_of at.earlier (g ∷ []) in
       let cut : hs ≡ hs' ++ at.later = at.in_run ∙ sym (append_assoc at.earlier (g ∷ []) at.later) in
       let It : List Seen → Type 0 = λ l. WasJudgedByRules start l k d.number effect.device d.name d.held d.cause ⊎ WasOrderedByOne l d.number d.name d.held d.cause in
       record {
-        earlier = map seen at.earlier;
-        event = seen g;
-        later = map seen at.later;
+        earlier = map seen_of at.earlier;
+        event = seen_of g;
+        later = map seen_of at.later;
         in_run = seen_split hs at.earlier g at.later at.in_run;
         within = (
           map line_of at.more,
@@ -258,20 +258,20 @@ module _ (start : Judging) (hub : Option Write) (first : Kernel) (o : Option Dis
         ]);
       }
 
-  tells : (es : List Entry) (log : List Effect) (back : List Entry) → journal hs ≡ es ++ back → Explains hub start hs steps k es log → Tells start (map seen hs) k (map line_of es) log
+  tells : (es : List Entry) (log : List Effect) (back : List Entry) → journal hs ≡ es ++ back → Explains hub start hs steps k es log → TellsLog start (map seen_of hs) k (map line_of es) log
   tells _ _ back at Nothing_told = Tells_none
   tells _ _ back at (No_write es more log none x) =
-      subst (λ (l : List Line). Tells start (map seen hs) k l log) (sym (map_append line_of es more))
+      subst (λ (l : List Line). TellsLog start (map seen_of hs) k l log) (sym (map_append line_of es more))
       (Tells_other (map line_of es) (map line_of more) log (silent_lines more none) (tells es log (more ++ back) (at ∙ append_assoc es more back) x))
   tells _ _ back at (Had_effect es log d outcome effect may is x) =
       let two : List Entry = wrote_entries d.number d.name effect.write outcome in
       let cut : journal hs ≡ es ++ (two ++ back) = at ∙ append_assoc es two back in
       let inside = is_in hs es (entry.Intent d.number d.name effect.write) (entry.Wrote d.number d.name effect.write outcome ∷ back) cut in
-      subst (λ (l : List Line). Tells start (map seen hs) k l (log ++ effect ∷ [])) (sym (map_append line_of es two))
+      subst (λ (l : List Line). TellsLog start (map seen_of hs) k l (log ++ effect ∷ [])) (sym (map_append line_of es two))
       (Tells_effect (map line_of es) log d.number d.name outcome effect may (warrant es d effect inside is) (tells es log (two ++ back) cut x))
   tells _ _ back at (Had_none es log number name what outcome may x) =
       let two : List Entry = wrote_entries number name what outcome in
-      subst (λ (l : List Line). Tells start (map seen hs) k l log) (sym (map_append line_of es two))
+      subst (λ (l : List Line). TellsLog start (map seen_of hs) k l log) (sym (map_append line_of es two))
       (Tells_failed (map line_of es) log number name what outcome may (tells es log (two ++ back) (at ∙ append_assoc es two back) x))
 
 pub each_write : EachWriteIsWarranted
@@ -280,6 +280,6 @@ each_write start hub number first o a hs k p e started new c =
     record {
       added = run.explained.added;
       log = run.explained.log;
-      each = subst (λ (l : List Line). Tells start (map seen hs) k l run.explained.added) (sym (journal_seen hs))
+      each = subst (λ (l : List Line). TellsLog start (map seen_of hs) k l run.explained.added) (sym (journal_seen hs))
           (tells start hub first o hs k p e new run (journal hs) run.explained.added [] (sym (append-nil (journal hs))) run.explained.each);
     }

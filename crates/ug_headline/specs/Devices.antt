@@ -16,21 +16,21 @@ is_root_name [] = true
 is_root_name (b ∷ name) = not (nat_eq b 45 || nat_eq b 46) && is_root_name name
 
 -- a file that is absent, or longer than the limit, counts as empty
-abbrev pub text_of : ℕ → Option (List ℕ) → List ℕ
-text_of limit None = []
-text_of limit (Some bytes) = if nat_le (length bytes) limit then bytes else []
+abbrev pub text_up_to : ℕ → Option (List ℕ) → List ℕ
+text_up_to limit None = []
+text_up_to limit (Some bytes) = if nat_le (length bytes) limit then bytes else []
 
 abbrev pub is_long : ℕ → Option (List ℕ) → Bool
 is_long limit None = false
 is_long limit (Some bytes) = not (nat_le (length bytes) limit)
 
 -- the files that a record is made of: a device's own, or those of its parent, without `connect`
-abbrev pub files_of : Option (List ℕ) → Device → Attrs
-files_of connect d = record {
-  descriptors = text_of 131072 (Some d.descriptors);
-  product = text_of 4096 d.product;
-  serial = text_of 4096 d.serial;
-  connect = text_of 4096 connect;
+abbrev pub files_shown : Option (List ℕ) → Device → Attrs
+files_shown connect d = record {
+  descriptors = text_up_to 131072 (Some d.descriptors);
+  product = text_up_to 4096 d.product;
+  serial = text_up_to 4096 d.serial;
+  connect = text_up_to 4096 connect;
   too_long =
       is_long 131072 (Some d.descriptors) || is_long 4096 d.product || is_long 4096 d.serial
       || is_long 4096 connect;
@@ -39,7 +39,7 @@ files_of connect d = record {
 abbrev pub IsParentOf : Kernel → Option ℕ → Option Attrs → Type 0
 IsParentOf k None files = files ≡ None
 IsParentOf k (Some p) files =
-    (e : Device) × (slice_get k.devices p ≡ Some e) × (files ≡ Some (files_of None e))
+    (e : Device) × (slice_get k.devices p ≡ Some e) × (files ≡ Some (files_shown None e))
 
 -- The device at that place has that name, the held file is its `authorized`, and the record is that
 -- of its files and its parent's: descriptors by USB 2.0, chapter 9, texts without their newline.
@@ -51,4 +51,4 @@ pub record IsJudgedDevice (k : Kernel) (i : ℕ) (name : List ℕ) (held : Held)
   pub named : d.name ≡ name
   pub parent : Option Attrs
   pub read : IsParentOf k d.parent parent
-  pub made : Good dev ≡ judged_of d.name (files_of d.connect d) parent
+  pub made : Good dev ≡ judged_of d.name (files_shown d.connect d) parent

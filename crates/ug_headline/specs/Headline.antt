@@ -60,9 +60,9 @@ pub record Seen : Type 0 where
   pub lines : List Line
   pub lists : Bool
 
-abbrev pub journal_of : List Seen → List Line
-journal_of [] = []
-journal_of (event ∷ run) = event.lines ++ journal_of run
+abbrev pub lines_of_run : List Seen → List Line
+lines_of_run [] = []
+lines_of_run (event ∷ run) = event.lines ++ lines_of_run run
 
 abbrev pub has_listed_all : List Seen → Bool
 has_listed_all [] = false
@@ -73,23 +73,23 @@ pub data Deed : Type 0 where
   Changes : Change → Deed
   Judges : ℕ → List ℕ → Held → Target → Cause → Deed
 
-abbrev pub change_in : Bool → Option Change → List Deed
-change_in true (Some change) = Changes change ∷ []
-change_in done change = []
+abbrev pub done_change : Bool → Option Change → List Deed
+done_change true (Some change) = Changes change ∷ []
+done_change done change = []
 
-abbrev pub judged_by : Line → List Deed
-judged_by (Verdict number name held verdict (cause.Order who)) = []
-judged_by (Verdict number name held verdict why) = Judges number name held verdict why ∷ []
-judged_by line = []
+abbrev pub verdict_deed : Line → List Deed
+verdict_deed (Verdict number name held verdict (cause.Order who)) = []
+verdict_deed (Verdict number name held verdict why) = Judges number name held verdict why ∷ []
+verdict_deed line = []
 
-abbrev pub judged_in : List Line → List Deed
-judged_in [] = []
-judged_in (line ∷ lines) = judged_by line ++ judged_in lines
+abbrev pub verdict_deeds : List Line → List Deed
+verdict_deeds [] = []
+verdict_deeds (line ∷ lines) = verdict_deed line ++ verdict_deeds lines
 
 abbrev pub deeds_of : List Seen → List Deed
 deeds_of [] = []
 deeds_of (event ∷ run) =
-    change_in event.done event.change ++ (judged_in event.lines ++ deeds_of run)
+    done_change event.done event.change ++ (verdict_deeds event.lines ++ deeds_of run)
 
 -- what changes left of the settings and rules of the start
 abbrev pub after_deeds : List Deed → Judging → Judging
@@ -137,9 +137,9 @@ pub data Reason (now : Judging) (judgements : List Judgement) (ctx : Context)
       → Reason now judgements ctx beside words dev root was on cause.Keep
 
 -- In an event of the run, which notes it, the device of that file was judged. Its record is that of
--- its own descriptors and its parent's, and those beside are of devices, too; it had that value amid
--- the event. The settings and rules in force allowed it: what the changes before left of those of
--- the start, each of them ordered by one who may.
+-- its own descriptors and its parent's, and those beside are of devices, too; it had that value
+-- amid the event. The settings and rules in force allowed it: what the changes before left of
+-- those of the start, each of them ordered by one who may.
 pub record WasJudgedByRules (start : Judging) (run : List Seen) (k : Kernel) (number i : ℕ)
     (name : List ℕ) (held : Held) (why : Cause) : Type 0 where
   pub earlier : List Seen
@@ -179,7 +179,7 @@ pub record WasOrderedByOne (run : List Seen) (number : ℕ) (name : List ℕ) (h
   pub granted : event.granted ≡ true
   pub who : (one : Named) × (event.who ≡ Some one) × (why ≡ cause.Order one)
   pub given : (verdict : Target) × (before : Cause)
-      × Has (journal_of earlier) (Verdict number name held verdict before)
+      × Has (lines_of_run earlier) (Verdict number name held verdict before)
 
 -- Behind these lines, which end within an event, the last verdict on the number allows it, on a
 -- file that is the device's own; and the rules or an order gave it, in that event or before it.
@@ -189,7 +189,7 @@ pub record IsWarranted (start : Judging) (run : List Seen) (k : Kernel) (lines :
   pub event : Seen
   pub later : List Seen
   pub in_run : run ≡ earlier ++ event ∷ later
-  pub within : (more : List Line) × (rest : List Line) × (lines ≡ journal_of earlier ++ more)
+  pub within : (more : List Line) × (rest : List Line) × (lines ≡ lines_of_run earlier ++ more)
       × (event.lines ≡ more ++ rest)
   pub name : List ℕ
   pub held : Held
@@ -214,21 +214,21 @@ AreSilent (line ∷ lines) = AreSilent lines
 
 -- The journal tells of the log, in order: an effect for each write that was done, and perhaps for
 -- one that failed. Each that authorises is warranted where its intent stands.
-pub data Tells (start : Judging) (run : List Seen) (k : Kernel)
+pub data TellsLog (start : Judging) (run : List Seen) (k : Kernel)
     : List Line → List Effect → Type 0 where
-  Tells_none : Tells start run k [] []
+  Tells_none : TellsLog start run k [] []
   Tells_other : (lines more : List Line) (log : List Effect) → AreSilent more
-      → Tells start run k lines log → Tells start run k (lines ++ more) log
+      → TellsLog start run k lines log → TellsLog start run k (lines ++ more) log
   Tells_effect : (lines : List Line) (log : List Effect) (number : ℕ) (name : List ℕ)
       (outcome : Wrote) (effect : Effect) → MayHave outcome
       → (effect.write ≡ write.On → IsWarranted start run k lines number effect.device)
-      → Tells start run k lines log
-      → Tells start run k
+      → TellsLog start run k lines log
+      → TellsLog start run k
       (lines ++ Intends number name effect.write ∷ Did number name effect.write outcome ∷ [])
       (log ++ effect ∷ [])
   Tells_failed : (lines : List Line) (log : List Effect) (number : ℕ) (name : List ℕ)
-      (what : Write) (outcome : Wrote) → MayHaveNot outcome → Tells start run k lines log
-      → Tells start run k (lines ++ Intends number name what ∷ Did number name what outcome ∷ [])
+      (what : Write) (outcome : Wrote) → MayHaveNot outcome → TellsLog start run k lines log
+      → TellsLog start run k (lines ++ Intends number name what ∷ Did number name what outcome ∷ [])
       log
 
 -- what the run added to the kernel's log
@@ -236,4 +236,4 @@ pub record IsToldAndWarranted (start : Judging) (first : Kernel) (run : List See
     : Type 0 where
   pub added : List Effect
   pub log : k.log ≡ first.log ++ added
-  pub each : Tells start run k (journal_of run) added
+  pub each : TellsLog start run k (lines_of_run run) added

@@ -25,26 +25,27 @@ use Rattle.ug_policy.specs.declared.entry.RuleEntry.{RuleEntry}
 -- ---- attributes
 
 -- a star is any number
-abbrev pub IsNumber : Option ℕ → ℕ → Type 0
-IsNumber None n = Unit {0}
-IsNumber (Some m) n = m ≡ n
+abbrev pub MatchesNumber : Option ℕ → ℕ → Type 0
+MatchesNumber None n = Unit {0}
+MatchesNumber (Some m) n = m ≡ n
 
-abbrev pub IsId : Id → DeviceId → Type 0
-IsId rule device = IsNumber rule.vendor device.vendor × IsNumber rule.product device.product
+abbrev pub MatchesId : Id → DeviceId → Type 0
+MatchesId rule device =
+    MatchesNumber rule.vendor device.vendor × MatchesNumber rule.product device.product
 
-abbrev pub IsInterface : Iface → Triple → Type 0
-IsInterface rule device =
-    (rule.class ≡ device.class) × IsNumber rule.subclass device.subclass
-    × IsNumber rule.protocol device.protocol
+abbrev pub MatchesInterface : Iface → Triple → Type 0
+MatchesInterface rule device =
+    (rule.class ≡ device.class) × MatchesNumber rule.subclass device.subclass
+    × MatchesNumber rule.protocol device.protocol
 
-abbrev pub IsText : List ℕ → List ℕ → Type 0
-IsText rule device = rule ≡ device
+abbrev pub MatchesText : List ℕ → List ℕ → Type 0
+MatchesText rule device = rule ≡ device
 
 -- one by one, and none is left
-abbrev pub InOrder : {X Y : Type 0} → (X → Y → Type 0) → List X → List Y → Type 0
-InOrder Is [] [] = Unit {0}
-InOrder Is (x ∷ xs) (y ∷ ys) = Is x y × InOrder Is xs ys
-InOrder Is xs ys = ⊥
+abbrev pub MatchInOrder : {X Y : Type 0} → (X → Y → Type 0) → List X → List Y → Type 0
+MatchInOrder Is [] [] = Unit {0}
+MatchInOrder Is (x ∷ xs) (y ∷ ys) = Is x y × MatchInOrder Is xs ys
+MatchInOrder Is xs ys = ⊥
 
 -- the values of a rule, and those of a device
 abbrev pub Compare : {X Y : Type 0} → (X → Y → Type 0) → Op → List X → List Y → Type 0
@@ -54,7 +55,7 @@ Compare {X} {Y} Is NoneOf xs ys = ¬ ((x : X) × Has xs x × ((y : Y) × Has ys 
 Compare {X} {Y} Is Equals xs ys =
     ((x : X) → Has xs x → (y : Y) × Has ys y × Is x y)
     × ((y : Y) → Has ys y → (x : X) × Has xs x × Is x y)
-Compare Is EqualsOrdered xs ys = InOrder Is xs ys
+Compare Is EqualsOrdered xs ys = MatchInOrder Is xs ys
 
 -- an attribute that isn't given matches every device
 abbrev pub Attribute : {X Y : Type 0} → (X → Y → Type 0) → Option (Values X) → List Y → Type 0
@@ -62,26 +63,26 @@ Attribute Is None ys = Unit {0}
 Attribute Is (Some values) ys = Compare Is values.op values.items ys
 
 pub record Matches (query : Query) (device : DeviceRecord) : Type 0 where
-  pub id : Attribute IsId query.id
+  pub id : Attribute MatchesId query.id
       (record { vendor = device.vendor; product = device.product } ∷ [])
-  pub serial : Attribute IsText query.serial (device.serial ∷ [])
-  pub name : Attribute IsText query.name (device.name ∷ [])
-  pub hash : Attribute IsText query.hash (device.hash ∷ [])
-  pub parent_hash : Attribute IsText query.parent_hash (device.parent_hash ∷ [])
-  pub via_port : Attribute IsText query.via_port (device.via_port ∷ [])
-  pub interface : Attribute IsInterface query.interface device.interfaces
-  pub connect : Attribute IsText query.connect (device.connect ∷ [])
+  pub serial : Attribute MatchesText query.serial (device.serial ∷ [])
+  pub name : Attribute MatchesText query.name (device.name ∷ [])
+  pub hash : Attribute MatchesText query.hash (device.hash ∷ [])
+  pub parent_hash : Attribute MatchesText query.parent_hash (device.parent_hash ∷ [])
+  pub via_port : Attribute MatchesText query.via_port (device.via_port ∷ [])
+  pub interface : Attribute MatchesInterface query.interface device.interfaces
+  pub connect : Attribute MatchesText query.connect (device.connect ∷ [])
 
 -- ---- conditions
 
 -- so many seconds ago, or fewer; where no number is given, ever
-abbrev pub IsWithin : Option ℕ → Moment → Moment → Type 0
-IsWithin None now moment = Unit {0}
-IsWithin (Some past) now moment = now.0 ≤ moment.0 + past
+abbrev pub IsNoOlder : Option ℕ → Moment → Moment → Type 0
+IsNoOlder None now moment = Unit {0}
+IsNoOlder (Some past) now moment = now.0 ≤ moment.0 + past
 
--- A condition without its negation. The second of the local day is in the span, which may go on into
--- the next day; a device beside is one that the query matches; a judgement before applied the rule,
--- or evaluated it, within that time; the word is below that part of all words.
+-- A condition without its negation. The second of the local day is in the span, which may go on
+-- into the next day; a device beside is one that the query matches; a judgement before applied the
+-- rule, or evaluated it, within that time; the word is below that part of all words.
 abbrev pub IsTrueNow : List Judgement → ℕ → Context → List DeviceRecord → ℕ → CondKind → Type 0
 IsTrueNow judgements id ctx beside word (kind.LocalTime begin end) =
     ((begin ≤ end) × (begin ≤ ctx.second) × (ctx.second ≤ end))
@@ -89,9 +90,9 @@ IsTrueNow judgements id ctx beside word (kind.LocalTime begin end) =
 IsTrueNow judgements id ctx beside word (kind.AllowedMatches query) =
     (x : DeviceRecord) × Has beside x × Matches query x
 IsTrueNow judgements id ctx beside word (kind.RuleApplied past) =
-    (j : Judgement) × Has judgements j × (j.applied ≡ Some id) × IsWithin past ctx.moment j.moment
+    (j : Judgement) × Has judgements j × (j.applied ≡ Some id) × IsNoOlder past ctx.moment j.moment
 IsTrueNow judgements id ctx beside word (kind.RuleEvaluated past) =
-    (j : Judgement) × Has judgements j × Has j.evaluated id × IsWithin past ctx.moment j.moment
+    (j : Judgement) × Has judgements j × Has j.evaluated id × IsNoOlder past ctx.moment j.moment
 IsTrueNow judgements id ctx beside word (kind.Random billionths) =
     word * 1000000000 < billionths * 2 ^ 64
 IsTrueNow judgements id ctx beside word kind.True = Unit {0}
@@ -101,15 +102,15 @@ abbrev pub Unless : Bool → Type 0 → Type 0
 Unless true P = ¬ P
 Unless false P = P
 
-abbrev pub Passes : List Judgement → ℕ → Context → List DeviceRecord → Cond × ℕ → Type 0
-Passes judgements id ctx beside c =
+abbrev pub PassesNow : List Judgement → ℕ → Context → List DeviceRecord → Cond × ℕ → Type 0
+PassesNow judgements id ctx beside c =
     Unless c.0.negated (IsTrueNow judgements id ctx beside c.1 c.0.kind)
 
 -- one, none, or all
-abbrev pub Pass : {X : Type 0} → Op → (X → Type 0) → List X → Type 0
-Pass {X} OneOf P xs = (x : X) × Has xs x × P x
-Pass {X} NoneOf P xs = (x : X) → Has xs x → ¬ P x
-Pass {X} op P xs = (x : X) → Has xs x → P x
+abbrev pub PassAs : {X : Type 0} → Op → (X → Type 0) → List X → Type 0
+PassAs {X} OneOf P xs = (x : X) × Has xs x × P x
+PassAs {X} NoneOf P xs = (x : X) → Has xs x → ¬ P x
+PassAs {X} op P xs = (x : X) → Has xs x → P x
 
 -- how many words the conditions take
 abbrev pub draws : Option Conds → ℕ
@@ -119,7 +120,7 @@ draws (Some conds) = random_count conds.items
 abbrev pub Hold : List Judgement → ℕ → Context → List DeviceRecord → Option Conds → List ℕ → Type 0
 Hold judgements id ctx beside None words = Unit {0}
 Hold judgements id ctx beside (Some conds) words =
-    Pass conds.op (Passes judgements id ctx beside) (with_words conds.items words)
+    PassAs conds.op (PassesNow judgements id ctx beside) (with_words conds.items words)
 
 -- ---- the first match
 

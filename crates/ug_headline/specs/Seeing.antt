@@ -52,8 +52,8 @@ line_of (entry.Intent number name what) = Intends number name what
 line_of (entry.Wrote number name what outcome) = Did number name what outcome
 line_of e = Else
 
-abbrev pub seen : Happened → Seen
-seen h = record {
+abbrev pub seen_of : Happened → Seen
+seen_of h = record {
   moment = moment_of h.event;
   who = ordered_by h.event;
   granted = is_granted_in h.before.access h.event;
@@ -72,4 +72,4 @@ EachWriteIsWarranted =
     (start : Judging) (hub : Option Write) (number : ℕ) (first : Kernel) (o : Option Disk)
     (d : DaemonState) (run : List Happened) (k : Kernel) (p : Option Disk) (e : DaemonState)
     → IsStarted start hub number d → IsLater start 0 [] start → Chain first o d run k p e
-    → IsToldAndWarranted start first (map seen run) k
+    → IsToldAndWarranted start first (map seen_of run) k

@@ -9,7 +9,7 @@ use Rattle.ug_core.specs.Policy.{Judging}
 use Rattle.ug_core.specs.Verdicts.{IsLater}
 use Rattle.ug_serve.specs.Telling.{IsRunOfTurns}
 use Rattle.ug_serve.specs.Turns.{Turned, turns_entries}
-use Rattle.ug_headline.specs.Headline.{IsToldAndWarranted, Seen, journal_of}
+use Rattle.ug_headline.specs.Headline.{IsToldAndWarranted, Seen, lines_of_run}
 use Rattle.ug_headline.specs.Seeing.{line_of}
 
 -- What is seen of the turns: their journal is the one that the auditors were given, but for its
@@ -17,7 +17,7 @@ use Rattle.ug_headline.specs.Seeing.{line_of}
 pub record AreWarranted (start : Judging) (first : Kernel) (turns : List Turned) (k : Kernel)
     : Type 0 where
   pub run : List Seen
-  pub journal : journal_of run ≡ map line_of (without_drops (turns_entries turns))
+  pub journal : lines_of_run run ≡ map line_of (without_drops (turns_entries turns))
   pub warranted : IsToldAndWarranted start first run k
 
 -- so it is of turns that follow a start by settings and rules that were never used

@@ -34,9 +34,8 @@ turns_calls turns = flat_map (λ turn. turn.comes ++ turn.sends) turns
 
 -- The turns' events are a run of the daemon from its start, over the kernels from k to l and the
 -- disks from o to p: each write that authorises is explained by the verdict in force on the very
--- device that it reached, and the rule file is kept, in texts that can be
--- read again. Each device that is there and that an event was told of stands as judged, or stays
--- named.
+-- device that it reached, and the rule file is kept, in texts that can be read again. Each device
+-- that is there and that an event was told of stands as judged, or stays named.
 pub record IsRunOfTurns (policy : Judging) (hub : Option Write) (turns : List Turned)
     (k : Kernel) (o : Option Disk) (d : DaemonState)
     (l : Kernel) (p : Option Disk) (e : DaemonState) : Type 0 where

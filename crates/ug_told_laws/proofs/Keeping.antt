@@ -35,7 +35,7 @@ use Rattle.ug_core.proofs.Answered.{answered_values}
 use Rattle.ug_core.proofs.Chained.{started_so}
 use Rattle.ug_core.proofs.OneMore.{one_more}
 use Rattle.ug_core.proofs.SoFar.{SoFar, still_so}
-use Rattle.ug_told_laws.specs.Told.{AllLeaveOthers, Announces, AreAllAnnounced, IsAnnouncedIn, IsDue, IsToldOf, KeepsTold, LeavesOthers, LooksAt, OwesAll, StandsBehindLast, StaysNamed, WasTold}
+use Rattle.ug_told_laws.specs.Told.{AllLeaveOthers, Announces, AreAllAnnounced, IsAnnouncedIn, IsDueName, IsToldOf, KeepsTold, LeavesOthers, LooksAt, OwesAll, StandsBehindLast, StaysNamed, WasTold}
 
 -- ---- between two events
 
@@ -146,7 +146,7 @@ module _ (hub : Option Write) (hs : List Happened) (h : Happened) (e : IsEvent h
         ]
         | inr ne ↦ elim told [
           | inr (inl all) ↦ absurd (none_all h names is all)
-          | inr (inr due) ↦ absurd (ne (subst (λ (o : Option (List (List ℕ))). IsDue o b.name) is due))
+          | inr (inr due) ↦ absurd (ne (subst (λ (o : Option (List (List ℕ))). IsDueName o b.name) is due))
           | inl was ↦
               let o = others names is in
               let there : Live h.kernel.devices i b = subst (λ (k : Kernel). Live k.devices i b) o.0 lived.entry in
@@ -301,7 +301,7 @@ module _ (hub : Option Write) (hs : List Happened) (h : Happened) (at : At hub h
         in_run = has_right hs (h ∷ []) h (inl refl);
         d = b;
         lived = record { entry = subst (λ (k : Kernel). Live k.devices i b) (sym still) was; exit = (d, is) };
-        told = inr (subst (λ (o : Option (List (List ℕ))). IsDue o b.name) (sym named) hinted);
+        told = inr (subst (λ (o : Option (List (List ℕ))). IsDueName o b.name) (sym named) hinted);
       })
   by_piece piece still (inr e) ann =
       let x : Entry = entry.UnsettledAll fault.Memory in

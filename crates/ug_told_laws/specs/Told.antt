@@ -28,13 +28,13 @@ LooksAt None name = Unit {0}
 LooksAt (Some names) name = Has names name
 
 -- the name is due
-abbrev pub IsDue : Option (List (List ℕ)) → List ℕ → Type 0
-IsDue None name = ⊥
-IsDue (Some names) name = Has names name
+abbrev pub IsDueName : Option (List (List ℕ)) → List ℕ → Type 0
+IsDueName None name = ⊥
+IsDueName (Some names) name = Has names name
 
 -- the event was told of devices of that name: its listing succeeded, or the name was due
 abbrev pub IsToldOf : Happened → List ℕ → Type 0
-IsToldOf h name = (lists_all h ≡ true) ⊎ IsDue h.answered.due name
+IsToldOf h name = (lists_all h ≡ true) ⊎ IsDueName h.answered.due name
 
 -- an event of the run was told of the device, which lived through the last stage of that
 pub record WasTold (hs : List Happened) (i : ℕ) : Type 0 where
@@ -82,8 +82,7 @@ NamesLeaveOthers {J} answer later =
     → (Has names d.name → ⊥)
     → IsAsJudged hub k w.standings i → IsAsJudged hub l v.standings i
 
--- The clause that the settling of due names is to have: over the kernels of the last stage alone. (By
--- `NamesLeaveOthers` it is one of `SettledNames`.)
+-- The same of the settling of due names, over the kernels of the last stage alone.
 abbrev pub SettlesApart : Option Write → Happened → Type 0
 SettlesApart hub h =
     (names : List (List ℕ)) → h.answered.due ≡ Some names
@@ -94,14 +93,15 @@ SettlesApart hub h =
 
 -- with it, an event leaves others
 abbrev pub EventsLeaveOthers : Type 0
-EventsLeaveOthers = (hub : Option Write) (h : Happened) → IsEvent h → SettlesApart hub h → LeavesOthers hub h
+EventsLeaveOthers =
+    (hub : Option Write) (h : Happened) → IsEvent h → SettlesApart hub h → LeavesOthers hub h
 
 abbrev pub AllLeaveOthers : Option Write → List Happened → Type 0
 AllLeaveOthers hub [] = Unit {0}
 AllLeaveOthers hub (h ∷ hs) = LeavesOthers hub h × AllLeaveOthers hub hs
 
--- The last stage of an event is a run of the daemon's over the kernel, which is sound there, and the
--- standings are of its devices.
+-- The last stage of an event is a run of the daemon's over the kernel, which is sound there, and
+-- the standings are of its devices.
 pub record StageRuns (h : Happened) : Type 0 where
   pub sound : IsKernel h.kernel_answered
   pub stand : Stand h.kernel_answered h.answered.sweep.standings h.answered.sweep.next
@@ -153,9 +153,9 @@ pub record OwesAll (hs : List Happened) : Type 0 where
   pub told : IsUnlisted event.after.sweep.entries
   pub since : (h : Happened) → Has later h → lists_all h ≡ false
 
--- each device that was there before the event and is behind it, whether that was a hint, an order or
--- a sweep, stands as judged or stays named; or a piece was dropped, or a listing failed, and a sweep
--- is owed
+-- each device that was there before the event and is behind it, whether that was a hint, an order
+-- or a sweep, stands as judged or stays named; or a piece was dropped, or a listing failed, and a
+-- sweep is owed
 abbrev pub StandsBehindLast : Option Write → List Happened → Happened → Type 0
 StandsBehindLast hub earlier h =
     (i : ℕ) (b d : Device) → Live h.kernel.devices i b → Live h.kernel_after.devices i d
