@@ -66,7 +66,8 @@ pub fn moment<R: Clock>(rt: &R) -> Option<Instant> {
     Instant::now(rt).ok()
 }
 
-/// How many lines one of so many listeners may have in a slice, which is at least one for each of its sessions.
+/// How many lines one of so many listeners may have in a slice, which is at least one for each of
+/// its sessions.
 pub fn lines_of(listeners: usize, sessions: usize) -> usize {
     share(LINES, listeners).max(sessions)
 }

@@ -11,8 +11,8 @@ const MOST_OF_OTHERS: usize = 56;
 
 const MOST: usize = 64;
 
-/// The most streams of sessions that are over, of all listeners. A stream is a file that is open, of which the service has 131,072, and
-/// devices take up to 65,536.
+/// The most streams of sessions that are over, of all listeners. A stream is a file that is open,
+/// of which the service has 131,072, and devices take up to 65,536.
 const MOST_KEPT: usize = 16_384;
 
 /// For so many seconds a session that is idle, or over, keeps its place against newcomers.
@@ -96,7 +96,8 @@ fn places_at(listeners: &[Listener], listener: u32) -> usize {
     }
 }
 
-// The session that was idle for longest, and for a minute at least, of a listener or of all but root's.
+// The session that was idle for longest, and for a minute at least, of a listener or of all but
+// root's.
 fn longest_idle(
     listeners: &[Listener],
     peers: &[Peer],
@@ -118,7 +119,8 @@ fn longest_idle(
     found
 }
 
-// Whether a place of a listener's, or of all but root's, will be free within a minute, whatever its session does.
+// Whether a place of a listener's, or of all but root's, will be free within a minute, whatever its
+// session does.
 fn is_leaving(
     listeners: &[Listener],
     peers: &[Peer],
