@@ -1,5 +1,5 @@
 // The command `replay`.
-ghost use Rattle.std.specs.Prelude.{◌≡◌, ◌⊎◌, ℕ, Bool, true, false, IfErr, IfOk, List, Option, Some, None, map};
+ghost use Rattle.std.specs.Prelude.{◌≡◌, ◌⊎◌, ℕ, Bool, true, false, IfErr, IfOk, IfSome, List, Option, Some, None, map};
 ghost use Rattle.ug_types.specs.Ends.{Rose};
 ghost use Rattle.ug_command_io.specs.Fold.{of_first};
 ghost use Rattle.ug_command_io.specs.Statuses.{AnswersLines, status_of};
@@ -100,17 +100,14 @@ fn replay_or_summarize<S: Source, K: Sink>(
     }
 }
 
-// Whether the words of `replay` ask for numbers, or why they aren't its words.
-fn read_replay(alloc: Global, words: &[&str]) -> Result<bool, WordsFault>
-    ensures ok { IfOk result
-        (λ summary. command_in (map (λ word. word.now) words.now) ≡ Some (replay_of summary)) }
-    ensures bad { IfErr result (λ fault. fault ≡ WordsFault.Bad
-        → (summary : Bool)
-        → ¬ (command_in (map (λ word. word.now) words.now) ≡ Some (replay_of summary))) }
+// Whether the command is `replay`, and then whether it asks for numbers.
+fn replay_asked(command: &Command) -> Option<bool>
+    ensures some { IfSome result (λ summary. command.now ≡ replay_of summary) }
+    ensures none { result ≡ None → (summary : Bool) → ¬ (command.now ≡ replay_of summary) }
 {
-    match read_command(alloc, words)? {
-        Command::Replay => Ok(false),
-        Command::Summarize => Ok(true),
+    match command {
+        Command::Replay => Some(false),
+        Command::Summarize => Some(true),
         Command::MakeScript { .. }
         | Command::ReadDescriptor
         | Command::CheckRules
@@ -120,7 +117,24 @@ fn read_replay(alloc: Global, words: &[&str]) -> Result<bool, WordsFault>
         | Command::Ask { .. }
         | Command::ListChosen { .. }
         | Command::Order { .. }
-        | Command::Watch { .. } => Err(WordsFault::Bad),
+        | Command::Watch { .. } => None,
+    }
+}
+
+// Whether the words of `replay` ask for numbers, or why they aren't its words.
+fn read_replay(alloc: Global, words: &[&str]) -> Result<bool, WordsFault>
+    ensures ok { IfOk result
+        (λ summary. command_in (map (λ word. word.now) words.now) ≡ Some (replay_of summary)) }
+    ensures bad { IfErr result (λ fault. fault ≡ WordsFault.Bad
+        → (summary : Bool)
+        → ¬ (command_in (map (λ word. word.now) words.now) ≡ Some (replay_of summary))) }
+{
+    let command = read_command(alloc, words)?;
+    let asked = replay_asked(&command);
+    command.discard();
+    match asked {
+        Some(summary) => Ok(summary),
+        None => Err(WordsFault::Bad),
     }
 }
 
