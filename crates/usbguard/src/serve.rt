@@ -1,4 +1,6 @@
 // The daemon over this machine.
+ghost use Rattle.std.specs.Prelude.{◌≡◌, ◌+◌, OnOk, length};
+
 use crate::hub_parameter::tell_parameter;
 use crate::hubs_watch::HubsWatch;
 use crate::open_hubs::{find_default, tell_open_hubs};
@@ -70,7 +72,9 @@ fn add_auditors(
     default: Option<AuthDefault>,
     found: &Found,
     members: &mut Vec<Box<dyn Auditor>>,
-) -> Result<(), AllocError> {
+) -> Result<(), AllocError>
+    ensures { OnOk result (length members.new.items ≡ length members.old.items + 3) }
+{
     let alloc = rt.alloc();
     members.push(Box::new(alloc, WriterAuditor::new(make_output(rt)))?)?;
     members.push(Box::new(alloc, RefusalReader::new(alloc, found.clone()?))?)?;
