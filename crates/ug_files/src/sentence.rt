@@ -37,27 +37,6 @@ struct Line {
     length: usize,
 }
 
-fn digit(number: u32) -> u8 {
-    match number {
-        0 => b'0',
-        1 => b'1',
-        2 => b'2',
-        3 => b'3',
-        4 => b'4',
-        5 => b'5',
-        6 => b'6',
-        7 => b'7',
-        8 => b'8',
-        9 => b'9',
-        10 => b'a',
-        11 => b'b',
-        12 => b'c',
-        13 => b'd',
-        14 => b'e',
-        _ => b'f',
-    }
-}
-
 impl Line {
     fn new() -> Line {
         Line {
@@ -85,19 +64,29 @@ impl Line {
         }
     }
 
+    fn add_plain(&mut self, letter: char) {
+        let mut bytes = [0u8; 4];
+        self.add_bytes(letter.encode_utf8(&mut bytes).as_bytes());
+    }
+
+    fn add_digit(&mut self, number: u32) {
+        if let Some(digit) = char::from_digit(number, 16) {
+            self.add_plain(digit);
+        }
+    }
+
     // A character that a terminal would obey, as an escape.
     fn add_escape(&mut self, code: u32) {
         self.add_bytes(b"\\x");
-        self.add(digit(code / 16 % 16));
-        self.add(digit(code % 16));
+        self.add_digit(code / 16 % 16);
+        self.add_digit(code % 16);
     }
 
     fn add_letter(&mut self, letter: char) {
         if letter.is_control() {
             self.add_escape(letter as u32);
         } else {
-            let mut bytes = [0u8; 4];
-            self.add_bytes(letter.encode_utf8(&mut bytes).as_bytes());
+            self.add_plain(letter);
         }
     }
 

@@ -24,7 +24,7 @@ const A_SCRIPT: &str =
     "It reads standard input, and takes no other word: write < before the name of a file, or usbguard-script | before usbguard.";
 
 const A_SOCKET: &str =
-    "PATH is the socket at which the daemon listens. Without it that is /run/usbguard/root.socket.";
+    "PATH is the socket at which the daemon listens. Without it USBGUARD_SOCKET names that, or it is yours or a group's of yours, or else /run/usbguard/root.socket.";
 
 const USAGES: [Usage; 18] = [
     Usage {
