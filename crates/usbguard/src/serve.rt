@@ -1,6 +1,4 @@
 // The daemon over this machine.
-ghost use Rattle.std.specs.Prelude.{◌≡◌, ◌+◌, OnOk, length};
-
 use crate::hub_parameter::tell_parameter;
 use crate::hubs_watch::HubsWatch;
 use crate::open_hubs::{find_default, tell_open_hubs};
@@ -29,6 +27,12 @@ const SOCKETS: &str = "/run/usbguard";
 const OUTPUT: i32 = 1;
 
 type Found = Rc<Cell<Option<StartRefusal>>>;
+
+type Auditors = (
+    Box<WriterAuditor<JournalOutput>>,
+    Box<RefusalReader>,
+    Box<HubsWatch>,
+);
 
 // Whether the environment has that variable with that value.
 fn has_variable(rt: &HostRuntime, name: &str, wanted: &str) -> bool {
@@ -66,22 +70,24 @@ fn make_links(
     SocketFolder::new(rt, rt.alloc(), folder, waiter)
 }
 
-// The journal goes to standard output, and is read along for a refusal, and for when to look at the root hubs.
-fn add_auditors(
+// The journal goes to standard output, and is read along for a refusal, and for when to look at the
+// root hubs.
+fn make_auditors(
     rt: &HostRuntime,
     default: Option<AuthDefault>,
     found: &Found,
-    members: &mut Vec<Box<dyn Auditor>>,
-) -> Result<(), AllocError>
-    ensures { OnOk result (length members.new.items ≡ length members.old.items + 3) }
-{
+) -> Result<Auditors, AllocError> {
     let alloc = rt.alloc();
-    members.push(Box::new(alloc, WriterAuditor::new(make_output(rt)))?)?;
-    members.push(Box::new(alloc, RefusalReader::new(alloc, found.clone()?))?)?;
+    let output = WriterAuditor::new(make_output(rt));
+    let reader = RefusalReader::new(alloc, found.clone()?);
     let devices = String::from_str(alloc, DEVICES)?;
     let closes = matches!(default, Some(AuthDefault::None));
-    members.push(Box::new(alloc, HubsWatch::new(*rt, devices, closes))?)?;
-    Ok(())
+    let watch = HubsWatch::new(*rt, devices, closes);
+    Ok((
+        Box::new(alloc, output)?,
+        Box::new(alloc, reader)?,
+        Box::new(alloc, watch)?,
+    ))
 }
 
 // What there is to tell of root hubs before the start.
@@ -124,8 +130,16 @@ fn serve_with(
     found: Found,
 ) -> u8 {
     let alloc = rt.alloc();
+    let Ok((output, reader, watch)) = make_auditors(&rt, default, &found) else {
+        drop(found);
+        drop(devices);
+        return 6;
+    };
     let mut members: Vec<Box<dyn Auditor>> = Vec::new(alloc);
-    if add_auditors(&rt, default, &found, &mut members).is_err() {
+    if members.push(output).is_err()
+        || members.push(reader).is_err()
+        || members.push(watch).is_err()
+    {
         drop(members);
         drop(found);
         drop(devices);
