@@ -26,6 +26,7 @@ UNPROVED = $(shell root="$(CURDIR)" sh -c '. bin/sources.sh; program=$$1; is_pro
 prefix = /usr
 sysconfdir = /etc
 bindir = $(prefix)/bin
+sbindir = $(prefix)/sbin
 libexecdir = $(prefix)/libexec
 mandir = $(prefix)/share/man
 docdir = $(prefix)/share/doc/$(PACKAGE)
@@ -35,6 +36,8 @@ zshdir = $(prefix)/share/zsh/vendor-completions
 
 confdir = $(sysconfdir)/usbguard
 INSTALL = install
+# The scripts beside the program: all but usbguard-daemon, which has a page and a folder of its own, have usbguard(1) and its completion.
+SCRIPTS = usbguard-script usbguard-check usbguard-access usbguard-policy usbguard-rule-parser usbguard-status
 DOCS = README.md CHANGELOG.md CONTRIBUTING.md LICENSE SECURITY.md $(sort $(wildcard docs/*.md))
 
 all: program
@@ -48,17 +51,19 @@ program:
 endif
 
 install: program
-	$(INSTALL) -d -m 755 "$(DESTDIR)$(bindir)" "$(DESTDIR)$(libexecdir)"
-	$(INSTALL) -d -m 755 "$(DESTDIR)$(mandir)/man1" "$(DESTDIR)$(mandir)/man5"
+	$(INSTALL) -d -m 755 "$(DESTDIR)$(bindir)" "$(DESTDIR)$(sbindir)" "$(DESTDIR)$(libexecdir)"
+	$(INSTALL) -d -m 755 "$(DESTDIR)$(mandir)/man1" "$(DESTDIR)$(mandir)/man5" "$(DESTDIR)$(mandir)/man8"
 	$(INSTALL) -d -m 755 "$(DESTDIR)$(unitdir)" "$(DESTDIR)$(bashdir)" "$(DESTDIR)$(zshdir)"
 	$(INSTALL) -d -m 755 "$(DESTDIR)$(docdir)" "$(DESTDIR)$(docdir)/docs" "$(DESTDIR)$(docdir)/examples"
 	$(INSTALL) -m 755 "$(PROGRAM)" "$(DESTDIR)$(bindir)/usbguard"
-	$(INSTALL) -m 755 bin/usbguard-script bin/usbguard-check bin/usbguard-access "$(DESTDIR)$(bindir)"
+	$(INSTALL) -m 755 $(SCRIPTS:%=bin/%) "$(DESTDIR)$(bindir)"
+	$(INSTALL) -m 755 bin/usbguard-daemon "$(DESTDIR)$(sbindir)"
 	$(INSTALL) -m 755 packaging/usbguard-prepare "$(DESTDIR)$(libexecdir)/usbguard-prepare"
 	$(INSTALL) -m 755 packaging/usbguard-carry "$(DESTDIR)$(libexecdir)/usbguard-carry"
 	$(INSTALL) -m 755 packaging/usbguard-sockets "$(DESTDIR)$(libexecdir)/usbguard-sockets"
 	$(INSTALL) -m 644 man/usbguard.1 "$(DESTDIR)$(mandir)/man1/usbguard.1"
-	for page in script check access; do ln -sf usbguard.1 "$(DESTDIR)$(mandir)/man1/usbguard-$$page.1"; done
+	for script in $(SCRIPTS); do ln -sf usbguard.1 "$(DESTDIR)$(mandir)/man1/$$script.1"; done
+	$(INSTALL) -m 644 man/usbguard-daemon.8 "$(DESTDIR)$(mandir)/man8"
 	$(INSTALL) -m 644 man/usbguard-daemon.conf.5 man/usbguard-replay.5 man/usbguard-rules.conf.5 \
 		"$(DESTDIR)$(mandir)/man5"
 	sed -e 's|/usr/bin/usbguard|$(bindir)/usbguard|' -e 's|/usr/libexec/|$(libexecdir)/|' packaging/usbguard.service \
@@ -67,7 +72,7 @@ install: program
 	sed 's|/usr/libexec/|$(libexecdir)/|' packaging/usbguard-prepare.service > "$(DESTDIR)$(unitdir)/usbguard-prepare.service"
 	chmod 644 "$(DESTDIR)$(unitdir)/usbguard-prepare.service"
 	$(INSTALL) -m 644 packaging/usbguard.bash "$(DESTDIR)$(bashdir)/usbguard"
-	for page in script check access; do ln -sf usbguard "$(DESTDIR)$(bashdir)/usbguard-$$page"; done
+	for script in $(SCRIPTS) usbguard-daemon; do ln -sf usbguard "$(DESTDIR)$(bashdir)/$$script"; done
 	$(INSTALL) -m 644 packaging/usbguard.zsh "$(DESTDIR)$(zshdir)/_usbguard"
 	$(INSTALL) -m 644 $(filter-out docs/%,$(DOCS)) "$(DESTDIR)$(docdir)"
 	$(INSTALL) -m 644 $(filter docs/%,$(DOCS)) "$(DESTDIR)$(docdir)/docs"

@@ -25,7 +25,8 @@ named=$(grep -o '\<ug_[a-z_]*' "$page" | sort -u)
 for crate in $named; do
     echo "$crates" | grep -qx "$crate" || { echo "$crate is no crate"; lost=1; }
 done
-for command in $(awk '/^\.Sh/ { inside = /SYNOPSIS/ } inside && /^\.Cm/' man/usbguard.1 | tr -d '|' | sed 's/^\.Cm//') usbguard-script usbguard-check usbguard-access; do
+for command in $(awk '/^\.Sh/ { inside = /SYNOPSIS/ } inside && /^\.Cm/' man/usbguard.1 | tr -d '|' | sed 's/^\.Cm//') usbguard-script usbguard-check usbguard-access \
+    usbguard-policy usbguard-rule-parser usbguard-status usbguard-daemon; do
     want "\`$command\`" 'Which crates answer a command'
 done
 exit "$lost"

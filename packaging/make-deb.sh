@@ -15,10 +15,10 @@ rm -rf out/deb
 mkdir -p "$root/DEBIAN"
 make --no-print-directory install PROGRAM="$PROGRAM" PACKAGE="$name" DESTDIR="$root" >/dev/null
 strip --strip-unneeded --remove-section=.comment --remove-section=.note "$root/usr/bin/usbguard"
-gzip -9 -n "$root"/usr/share/man/man5/*.5 "$root/usr/share/man/man1/usbguard.1"
-for page in script check access; do
-    ln -sf usbguard.1.gz "$root/usr/share/man/man1/usbguard-$page.1.gz"
-    rm "$root/usr/share/man/man1/usbguard-$page.1"
+gzip -9 -n "$root"/usr/share/man/man5/*.5 "$root"/usr/share/man/man8/*.8 "$root/usr/share/man/man1/usbguard.1"
+for page in "$root"/usr/share/man/man1/usbguard-*.1; do
+    ln -sf usbguard.1.gz "$page.gz"
+    rm "$page"
 done
 # Debian has the licence's text once for all packages, and the copyright file names it.
 ln -sf ../../common-licenses/GPL-2 "$root/usr/share/doc/$name/LICENSE"

@@ -14,10 +14,10 @@ rm -rf "$top"
 mkdir -p "$root"
 make --no-print-directory install PROGRAM="$PROGRAM" PACKAGE="$name" DESTDIR="$root" zshdir=/usr/share/zsh/site-functions >/dev/null
 strip --strip-unneeded --remove-section=.comment --remove-section=.note "$root/usr/bin/usbguard"
-gzip -9 -n "$root"/usr/share/man/man5/*.5 "$root/usr/share/man/man1/usbguard.1"
-for page in script check access; do
-    ln -sf usbguard.1.gz "$root/usr/share/man/man1/usbguard-$page.1.gz"
-    rm "$root/usr/share/man/man1/usbguard-$page.1"
+gzip -9 -n "$root"/usr/share/man/man5/*.5 "$root"/usr/share/man/man8/*.8 "$root/usr/share/man/man1/usbguard.1"
+for page in "$root"/usr/share/man/man1/usbguard-*.1; do
+    ln -sf usbguard.1.gz "$page.gz"
+    rm "$page"
 done
 install -m 644 packaging/copyright "$root/usr/share/doc/$name/copyright"
 

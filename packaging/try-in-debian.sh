@@ -116,7 +116,8 @@ check 'each link leads to a file' 'test ! -s /tmp/dead'
 
 echo
 echo "== Manual pages"
-for page in '1 usbguard' '1 usbguard-script' '1 usbguard-check' '1 usbguard-access' '5 usbguard-daemon.conf' '5 usbguard-replay' '5 usbguard-rules.conf'; do
+for page in '1 usbguard' '1 usbguard-script' '1 usbguard-check' '1 usbguard-access' '1 usbguard-policy' '1 usbguard-rule-parser' '1 usbguard-status' \
+    '5 usbguard-daemon.conf' '5 usbguard-replay' '5 usbguard-rules.conf' '8 usbguard-daemon'; do
     check "man $page, with no warning" "man -w $page && LC_ALL=C.UTF-8 man --warnings -E UTF-8 $page 2>&1 >/dev/null | (! grep .)"
     check "mandoc -T lint of $page" 'mandoc -T lint $(man -w '"$page"')'
 done
@@ -250,6 +251,61 @@ echo
 echo "== What usbguard-script says of itself"
 check 'asked for it: on standard output, with status 0' 'usbguard-script --help 2>/dev/null | grep "^usage: usbguard-script" && usbguard-script -h | grep -e "  -w ATTRIBUTE"'
 check 'behind a wrong option: on standard error, with status 1' 'usbguard-script -x 2>/tmp/1 | (! grep .) && grep "^usage:" /tmp/1 && { usbguard-script -x; test $? = 1; }'
+
+echo
+echo "== A policy in one word, with the original's options"
+show 'usbguard-policy; usbguard-policy -d 1-1 -t block'
+check 'a device without a serial number has its port, and one with a serial has none' \
+    'usbguard-policy >/tmp/said && grep "^allow id 1050:0011 serial \"\" .* via-port \"1-1\"" /tmp/said && grep "^allow id 1d6b:0002 serial \"0000:00:14.0\"" /tmp/said | (! grep via-port)'
+check 'each rule is one of generate-policy' \
+    '{ usbguard-script | usbguard generate-policy; echo DeviceRulesWithPort=true >/tmp/ports; usbguard-script -c /tmp/ports | usbguard generate-policy; } >/tmp/all
+    for words in "" -p -P "-pP" "-d 1-2" --with-ports --no-ports-sn; do usbguard-policy $words >/tmp/said && test -s /tmp/said && ! grep -vxF -f /tmp/all /tmp/said || exit 1; done'
+check '-p: each has a port; -P: none has' 'usbguard-policy -p | (! grep -v via-port) && usbguard-policy -P | (! grep via-port)'
+check '-d: that of the device alone, and -t: a last rule' \
+    'usbguard-policy --devpath=/bus/usb/devices/1-1 --target=reject >/tmp/said && test "$(wc -l </tmp/said)" = 2 && grep "^allow id 1050:0011 " /tmp/said && tail -n 1 /tmp/said | grep -x reject'
+check 'what it refuses it says, and writes no rule' \
+    'for words in -X -H -L "-b x" "-t frob" "-d 1-9" "-d /x/1-1" "-d ../../../../etc" x -x; do ! usbguard-policy $words >/tmp/said 2>/tmp/2 && test ! -s /tmp/said && test -s /tmp/2 || exit 1; done
+    usbguard-policy -X 2>&1 | grep "usbguard-script -w hash"; usbguard-policy --hash-only 2>&1 | grep "allow hash"'
+check 'where there is no device, or no USB, no policy is written' \
+    'mkdir -p /tmp/no-device && ! usbguard-policy -f /tmp/no-device >/tmp/said && ! usbguard-policy -f /nonexistent >>/tmp/said && test ! -s /tmp/said'
+check 'a device whose descriptors are malformed is told' \
+    'mkdir -p /sys/bus/usb/devices/1-6 && echo 0 >/sys/bus/usb/devices/1-6/authorized && printf x >/sys/bus/usb/devices/1-6/descriptors; usbguard-policy 2>&1 >/dev/null | grep "no rule for 1-6"; told=$?; rm -r /sys/bus/usb/devices/1-6; exit $told'
+
+echo
+echo "== Names of old"
+printf 'allow 1050:0011 name "a\\x41" # key\n\n# no rule\n  block\n' >"$root/tmp/rules"
+show 'usbguard-rule-parser -f /tmp/rules'
+check 'usbguard-rule-parser shows each rule, and its canonical form' \
+    'printf "%s\n" "INPUT: allow 1050:0011 name \"a\\x41\" # key" "OUTPUT: allow id 1050:0011 name \"aA\"" "INPUT:   block" "OUTPUT: block" | cmp - <(usbguard-rule-parser -f /tmp/rules) && usbguard-rule-parser block | grep -x "OUTPUT: block"'
+check 'it refuses what is no rule, and what is no file' \
+    'mkfifo /tmp/a-pipe; for words in frob "allow frob" "" "# x" -t -x; do ! usbguard-rule-parser "$words" >/tmp/said 2>/tmp/2 && test ! -s /tmp/said && test -s /tmp/2 || exit 1; done
+    for file in /nonexistent /tmp /tmp/a-pipe; do ! timeout 10 usbguard-rule-parser -f $file 2>/tmp/2 && grep "this is no file" /tmp/2 || exit 1; done; rm /tmp/a-pipe'
+check 'usbguard-daemon refuses what the daemon does not do, and says what does it' \
+    'for word in -f -s -C -W; do ! usbguard-daemon $word 2>/tmp/2 && grep "systemctl start usbguard" /tmp/2 || exit 1; done; ! usbguard-daemon -P 2>/tmp/2 && grep "chown root:root" /tmp/2 && ! usbguard-daemon -x && ! usbguard-daemon x'
+check 'usbguard-daemon is the daemon, with its process id and its journal in a file' \
+    'rm -f /tmp/log /tmp/pid; usbguard-daemon -c /etc/usbguard/usbguard-daemon.conf -l /tmp/log -p /tmp/pid & sleep 3
+    grep "^event 1 sweep " /tmp/log && test "$(cat /tmp/pid)" = $! && test "$(readlink /proc/$!/exe)" = /usr/bin/usbguard; good=$?; kill $!; exit $good'
+check 'a pipe in the place of its files is not waited for' 'mkfifo /tmp/a-pipe; timeout 10 usbguard-daemon -l /tmp/a-pipe; test $? = 1 || exit 1; timeout 10 usbguard-daemon -p /tmp/a-pipe; test $? = 1; good=$?; rm /tmp/a-pipe; exit $good'
+
+echo
+echo "== Whether the machine is guarded"
+rm -rf "$root/run/usbguard"
+show 'usbguard-status'
+check 'not without a daemon: status 1' 'usbguard-status >/tmp/said; test $? = 1 && tail -n 1 /tmp/said | grep -x "usbguard-status: the machine is NOT guarded" && ! usbguard-status -q | grep . && { usbguard-status -q; test $? = 1; }'
+start
+sleep 2
+show 'usbguard-status'
+check 'with one: status 0, and how many rules and devices there are' \
+    'usbguard-status >/tmp/said && grep "^guard *runs since .*, and answers" /tmp/said && grep "^rules *$(usbguard list-rules | wc -l): " /tmp/said && grep "^devices *$(usbguard list-devices | wc -l): " /tmp/said && grep "^hubs *closed: usb1$" /tmp/said && grep "^unsettled *0$" /tmp/said && usbguard-status --quiet'
+check 'who may not ask is told so, and no more' '! su eve -c usbguard-status >/tmp/said && grep "^guard  *DOES NOT RUN: " /tmp/said'
+check 'an open hub is told' 'echo 1 >/sys/bus/usb/devices/usb1/authorized_default; usbguard-status | grep "^hubs *OPEN: usb1"; told=$?; echo 0 >/sys/bus/usb/devices/usb1/authorized_default; exit $told'
+kill -STOP "$daemon"
+check 'one that does not answer is no guard, and is waited for no longer than -w says' 'timeout 10 usbguard-status -w 2 >/tmp/said; test $? = 1 && grep "DOES NOT ANSWER: no answer within 2 s" /tmp/said'
+kill -CONT "$daemon"
+stop
+check 'nor is a socket that is left' 'usbguard-status -q; test $? = 1'
+check 'wrong options: status 2' 'for words in -x x "-w 0" "-w x"; do usbguard-status $words 2>/tmp/2; test $? = 2 && grep ^usage: /tmp/2 || exit 1; done'
+rm -rf "$root/run/usbguard"
 
 echo
 echo "== The commands"
@@ -423,6 +479,14 @@ completes "usbguard add-user joe --policy ''" 'modify list ALL'
 completes "usbguard-script -" '--help -c -d -k -m -o -r -u -w'
 completes "usbguard-script --h" '--help'
 completes "usbguard-script -w ''" 'hash parent-hash'
+completes "usbguard-policy -" '--devpath --help --no-ports-sn --target --with-ports -P -d -f -p -t'
+completes "usbguard-policy --target = r" 'reject'
+completes "usbguard-policy -d 1-" '1-1 1-2'
+completes "usbguard-rule-parser -" '--file --help -f'
+completes "usbguard-rule-parser --file /etc/usbguard/rules.c" '/etc/usbguard/rules.conf'
+completes "usbguard-status -" '--help --quiet -d -q -w'
+completes "usbguard-daemon -" '-K -c -d -h -k -l -p'
+completes "usbguard-daemon -c /etc/usbguard/u" '/etc/usbguard/usbguard-daemon.conf'
 bash="$bash
 $listing"
 completes "usbguard allow-device ''" '2 14'
@@ -442,14 +506,14 @@ check 'zsh: numbers of devices and of rules' 'zsh -f /tmp/numbers.zsh'
 completes "usbguard-script -r /etc/usbguard/rules.c" '/etc/usbguard/rules.conf'
 completes "usbguard-script -r /etc/usbguard/rules.d" '/etc/usbguard/rules.d'
 completes "usbguard-script -d /sys/bus/usb/d" '/sys/bus/usb/devices'
-check 'bash-completion loads both by itself' \
+check 'bash-completion loads all by itself' \
     'source /usr/share/bash-completion/bash_completion
-    for name in usbguard usbguard-script usbguard-check usbguard-access; do
+    for name in usbguard usbguard-script usbguard-check usbguard-access usbguard-policy usbguard-rule-parser usbguard-status usbguard-daemon; do
         _completion_loader $name
         complete -p $name
     done'
-check 'zsh knows both' \
-    "zsh -fc 'autoload -Uz compinit && compinit -D -u && (( \$+_comps[usbguard] && \$+_comps[usbguard-script] && \$+_comps[usbguard-check] && \$+_comps[usbguard-access] ))'"
+check 'zsh knows all' \
+    "zsh -fc 'autoload -Uz compinit && compinit -D -u; for name in usbguard{,-script,-check,-access,-policy,-rule-parser,-status,-daemon}; do (( \$+_comps[\$name] )) || exit 1; done'"
 
 # types SHELL KEYS WANTED: at the shell's prompt the keys give this command, as a function in the program's place shows it
 types() {

@@ -1,4 +1,4 @@
-# Completion of usbguard and usbguard-script for bash.
+# Completion of usbguard and its scripts for bash.
 
 # The files whose names begin like the word; the folders alone with -d behind it.
 _usbguard_files() {
@@ -178,7 +178,60 @@ _usbguard_access() {
     esac
 }
 
+_usbguard_policy() {
+    local word=${COMP_WORDS[COMP_CWORD]} before=${COMP_WORDS[COMP_CWORD - 1]} device
+    # --target=TARGET comes as three words
+    if [[ $word == '=' ]]; then
+        word=
+    elif [[ $before == '=' ]]; then
+        before=${COMP_WORDS[COMP_CWORD - 2]}
+    fi
+    COMPREPLY=()
+    case $before in
+    -d | --devpath)
+        for device in /sys/bus/usb/devices/usb* /sys/bus/usb/devices/[0-9]*-[0-9]*; do
+            [[ -e $device && $device != *:* && ${device##*/} == "$word"* ]] && COMPREPLY+=("${device##*/}")
+        done
+        ;;
+    -f) _usbguard_files "$word" -d ;;
+    -t | --target) _usbguard_words "$word" allow block reject ;;
+    *) _usbguard_words "$word" --devpath --help --no-ports-sn --target --with-ports -P -d -f -p -t ;;
+    esac
+}
+
+_usbguard_rule_parser() {
+    local word=${COMP_WORDS[COMP_CWORD]} before=${COMP_WORDS[COMP_CWORD - 1]}
+    COMPREPLY=()
+    case $before in
+    -f | --file) _usbguard_files "$word" ;;
+    *) [[ $word != -* ]] || _usbguard_words "$word" --file --help -f ;;
+    esac
+}
+
+_usbguard_status() {
+    local word=${COMP_WORDS[COMP_CWORD]} before=${COMP_WORDS[COMP_CWORD - 1]}
+    COMPREPLY=()
+    case $before in
+    -d) _usbguard_files "$word" -d ;;
+    -w) ;;
+    *) _usbguard_words "$word" --help --quiet -d -q -w ;;
+    esac
+}
+
+_usbguard_daemon() {
+    local word=${COMP_WORDS[COMP_CWORD]} before=${COMP_WORDS[COMP_CWORD - 1]}
+    COMPREPLY=()
+    case $before in
+    -c | -l | -p) _usbguard_files "$word" ;;
+    *) _usbguard_words "$word" -K -c -d -h -k -l -p ;;
+    esac
+}
+
 complete -F _usbguard usbguard
 complete -F _usbguard_script usbguard-script
 complete -F _usbguard_check usbguard-check
 complete -F _usbguard_access usbguard-access
+complete -F _usbguard_policy usbguard-policy
+complete -F _usbguard_rule_parser usbguard-rule-parser
+complete -F _usbguard_status usbguard-status
+complete -F _usbguard_daemon usbguard-daemon

@@ -1,4 +1,4 @@
-#compdef usbguard usbguard-script usbguard-check usbguard-access
+#compdef usbguard usbguard-script usbguard-check usbguard-access usbguard-policy usbguard-rule-parser usbguard-status usbguard-daemon
 # Completion of usbguard and its scripts for zsh.
 
 _usbguard_commands() {
@@ -61,6 +61,12 @@ _usbguard_numbers() {
     _describe number numbers
 }
 
+# The names of the devices that are plugged in.
+_usbguard_devices() {
+    local -a devices=(/sys/bus/usb/devices/(usb[0-9]*|[0-9]*-[0-9]*)(N:t))
+    compadd -- ${devices:#*:*}
+}
+
 _usbguard_options() {
     case $words[2] in
         add-user) compadd -- --devices --exceptions --parameters --policy ;;
@@ -88,6 +94,22 @@ _usbguard() {
             '-w[write the rules without an attribute]:attribute:(hash parent-hash)'
     elif [[ $service == usbguard-check ]]; then
         _arguments '(- *)--help[tell how it is used]' '-c[a file of settings]:settings:_files' '-d[the folder of devices]:folder:_files -/'
+    elif [[ $service == usbguard-policy ]]; then
+        _arguments -s \
+            '(- *)'{-h,--help}'[tell how it is used]' \
+            {-p,--with-ports}'[rules with ports]' \
+            {-P,--no-ports-sn}'[rules without ports]' \
+            {-d,--devpath}'[the rule of one device]:device:_usbguard_devices' \
+            {-t,--target}'[a last rule for all other devices]:target:(allow block reject)' \
+            '-f[the folder of devices]:folder:_files -/'
+    elif [[ $service == usbguard-rule-parser ]]; then
+        _arguments '(- *)'{-h,--help}'[tell how it is used]' {-f,--file}'[show the rules of a file]' '1:rule or file:_files'
+    elif [[ $service == usbguard-status ]]; then
+        _arguments '(- *)'{-h,--help}'[tell how it is used]' {-q,--quiet}'[write nothing]' '-w[how long each call may take]:seconds:' \
+            '-d[the folder of devices]:folder:_files -/'
+    elif [[ $service == usbguard-daemon ]]; then
+        _arguments -s '(- *)-h[tell how it is used]' '-c[the file of settings]:settings:_files' '-d[no effect]' '-k[the journal goes to standard output]' \
+            '-K[there is no journal]' '-l[the journal goes to a file]:file:_files' '-p[the file that gets the process id]:file:_files'
     elif [[ $service == usbguard-access ]]; then
         if [[ $words[CURRENT-1] == (add|set|remove|show) ]]; then
             _users
