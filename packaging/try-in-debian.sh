@@ -254,7 +254,7 @@ check 'behind a wrong option: on standard error, with status 1' 'usbguard-script
 
 echo
 echo "== A policy in one word, with the original's options"
-show 'usbguard-policy; usbguard-policy -d 1-1 -t block'
+show 'usbguard-policy > /etc/usbguard/rules.conf; cat /etc/usbguard/rules.conf; usbguard-policy -d 1-1 -t block'
 check 'a device without a serial number has its port, and one with a serial has none' \
     'usbguard-policy >/tmp/said && grep "^allow id 1050:0011 serial \"\" .* via-port \"1-1\"" /tmp/said && grep "^allow id 1d6b:0002 serial \"0000:00:14.0\"" /tmp/said | (! grep via-port)'
 check 'each rule is one of generate-policy' \
@@ -297,11 +297,11 @@ sleep 2
 show 'usbguard-status'
 check 'with one: status 0, and how many rules and devices there are' \
     'usbguard-status >/tmp/said && grep "^guard *runs since .*, and answers" /tmp/said && grep "^rules *$(usbguard list-rules | wc -l): " /tmp/said && grep "^devices *$(usbguard list-devices | wc -l): " /tmp/said && grep "^hubs *closed: usb1$" /tmp/said && grep "^unsettled *0$" /tmp/said && usbguard-status --quiet'
-check 'who may not ask is told so, and no more' '! su eve -c usbguard-status >/tmp/said && grep "^guard  *DOES NOT RUN: " /tmp/said'
+check 'who may not ask is told so, and no more' '! su eve -c usbguard-status >/tmp/said && grep "^guard  *NOT KNOWN TO RUN: .*this user may not open it" /tmp/said'
 check 'an open hub is told' 'echo 1 >/sys/bus/usb/devices/usb1/authorized_default; usbguard-status | grep "^hubs *OPEN: usb1"; told=$?; echo 0 >/sys/bus/usb/devices/usb1/authorized_default; exit $told'
-kill -STOP "$daemon"
+kill -STOP "$daemon" || :
 check 'one that does not answer is no guard, and is waited for no longer than -w says' 'timeout 10 usbguard-status -w 2 >/tmp/said; test $? = 1 && grep "DOES NOT ANSWER: no answer within 2 s" /tmp/said'
-kill -CONT "$daemon"
+kill -CONT "$daemon" || :
 stop
 check 'nor is a socket that is left' 'usbguard-status -q; test $? = 1'
 check 'wrong options: status 2' 'for words in -x x "-w 0" "-w x"; do usbguard-status $words 2>/tmp/2; test $? = 2 && grep ^usage: /tmp/2 || exit 1; done'
@@ -448,23 +448,28 @@ chroot "$root" usbguard --help 2>&1 | awk '/^  usbguard / {
     for (i = 3; i <= NF; i++) if ($i ~ /^\[-/) { sub(/\]$/, "", $i); printf " %s", substr($i, 2) }
     print ""
 }' >"$root/tmp/options"
-# of each command the sorted options, as the shell's completion has them behind its word
+# the sorted words; and whether the first words are the others, or long forms of them
 sorted='tr " " "\n" | grep . | sort | tr "\n" " "'
-check 'bash: the options of each command are those of --help' "$bash
+are_options='are_options() { printf "%s\n" $2 | while read -r option; do [[ " $1 " == *" $option "* ]] || exit 1; done && ! printf "%s\n" $1 | grep -vxF -e "${2// /
+}" | grep -v ^--; }'
+check 'bash: the options of each command are those of --help, and their long forms' "$bash
+    $are_options
     while read -r command wanted; do
-        [ \"\$(complete_words usbguard \$command - | $sorted)\" = \"\$(printf '%s\n' \$wanted | $sorted)\" ] || exit 1
+        are_options \"\$(complete_words usbguard \$command -)\" \"\$wanted\" || exit 1
     done </tmp/options"
 zsh='compadd() { print -r -- ${@:2}; }
 _describe() { print -r -- ${${(P)2}%%:*}; }
 _usbguard_words() { words=("$@"); CURRENT=$#; service=usbguard; . /usr/share/zsh/vendor-completions/_usbguard; }'
 cat >"$root/tmp/options.zsh" <<END
+setopt sh_word_split
 $zsh
+$are_options
 [[ \$(_usbguard_words usbguard '' | $sorted) == \$(cut -d ' ' -f 1 /tmp/options | $sorted) ]] || exit 1
 while read -r command wanted; do
-    [[ \$(_usbguard_words usbguard \$command - | $sorted) == \$(print -r -- \$wanted | $sorted) ]] || exit 1
+    are_options "\$(_usbguard_words usbguard \$command - | tr '\n' ' ')" "\$wanted" || exit 1
 done </tmp/options
 END
-check 'zsh: the commands, and the options of each, are those of --help' 'zsh -f /tmp/options.zsh'
+check 'zsh: the commands, and the options of each, are those of --help, and their long forms' 'zsh -f /tmp/options.zsh'
 completes "usbguard daemon --" '--conf'
 completes "usbguard daemon --conf /etc/usbguard/u" '/etc/usbguard/usbguard-daemon.conf'
 completes "usbguard check-rules '<' /etc/usbguard/rules.c" '/etc/usbguard/rules.conf'
