@@ -136,6 +136,8 @@ guards() {
     check 'our daemon runs' 'systemctl is-active usbguard && grep -qa "usbguard.daemon" /proc/$(systemctl show --value -p MainPID usbguard)/cmdline'
     check 'the key is allowed by its rule, whose parent is a root hub' \
         'for i in 1 2 3 4 5 6 7 8 9; do journalctl -o cat -u usbguard | grep -q "^judged 2 1-1 allow rule 2" && exit; sleep 0.5; done; exit 1'
+    check 'usbguard-status says that the machine is guarded, since when, and that no save is pending' \
+        'usbguard-status >/tmp/said && grep "^guard *runs since .* UTC, and answers$" /tmp/said && grep "^save *none pending$" /tmp/said'
 }
 
 # hub VALUE WHEN: the root hub's authorized_default
