@@ -25,7 +25,7 @@ use Rattle.ug_arguments.specs.CommandWords.{word_in}
 use Rattle.ug_arguments.specs.SimpleCommands.{app_of_word, daemon_app, rows_in}
 use Rattle.ug_arguments.specs.Values.{is_event_count, is_line, is_most, is_rule, is_set, is_start, is_plain_word, number_found, passing, text_found}
 use Rattle.ug_arguments.specs.declared.command.Command.{Command}
-use Rattle.ug_arguments.specs.declared.command.Command.TheVariants.{Replay, Summarize, MakeScript, ReadDescriptor, CheckRules, LintRules, GeneratePolicy, AddUser, Ask, ListChosen, Order, Watch}
+use Rattle.ug_arguments.specs.declared.command.Command.TheVariants.{Replay, Summarize, MakeScript, ReadDescriptor, CheckRules, LintRules, GeneratePolicy, AddUser, Ask, ChangeParameter, ListChosen, ListLabelled, ListRuleDevices, Order, Watch, WatchWaiting}
 use Rattle.ug_arguments.specs.declared.command.WordsFault.{WordsFault}
 use Rattle.ug_arguments.specs.declared.command.WordsFault.TheVariants.{Bad, Memory}
 use Rattle.ug_arguments.specs.declared.command_word.CommandWord.{CommandWord}
@@ -127,6 +127,38 @@ ask_in asked rows =
     option_and_then (λ request. option_map (λ socket. Ask socket request) (socket_in rows))
     (option_and_then sendable asked)
 
+-- ---- settings, and lists of rules
+
+-- the value that was before is asked for as well
+abbrev pub change_by : Request → List ℕ → Option Command
+change_by (request.SetParameter name value) socket = Some (ChangeParameter socket name value)
+change_by other socket = None
+
+abbrev pub change_parameter_in : List Row → Option Command
+change_parameter_in rows =
+    option_and_then (λ request. option_and_then (change_by request) (socket_in rows))
+    (option_and_then sendable (set_parameter_in rows))
+
+abbrev pub set_command_in : List Row → Option Command
+set_command_in rows =
+    if is_set (codes "verbose") rows then change_parameter_in rows
+    else ask_in (set_parameter_in rows) rows
+
+abbrev pub rule_devices_in : List Row → Option Command
+rule_devices_in rows =
+    option_map (λ socket. ListRuleDevices socket (first_of (codes "label") rows)) (socket_in rows)
+
+-- those of a label, or all
+abbrev pub labelled_in : Option (List ℕ) → List Row → Option Command
+labelled_in None rows = ask_in (Some request.ListRules) rows
+labelled_in (Some label) rows =
+    option_map (λ socket. ListLabelled socket label) (socket_in rows)
+
+abbrev pub list_rules_in : List Row → Option Command
+list_rules_in rows =
+    if is_set (codes "show-devices") rows then rule_devices_in rows
+    else labelled_in (first_of (codes "label") rows) rows
+
 -- ---- lists of devices, and orders on devices
 
 abbrev pub good_query : Result Query Fault → Option Query
@@ -200,9 +232,15 @@ abbrev pub most_of : Option (List ℕ) → Option ℕ
 most_of None = Some default_most
 most_of (Some text) = given_most text
 
+-- `--once` counts beside `--wait` alone
+abbrev pub watch_by : List ℕ → ℕ → List Row → Command
+watch_by socket most rows =
+    if is_set (codes "wait") rows then WatchWaiting socket most (is_set (codes "once") rows)
+    else Watch socket most
+
 abbrev pub watch_in : List Row → Option Command
 watch_in rows =
-    option_and_then (λ socket. option_map (λ most. Watch socket most)
+    option_and_then (λ socket. option_map (λ most. watch_by socket most rows)
     (most_of (first_of (codes "most") rows))) (socket_in rows)
 
 -- ---- all commands
@@ -217,10 +255,10 @@ meaning command.LintRules rows = Some (LintRules (is_set (codes "prune") rows))
 meaning command.GeneratePolicy rows = Some GeneratePolicy
 meaning command.AddUser rows = add_user_in rows
 meaning command.GetParameter rows = ask_in (get_parameter_in rows) rows
-meaning command.SetParameter rows = ask_in (set_parameter_in rows) rows
+meaning command.SetParameter rows = set_command_in rows
 meaning command.ListDevices rows = list_devices_in rows
 meaning (command.Device target) rows = device_command_in target rows
-meaning command.ListRules rows = ask_in (Some request.ListRules) rows
+meaning command.ListRules rows = list_rules_in rows
 meaning command.AppendRule rows = ask_in (append_rule_in rows) rows
 meaning command.RemoveRule rows = ask_in (remove_rule_in rows) rows
 meaning command.Watch rows = watch_in rows

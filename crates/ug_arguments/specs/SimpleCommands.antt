@@ -80,19 +80,29 @@ append_rule_app =
 abbrev pub get_parameter_app : App
 get_parameter_app = with_rule (asking_app (codes "get-parameter")) (required_word (codes "name"))
 
--- set-parameter NAME VALUE [--socket PATH]
+-- set-parameter NAME VALUE [-v] [--socket PATH]
 abbrev pub set_parameter_app : App
 set_parameter_app =
-    with_rule (with_rule (asking_app (codes "set-parameter")) (required_word (codes "name")))
-    (required_word (codes "value"))
+    with_rule
+    (with_rule (with_rule (asking_app (codes "set-parameter")) (required_word (codes "name")))
+    (required_word (codes "value"))) (flag (codes "verbose") 118)
+
+-- list-rules [-l LABEL] [-d] [--socket PATH]
+abbrev pub list_rules_app : App
+list_rules_app =
+    with_rule (with_rule (asking_app (codes "list-rules")) (short_option (codes "label") 108))
+    (flag (codes "show-devices") 100)
 
 -- remove-rule ID [--socket PATH]
 abbrev pub remove_rule_app : App
 remove_rule_app = with_rule (asking_app (codes "remove-rule")) (required_word (codes "id"))
 
--- watch [-n MOST] [--socket PATH]
+-- watch [-n MOST] [-w] [-o] [--socket PATH]
 abbrev pub watch_app : App
-watch_app = with_rule (asking_app (codes "watch")) (short_option (codes "most") 110)
+watch_app =
+    with_rule
+    (with_rule (with_rule (asking_app (codes "watch")) (short_option (codes "most") 110))
+    (flag (codes "wait") 119)) (flag (codes "once") 111)
 
 -- daemon [--conf PATH]
 abbrev pub daemon_app : App
@@ -112,7 +122,7 @@ app_of_word command.ListDevices = list_devices_app
 app_of_word (command.Device Allow) = device_app (codes "allow-device")
 app_of_word (command.Device Block) = device_app (codes "block-device")
 app_of_word (command.Device Reject) = device_app (codes "reject-device")
-app_of_word command.ListRules = asking_app (codes "list-rules")
+app_of_word command.ListRules = list_rules_app
 app_of_word command.AppendRule = append_rule_app
 app_of_word command.RemoveRule = remove_rule_app
 app_of_word command.Watch = watch_app

@@ -39,6 +39,23 @@ pub enum Command {
         socket: Text,
         choice: Choice,
     },
+    /// Asks it for its rules, and prints those that have the label.
+    ListLabelled {
+        socket: Text,
+        label: Text,
+    },
+    /// Asks it for its rules and for its devices, and prints the rules that have the label, or all,
+    /// and behind each the devices that it applies to.
+    ListRuleDevices {
+        socket: Text,
+        label: Option<Text>,
+    },
+    /// Asks it for a setting's value, then sets it, and prints both values.
+    ChangeParameter {
+        socket: Text,
+        name: Text,
+        value: Text,
+    },
     /// Asks it for its devices, and orders the target for each that the query matches.
     Order {
         socket: Text,
@@ -50,6 +67,12 @@ pub enum Command {
     Watch {
         socket: Text,
         most: u64,
+    },
+    /// The same, which waits first until a daemon listens; not `once`, again and again.
+    WatchWaiting {
+        socket: Text,
+        most: u64,
+        once: bool,
     },
 }
 
@@ -65,6 +88,23 @@ impl Command {
                 drop(socket);
                 choice.discard();
             }
+            Command::ListLabelled { socket, label } => {
+                drop(socket);
+                drop(label);
+            }
+            Command::ListRuleDevices { socket, label } => {
+                drop(socket);
+                drop(label);
+            }
+            Command::ChangeParameter {
+                socket,
+                name,
+                value,
+            } => {
+                drop(socket);
+                drop(name);
+                drop(value);
+            }
             Command::Order {
                 socket,
                 query,
@@ -75,6 +115,11 @@ impl Command {
                 query.discard();
             }
             Command::Watch { socket, most: _ } => drop(socket),
+            Command::WatchWaiting {
+                socket,
+                most: _,
+                once: _,
+            } => drop(socket),
             Command::Replay
             | Command::Summarize
             | Command::MakeScript { .. }

@@ -1,12 +1,12 @@
 // What the words of command lines mean: usbguard(1).
-ghost use Rattle.std.specs.Prelude.{◌≡◌, [], ◌∷◌, Some, codes, false, true};
+ghost use Rattle.std.specs.Prelude.{◌≡◌, [], ◌∷◌, Some, None, codes, false, true};
 ghost use Rattle.ug_types.specs.declared.rule.After.TheVariants as after;
 ghost use Rattle.ug_types.specs.declared.verdict.Target.TheVariants as target;
 ghost use Rattle.ug_proto.specs.declared.request.Request.TheVariants as request;
 ghost use Rattle.ug_acl.specs.Lists.{nothing_listed};
 ghost use Rattle.ug_arguments.specs.CommandLines.{adds, asking_command, joe, listen_alone, listing, root_socket, wanted_rows};
 ghost use Rattle.ug_arguments.specs.Commands.{command_in, settings_path};
-ghost use Rattle.ug_arguments.specs.declared.command.Command.TheVariants.{Ask, CheckRules, GeneratePolicy, LintRules, ListChosen, MakeScript, ReadDescriptor, Replay, Summarize, Watch};
+ghost use Rattle.ug_arguments.specs.declared.command.Command.TheVariants.{Ask, ChangeParameter, CheckRules, GeneratePolicy, LintRules, ListChosen, ListLabelled, ListRuleDevices, MakeScript, ReadDescriptor, Replay, Summarize, Watch, WatchWaiting};
 
 /// Each command that reads texts.
 pub fn command_lines_law()
@@ -105,6 +105,35 @@ pub fn long_options_law()
         ≡ asking_command (request.AppendRule (after.Rule 7) true (codes "a b")) }
     ensures most { command_in (codes "watch" ∷ codes "--most" ∷ codes "7" ∷ [])
         ≡ Some (Watch root_socket 7) }
+{}
+
+/// What `list-rules`, `set-parameter` and `watch` are asked for beside.
+pub fn flag_lines_law()
+    ensures label { command_in (codes "list-rules" ∷ codes "-l" ∷ codes "a" ∷ [])
+        ≡ Some (ListLabelled root_socket (codes "a")) }
+    ensures label_long { command_in (codes "list-rules" ∷ codes "--label" ∷ codes "a" ∷ [])
+        ≡ Some (ListLabelled root_socket (codes "a")) }
+    ensures devices { command_in (codes "list-rules" ∷ codes "-d" ∷ [])
+        ≡ Some (ListRuleDevices root_socket None) }
+    ensures devices_long { command_in (codes "list-rules" ∷ codes "--show-devices" ∷ [])
+        ≡ Some (ListRuleDevices root_socket None) }
+    ensures both { command_in (codes "list-rules" ∷ codes "-d" ∷ codes "-l" ∷ codes "a" ∷ [])
+        ≡ Some (ListRuleDevices root_socket (Some (codes "a"))) }
+    ensures verbose { command_in (codes "set-parameter" ∷ codes "a" ∷ codes "b" ∷ codes "-v" ∷ [])
+        ≡ Some (ChangeParameter root_socket (codes "a") (codes "b")) }
+    ensures verbose_long { command_in (codes "set-parameter" ∷ codes "--verbose" ∷ codes "a"
+        ∷ codes "b" ∷ [])
+        ≡ Some (ChangeParameter root_socket (codes "a") (codes "b")) }
+    ensures wait { command_in (codes "watch" ∷ codes "-w" ∷ [])
+        ≡ Some (WatchWaiting root_socket 1000000 false) }
+    ensures wait_long { command_in (codes "watch" ∷ codes "--wait" ∷ codes "-n" ∷ codes "7" ∷ [])
+        ≡ Some (WatchWaiting root_socket 7 false) }
+    ensures once { command_in (codes "watch" ∷ codes "-w" ∷ codes "-o" ∷ [])
+        ≡ Some (WatchWaiting root_socket 1000000 true) }
+    ensures once_long { command_in (codes "watch" ∷ codes "-w" ∷ codes "--once" ∷ [])
+        ≡ Some (WatchWaiting root_socket 1000000 true) }
+    ensures once_alone { command_in (codes "watch" ∷ codes "-o" ∷ [])
+        ≡ Some (Watch root_socket 1000000) }
 {}
 
 /// Where a daemon's settings are.

@@ -10,7 +10,9 @@ mod laws;
 mod matches;
 mod meaning;
 mod requests;
+mod rules;
 mod sending;
+mod settings;
 mod simple;
 mod values;
 
@@ -18,6 +20,6 @@ pub use arguments::read_command;
 pub use command::{Command, WordsFault};
 pub use daemon::read_daemon_words;
 pub use laws::{
-    add_user_lines_law, asking_lines_law, command_lines_law, daemon_lines_law, list_lines_law,
-    long_options_law,
+    add_user_lines_law, asking_lines_law, command_lines_law, daemon_lines_law, flag_lines_law,
+    list_lines_law, long_options_law,
 };

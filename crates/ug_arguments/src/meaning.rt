@@ -9,14 +9,16 @@ use crate::command::{Command, WordsFault};
 use crate::command_word::CommandWord;
 use crate::devices::{device_command, list_devices};
 use crate::matches::is_set;
-use crate::requests::{append_rule, get_parameter, remove_rule, set_parameter};
+use crate::requests::{append_rule, get_parameter, remove_rule};
+use crate::rules::list_rules;
 use crate::sending::is_sendable;
+use crate::settings::set_command;
 use crate::values::{is_event_count, is_start, listed, most, number, principal, socket};
 use clap::ArgMatches;
 use std::alloc::Global;
 use ug_acl::Asked;
 use ug_proto::Request;
-use ug_types::Section;
+use ug_types::{Section, Text};
 
 fn replay(matches: &ArgMatches) -> Command
     ensures { result ≡ replay_in (rows_of (found_of matches.now)) }
@@ -75,13 +77,27 @@ fn add_user(matches: &ArgMatches) -> Result<Command, WordsFault>
     Ok(Command::AddUser { name, asked })
 }
 
+fn watch_by(socket: Text, most: u64, matches: &ArgMatches) -> Command
+    ensures { result ≡ commands.watch_by socket most (rows_of (found_of matches.now)) }
+{
+    if is_set(matches, "wait") {
+        Command::WatchWaiting {
+            socket,
+            most,
+            once: is_set(matches, "once"),
+        }
+    } else {
+        Command::Watch { socket, most }
+    }
+}
+
 fn watch(alloc: Global, matches: &ArgMatches) -> Result<Command, WordsFault>
     ensures ok { IfOk result (λ c. watch_in (rows_of (found_of matches.now)) ≡ Some c) }
     ensures err { IfErr result (NotRead (watch_in (rows_of (found_of matches.now)))) }
 {
     let socket = socket(alloc, matches)?;
     let most = most(matches)?;
-    Ok(Command::Watch { socket, most })
+    Ok(watch_by(socket, most, matches))
 }
 
 /// The command that sends the request.
@@ -138,10 +154,10 @@ pub fn meaning(
         CommandWord::GeneratePolicy => Ok(Command::GeneratePolicy),
         CommandWord::AddUser => add_user(matches),
         CommandWord::GetParameter => ask_for(alloc, matches, get_parameter(alloc, matches)),
-        CommandWord::SetParameter => ask_for(alloc, matches, set_parameter(alloc, matches)),
+        CommandWord::SetParameter => set_command(alloc, matches),
         CommandWord::ListDevices => list_devices(alloc, matches),
         CommandWord::Device(target) => device_command(alloc, matches, target),
-        CommandWord::ListRules => ask(alloc, matches, Request::ListRules),
+        CommandWord::ListRules => list_rules(alloc, matches),
         CommandWord::AppendRule => ask_for(alloc, matches, append_rule(alloc, matches)),
         CommandWord::RemoveRule => ask_for(alloc, matches, remove_rule(matches)),
         CommandWord::Watch => watch(alloc, matches),

@@ -78,6 +78,7 @@ fn arguments_of<'a>(word: CommandWord) -> &'a [Argument<'a>]
             Argument::LongOption("socket"),
             Argument::Word("name"),
             Argument::Word("value"),
+            Argument::Flag("verbose", 'v'),
         ],
         CommandWord::ListDevices => &[
             Argument::LongOption("socket"),
@@ -85,7 +86,11 @@ fn arguments_of<'a>(word: CommandWord) -> &'a [Argument<'a>]
             Argument::Flag("allowed", 'a'),
             Argument::Flag("blocked", 'b'),
         ],
-        CommandWord::ListRules => &[Argument::LongOption("socket")],
+        CommandWord::ListRules => &[
+            Argument::LongOption("socket"),
+            Argument::ShortOption("label", 'l'),
+            Argument::Flag("show-devices", 'd'),
+        ],
         CommandWord::Device(_) => &[
             Argument::LongOption("socket"),
             Argument::Word("number"),
@@ -101,6 +106,8 @@ fn arguments_of<'a>(word: CommandWord) -> &'a [Argument<'a>]
         CommandWord::Watch => &[
             Argument::LongOption("socket"),
             Argument::ShortOption("most", 'n'),
+            Argument::Flag("wait", 'w'),
+            Argument::Flag("once", 'o'),
         ],
     }
 }

@@ -1,6 +1,6 @@
 use Rattle.std.proofs.Common.{◌≡◌, Bool, List, Some, Result, IfOk, IfErr, sym, ap, subst, ◌∙◌}
 use Rattle.clap.specs.Words.{Row, found_of, rows_of}
-use Rattle.ug_arguments.specs.Commands.{NotRead, append_rule_in, get_parameter_in, meaning, remove_rule_in, set_parameter_in}
+use Rattle.ug_arguments.specs.Commands.{NotRead, append_rule_in, get_parameter_in, meaning, remove_rule_in}
 use Rattle.ug_arguments.specs.declared.command.Command.{Command}
 use Rattle.ug_arguments.specs.declared.command.Command.TheVariants.{LintRules}
 use Rattle.ug_arguments.specs.declared.command.WordsFault.{WordsFault}
@@ -63,11 +63,11 @@ returns-in-GetParameter-clause-err c = err c.args.word _ c.in-GetParameter.is (r
 
 pub returns-in-SetParameter-clause-ok : goal.returns-in-SetParameter-clause-ok
 unfolding meaning
-returns-in-SetParameter-clause-ok c = ok c.args.word _ c.in-SetParameter.is (rows_of (found_of c.args.matches.now)) _ (c.ask_for-in-SetParameter.ensures.ok (set_parameter_in (rows_of (found_of c.args.matches.now))) c.set_parameter.ensures.ok)
+returns-in-SetParameter-clause-ok c = ok c.args.word _ c.in-SetParameter.is (rows_of (found_of c.args.matches.now)) _ c.set_command.ensures.ok
 
 pub returns-in-SetParameter-clause-err : goal.returns-in-SetParameter-clause-err
 unfolding meaning
-returns-in-SetParameter-clause-err c = err c.args.word _ c.in-SetParameter.is (rows_of (found_of c.args.matches.now)) _ (c.ask_for-in-SetParameter.ensures.err (set_parameter_in (rows_of (found_of c.args.matches.now))) c.set_parameter.ensures.ok c.set_parameter.ensures.err)
+returns-in-SetParameter-clause-err c = err c.args.word _ c.in-SetParameter.is (rows_of (found_of c.args.matches.now)) _ c.set_command.ensures.err
 
 pub returns-in-ListDevices-clause-ok : goal.returns-in-ListDevices-clause-ok
 unfolding meaning
@@ -87,11 +87,11 @@ returns-in-Device-clause-err c = err c.args.word _ c.in-Device.is (rows_of (foun
 
 pub returns-in-ListRules-clause-ok : goal.returns-in-ListRules-clause-ok
 unfolding meaning
-returns-in-ListRules-clause-ok c = ok c.args.word _ c.in-ListRules.is (rows_of (found_of c.args.matches.now)) _ c.ask.ensures.ok
+returns-in-ListRules-clause-ok c = ok c.args.word _ c.in-ListRules.is (rows_of (found_of c.args.matches.now)) _ c.list_rules.ensures.ok
 
 pub returns-in-ListRules-clause-err : goal.returns-in-ListRules-clause-err
 unfolding meaning
-returns-in-ListRules-clause-err c = err c.args.word _ c.in-ListRules.is (rows_of (found_of c.args.matches.now)) _ c.ask.ensures.err
+returns-in-ListRules-clause-err c = err c.args.word _ c.in-ListRules.is (rows_of (found_of c.args.matches.now)) _ c.list_rules.ensures.err
 
 pub returns-in-AppendRule-clause-ok : goal.returns-in-AppendRule-clause-ok
 unfolding meaning
