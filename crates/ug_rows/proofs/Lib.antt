@@ -1,3 +1,4 @@
 pub mod Cutting
+pub mod FirstMatches
 pub mod Names
 pub mod Numbers

@@ -7,7 +7,7 @@ use std::alloc::Global;
 use ug_types::{NoMemory, Query, Text};
 
 #[tactic(auto, unfolding(crate::specs::Rows::matching_number))]
-fn matching_number(alloc: Global, query: &Query, row: &[u8]) -> Result<Option<u64>, NoMemory>
+pub fn matching_number(alloc: Global, query: &Query, row: &[u8]) -> Result<Option<u64>, NoMemory>
     ensures { IfOk result (λ number. number ≡ rows.matching_number query.now row.now) }
 {
     let Some((number, text)) = read_row(row) else {
