@@ -3,8 +3,7 @@ use Rattle.std.proofs.Common.{◌≡◌, ◌∙◌, ℕ, ◌+◌, ◌<◌, Bool,
 use Rattle.std.specs.Prelude.{◌||◌, cond}
 use Rattle.std.proofs.lemmas.List.{append-nil, at_drop_more, take-append-drop, take_more}
 use Rattle.std.proofs.lemmas.List.Elements.{filter_more}
-use Rattle.ug_rows.specs.Rows.{chosen_rows, is_chosen}
-use Rattle.ug_rows.specs.declared.choice.Choice.{Choice}
+use Rattle.std.specs.List.{filter}
 use Rattle.ug_client.specs.declared.asked.Asked.{Asked}
 use Rattle.ug_client.specs.declared.asked.Asked.TheVariants as asked
 use Rattle.ug_proto.specs.Replies.{ended_lines}
@@ -83,16 +82,16 @@ pub ended_next : (lines : List (List ℕ)) (chosen : Bool) (row : List ℕ) → 
 ended_next lines chosen row = ended_both lines (cond chosen (row ∷ []) []) ∙ ap (λ (text : List ℕ). ended_lines lines ++ text) (ended_if chosen row)
 
 -- one row more
-pub rows_step : (choice : Choice) (rows : List (List ℕ)) (i : ℕ) (d row : List ℕ) (chosen : Bool) (before after : List ℕ) → i < length rows
-    → before ≡ ended_lines (chosen_rows choice (take i rows)) → row ≡ get_or rows i d → chosen ≡ is_chosen choice row
-    → after ≡ before ++ cond chosen (row ++ 10 ∷ []) [] → after ≡ ended_lines (chosen_rows choice (take (i + 1) rows))
-rows_step choice rows i d row chosen before after lt h r c e =
+pub rows_step : (test : List ℕ → Bool) (rows : List (List ℕ)) (i : ℕ) (d row : List ℕ) (chosen : Bool) (before after : List ℕ) → i < length rows
+    → before ≡ ended_lines (filter test (take i rows)) → row ≡ get_or rows i d → chosen ≡ test row
+    → after ≡ before ++ cond chosen (row ++ 10 ∷ []) [] → after ≡ ended_lines (filter test (take (i + 1) rows))
+rows_step test rows i d row chosen before after lt h r c e =
     e
     ∙ ap (λ (text : List ℕ). text ++ cond chosen (row ++ 10 ∷ []) []) h
-    ∙ sym (ended_next (chosen_rows choice (take i rows)) chosen row)
-    ∙ ap (λ (v : Bool). ended_lines (chosen_rows choice (take i rows) ++ cond v (row ∷ []) [])) c
-    ∙ ap (λ (line : List ℕ). ended_lines (chosen_rows choice (take i rows) ++ cond (is_chosen choice line) (line ∷ []) [])) r
-    ∙ sym (ap ended_lines (filter_more (is_chosen choice) rows i d lt))
+    ∙ sym (ended_next (filter test (take i rows)) chosen row)
+    ∙ ap (λ (v : Bool). ended_lines (filter test (take i rows) ++ cond v (row ∷ []) [])) c
+    ∙ ap (λ (line : List ℕ). ended_lines (filter test (take i rows) ++ cond (test line) (line ∷ []) [])) r
+    ∙ sym (ap ended_lines (filter_more test rows i d lt))
 
 pub spaced_step : (lines : List (List ℕ)) (i : ℕ) (d line : List ℕ) (base before after : List ℕ) → i < length lines
     → before ≡ base ++ spaced_lines (take i lines) → line ≡ get_or lines i d → after ≡ before ++ 32 ∷ line → after ≡ base ++ spaced_lines (take (i + 1) lines)

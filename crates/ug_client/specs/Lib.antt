@@ -8,5 +8,6 @@ pub mod ReadSoFar
 pub mod Watching
 pub mod WholeBytes
 pub mod Fetching
+pub mod Following
 pub mod Choosing
 pub mod Ordering

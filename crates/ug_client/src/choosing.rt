@@ -17,7 +17,7 @@ use ug_proto::{Reply, Request};
 use ug_rows::{Choice, is_chosen};
 use ug_types::{NoMemory, Sink, Text};
 
-fn put_row(out: &mut Vec<u8>, row: &[u8], chosen: bool) -> Result<(), NoMemory>
+pub fn put_row(out: &mut Vec<u8>, row: &[u8], chosen: bool) -> Result<(), NoMemory>
     ensures { OnOk result (out.new.items ≡ out.old.items
         ++ cond chosen (row.now ++ 10 ∷ []) []) }
 {

@@ -12,7 +12,8 @@ use std::alloc::Global;
 use ug_proto::Reply;
 use ug_types::{NoMemory, Put, Refusal, Sink, Text, words_of};
 
-fn put_lines(out: &mut Vec<u8>, lines: &[Text]) -> Result<(), NoMemory>
+/// The lines, each with its newline.
+pub fn put_lines(out: &mut Vec<u8>, lines: &[Text]) -> Result<(), NoMemory>
     ensures { OnOk result (out.new.items ≡ out.old.items ++ ended_lines lines.now) }
 {
     for line in lines {
