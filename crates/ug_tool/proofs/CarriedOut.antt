@@ -15,12 +15,13 @@ use Rattle.ug_commands.specs.Linting as linting
 use Rattle.ug_acl.specs.Adding as adding
 use Rattle.ug_proto.specs.declared.request.Request.TheVariants as request
 use Rattle.ug_client.specs.Asking.{request_line}
+use Rattle.ug_client.specs.Following.{change_line, rules_lines}
 use Rattle.ug_arguments.specs.declared.command.Command.{Command}
-use Rattle.ug_arguments.specs.declared.command.Command.TheVariants.{AddUser, Ask, CheckRules, GeneratePolicy, LintRules, ListChosen, MakeScript, Order, ReadDescriptor, Replay, Summarize, Watch}
+use Rattle.ug_arguments.specs.declared.command.Command.TheVariants.{AddUser, Ask, ChangeParameter, CheckRules, GeneratePolicy, LintRules, ListChosen, ListLabelled, ListRuleDevices, MakeScript, Order, ReadDescriptor, Replay, Summarize, Watch, WatchWaiting}
 use Rattle.ug_tool.specs.CarriedOut.{CarriesCommandOut, Streams}
 use Rattle.ug_tool.specs.Faults.{IsOutOfMemory}
 use Rattle.ug_tool.specs.Replay.{new_world}
-use Rattle.ug_tool.proofs.Memory.{input_unread, lines_unread, memory_alone, memory_summary, memory_undone, memory_unrefused, list_unsent, orders_unsent, request_unsent, same_command, watch_unsent}
+use Rattle.ug_tool.proofs.Memory.{input_unread, lines_unread, memory_alone, memory_summary, memory_undone, memory_unrefused, both_unsent, labelled_unsent, list_unsent, orders_unsent, request_unsent, same_command, watch_unsent}
 
 pub same_carried : (read : Option Command) (a b : Command) (before after : Streams) (status : ℕ)
     → read ≡ Some a → read ≡ Some b → CarriesCommandOut a before after status → CarriesCommandOut b before after status
@@ -95,4 +96,12 @@ memory_carried (ListChosen socket choice) s held status h =
 memory_carried (Order socket query target permanent) s held status h =
     (orders_unsent socket query (record { target = target; permanent = permanent }) s.calls s.sent s.incoming s.output held s.faults status h, refl)
 memory_carried (Watch socket most) s held status h =
+    (watch_unsent socket (request_line request.Watch) most s.calls s.sent s.incoming s.output held s.faults status h, refl)
+memory_carried (ListLabelled socket label) s held status h =
+    (labelled_unsent socket label s.calls s.sent s.incoming s.output held s.faults status h, refl)
+memory_carried (ListRuleDevices socket label) s held status h =
+    (both_unsent (rules_lines label) socket (request_line request.ListRules) (request_line request.ListDevices) s.calls s.sent s.incoming s.output held s.faults status h, refl)
+memory_carried (ChangeParameter socket name value) s held status h =
+    (both_unsent (change_line value) socket (request_line (request.GetParameter name)) (request_line (request.SetParameter name value)) s.calls s.sent s.incoming s.output held s.faults status h, refl)
+memory_carried (WatchWaiting socket most once) s held status h =
     (watch_unsent socket (request_line request.Watch) most s.calls s.sent s.incoming s.output held s.faults status h, refl)

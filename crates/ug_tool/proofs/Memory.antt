@@ -24,7 +24,7 @@ use Rattle.ug_client.proofs.WatchCalls.{ends_before}
 use Rattle.ug_script.specs.Generating.{TellsFaultAlone}
 use Rattle.ug_script.specs.Summing.{TellsSummary}
 use Rattle.ug_sysfs.specs.World.{World}
-use Rattle.ug_tool.specs.Client.{AsksAndEnds, ChoosesAndEnds, OrdersAndEnds, WatchesAndEnds}
+use Rattle.ug_tool.specs.Client.{AsksAndEnds, ChoosesAndEnds, LabelsAndEnds, OrdersAndEnds, TellsBothAndEnds, WatchesAndEnds}
 use Rattle.ug_arguments.specs.Commands.{NotRead}
 use Rattle.ug_arguments.specs.declared.command.WordsFault.{WordsFault}
 use Rattle.ug_arguments.specs.declared.command.WordsFault.TheVariants as fault
@@ -127,6 +127,36 @@ list_unsent path choice calls sent left before held faults status h = record {
     came = fetched.Memory;
     fetches = fetch_unsent path (request_line request.ListDevices) calls sent left;
     written = (refl, Keeps-refl before);
+  };
+  cause = λ e. absurd (memory_failed e);
+  ends = h;
+}
+
+pub labelled_unsent : (path label : List ℕ) (calls : Option (List LinkCall)) (sent left before held : Option (List ℕ)) (faults status : ℕ)
+    → IsOutOfMemory before held status → LabelsAndEnds path label calls calls sent sent left left before held faults faults status
+labelled_unsent path label calls sent left before held faults status h = record {
+  came = asked.Memory;
+  between = before;
+  lists = record {
+    came = fetched.Memory;
+    fetches = fetch_unsent path (request_line request.ListRules) calls sent left;
+    written = (refl, Keeps-refl before);
+  };
+  cause = λ e. absurd (memory_failed e);
+  ends = h;
+}
+
+pub both_unsent : (text : List (List ℕ) → List (List ℕ) → List ℕ) (path first second : List ℕ) (calls : Option (List LinkCall)) (sent left before held : Option (List ℕ)) (faults status : ℕ)
+    → IsOutOfMemory before held status → TellsBothAndEnds text path first second calls calls sent sent left left before held faults faults status
+both_unsent text path first second calls sent left before held faults status h = record {
+  came = asked.Memory;
+  between = before;
+  asks = record {
+    came = fetched.Memory;
+    between = record { calls = calls; sent = sent; left = left; held = before };
+    fetches = fetch_unsent path first calls sent left;
+    unwritten = refl;
+    told = ((refl, Keeps-refl before), refl);
   };
   cause = λ e. absurd (memory_failed e);
   ends = h;

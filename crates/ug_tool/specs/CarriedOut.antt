@@ -23,12 +23,13 @@ use Rattle.ug_acl.specs.declared.asked.Asked.{Asked}
 use Rattle.ug_proto.specs.declared.request.Request.{Request}
 use Rattle.ug_proto.specs.declared.request.Request.TheVariants as request
 use Rattle.ug_client.specs.Asking.{request_line}
+use Rattle.ug_client.specs.Following.{change_line, rules_lines}
 use Rattle.ug_arguments.specs.declared.command.Command.{Command}
-use Rattle.ug_arguments.specs.declared.command.Command.TheVariants.{AddUser, Ask, CheckRules, GeneratePolicy, LintRules, ListChosen, MakeScript, Order, ReadDescriptor, Replay, Summarize, Watch}
+use Rattle.ug_arguments.specs.declared.command.Command.TheVariants.{AddUser, Ask, ChangeParameter, CheckRules, GeneratePolicy, LintRules, ListChosen, ListLabelled, ListRuleDevices, MakeScript, Order, ReadDescriptor, Replay, Summarize, Watch, WatchWaiting}
 use Rattle.ug_types.specs.declared.rule.Query.{Query}
 use Rattle.ug_rows.specs.declared.choice.Choice.{Choice}
 use Rattle.ug_client.specs.declared.orders.Wanted.{Wanted}
-use Rattle.ug_tool.specs.Client.{AsksAndEnds, ChoosesAndEnds, OrdersAndEnds, WatchesAndEnds}
+use Rattle.ug_tool.specs.Client.{AsksAndEnds, ChoosesAndEnds, LabelsAndEnds, OrdersAndEnds, TellsBothAndEnds, WatchesAndEnds}
 use Rattle.ug_tool.specs.Faults.{EndsIn, IsOutOfMemory}
 use Rattle.ug_tool.specs.Replay.{new_world}
 
@@ -110,6 +111,20 @@ ListsDevices socket choice before after status = ChoosesAndEnds socket choice
     before.calls after.calls before.sent after.sent before.incoming after.incoming
     before.output after.output before.faults after.faults status × (after.input ≡ before.input)
 
+-- `list-rules --label`
+abbrev pub ListsLabelled : List ℕ → List ℕ → Streams → Streams → ℕ → Type 0
+ListsLabelled socket label before after status = LabelsAndEnds socket label
+    before.calls after.calls before.sent after.sent before.incoming after.incoming
+    before.output after.output before.faults after.faults status × (after.input ≡ before.input)
+
+-- two requests, and what is told of the lines of both replies
+abbrev pub TellsBoth : (List (List ℕ) → List (List ℕ) → List ℕ) → List ℕ → Request → Request
+    → Streams → Streams → ℕ → Type 0
+TellsBoth text socket first second before after status = TellsBothAndEnds text socket
+    (request_line first) (request_line second)
+    before.calls after.calls before.sent after.sent before.incoming after.incoming
+    before.output after.output before.faults after.faults status × (after.input ≡ before.input)
+
 -- `allow-device` and the like, by a query
 abbrev pub OrdersDevices : List ℕ → Query → Wanted → Streams → Streams → ℕ → Type 0
 OrdersDevices socket query wanted before after status = OrdersAndEnds socket query wanted
@@ -137,4 +152,11 @@ CarriesCommandOut (Ask socket request) = AsksRequest socket request
 CarriesCommandOut (ListChosen socket choice) = ListsDevices socket choice
 CarriesCommandOut (Order socket query target permanent) =
     OrdersDevices socket query (record { target = target; permanent = permanent })
+CarriesCommandOut (ListLabelled socket label) = ListsLabelled socket label
+CarriesCommandOut (ListRuleDevices socket label) =
+    TellsBoth (rules_lines label) socket request.ListRules request.ListDevices
+CarriesCommandOut (ChangeParameter socket name value) =
+    TellsBoth (change_line value) socket (request.GetParameter name)
+    (request.SetParameter name value)
 CarriesCommandOut (Watch socket most) = WatchesNotices socket most
+CarriesCommandOut (WatchWaiting socket most once) = WatchesNotices socket most

@@ -10,6 +10,7 @@ use Rattle.ug_rows.specs.declared.choice.Choice.{Choice}
 use Rattle.ug_client.specs.Asking.{AsksDaemon, request_line}
 use Rattle.ug_client.specs.Choosing.{chosen_text}
 use Rattle.ug_client.specs.Fetching.{AsksShowing}
+use Rattle.ug_client.specs.Following.{AsksTwice, by_lines, labelled_text}
 use Rattle.ug_client.specs.Ordering.{Around, OrdersMatching}
 use Rattle.ug_client.specs.declared.orders.Wanted.{Wanted}
 use Rattle.ug_client.specs.Watching.{Watches}
@@ -57,6 +58,30 @@ pub record ChoosesAndEnds (path : List ℕ) (choice : Choice) (calls0 calls : Op
     pub between : Option (List ℕ)
     pub lists : AsksShowing (chosen_text choice) path (request_line request.ListDevices)
         calls0 calls sent0 sent left0 left held0 between came
+    pub cause : came ≡ asked.LinkFailed → Rose faults0 faults
+    pub ends : EndsAsked between held came status
+
+-- a list of rules of which those with a label are wanted
+pub record LabelsAndEnds (path label : List ℕ) (calls0 calls : Option (List LinkCall))
+    (sent0 sent left0 left held0 held : Option (List ℕ)) (faults0 faults : ℕ) (status : ℕ) : Type 0
+  where
+    pub came : Asked
+    pub between : Option (List ℕ)
+    pub lists : AsksShowing (labelled_text label) path (request_line request.ListRules)
+        calls0 calls sent0 sent left0 left held0 between came
+    pub cause : came ≡ asked.LinkFailed → Rose faults0 faults
+    pub ends : EndsAsked between held came status
+
+-- two requests, and what is told of the lines of both replies
+pub record TellsBothAndEnds (text : List (List ℕ) → List (List ℕ) → List ℕ)
+    (path first second : List ℕ) (calls0 calls : Option (List LinkCall))
+    (sent0 sent left0 left held0 held : Option (List ℕ)) (faults0 faults : ℕ) (status : ℕ) : Type 0
+  where
+    pub came : Asked
+    pub between : Option (List ℕ)
+    pub asks : AsksTwice (by_lines text) path first second
+        (record { calls = calls0; sent = sent0; left = left0; held = held0 })
+        (record { calls = calls; sent = sent; left = left; held = between }) came
     pub cause : came ≡ asked.LinkFailed → Rose faults0 faults
     pub ends : EndsAsked between held came status
 

@@ -8,7 +8,10 @@ ghost use Rattle.ug_tool.specs.CarriedOut.{CarriesCommandOut};
 ghost use Rattle.ug_tool.specs.Faults.{EndsIn};
 ghost use Rattle.ug_tool.specs.Tool.{asks_daemon};
 
-use crate::client::{ask_daemon, list_chosen, order_devices, watch_daemon};
+use crate::client::{
+    ask_daemon, change_parameter, list_chosen, list_labelled, list_rule_devices, order_devices,
+    watch_daemon,
+};
 use crate::replay::replay_over;
 use std::alloc::Global;
 use ug_acl::add_user;
@@ -91,6 +94,17 @@ pub fn carry_out<S: Source, K: Sink, L: Link>(
         Command::ListChosen { socket, choice } => {
             list_chosen(alloc, link, socket.bytes(), choice, out)
         }
+        Command::ListLabelled { socket, label } => {
+            list_labelled(alloc, link, socket.bytes(), label.bytes(), out)
+        }
+        Command::ListRuleDevices { socket, label } => {
+            list_rule_devices(alloc, link, socket.bytes(), label, out)
+        }
+        Command::ChangeParameter {
+            socket,
+            name,
+            value,
+        } => change_parameter(alloc, link, socket.bytes(), name, value, out),
         Command::Order {
             socket,
             query,
@@ -104,5 +118,10 @@ pub fn carry_out<S: Source, K: Sink, L: Link>(
             order_devices(alloc, link, socket.bytes(), query, wanted, out)
         }
         Command::Watch { socket, most } => watch_daemon(alloc, link, socket.bytes(), *most, out),
+        Command::WatchWaiting {
+            socket,
+            most,
+            once: _,
+        } => watch_daemon(alloc, link, socket.bytes(), *most, out),
     }
 }

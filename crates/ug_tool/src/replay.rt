@@ -116,8 +116,12 @@ fn replay_asked(command: &Command) -> Option<bool>
         | Command::AddUser { .. }
         | Command::Ask { .. }
         | Command::ListChosen { .. }
+        | Command::ListLabelled { .. }
+        | Command::ListRuleDevices { .. }
+        | Command::ChangeParameter { .. }
         | Command::Order { .. }
-        | Command::Watch { .. } => None,
+        | Command::Watch { .. }
+        | Command::WatchWaiting { .. } => None,
     }
 }
 

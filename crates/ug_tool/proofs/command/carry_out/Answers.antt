@@ -80,6 +80,18 @@ returns-in-ListChosen-clause-carried g c = rw c.in-ListChosen.is (rw c.bytes-in-
 pub returns-in-Order-clause-carried : goal.returns-in-Order-clause-carried
 returns-in-Order-clause-carried g c = rw c.in-Order.is (rw c.bytes-in-Order.ensures at c.order_devices.ensures.orders, refl)
 
+pub returns-in-ListLabelled-clause-carried : goal.returns-in-ListLabelled-clause-carried
+returns-in-ListLabelled-clause-carried g c = rw c.in-ListLabelled.is (rw c.bytes-in-ListLabelled.ensures at (rw c.bytes-label-in-ListLabelled.ensures at c.list_labelled.ensures.lists), refl)
+
+pub returns-in-ListRuleDevices-clause-carried : goal.returns-in-ListRuleDevices-clause-carried
+returns-in-ListRuleDevices-clause-carried g c = rw c.in-ListRuleDevices.is (rw c.bytes-in-ListRuleDevices.ensures at c.list_rule_devices.ensures.lists, refl)
+
+pub returns-in-ChangeParameter-clause-carried : goal.returns-in-ChangeParameter-clause-carried
+returns-in-ChangeParameter-clause-carried g c = rw c.in-ChangeParameter.is (rw c.bytes-in-ChangeParameter.ensures at c.change_parameter.ensures.changes, refl)
+
+pub returns-in-WatchWaiting-clause-carried : goal.returns-in-WatchWaiting-clause-carried
+returns-in-WatchWaiting-clause-carried g c = rw c.in-WatchWaiting.is (rw c.bytes-in-WatchWaiting.ensures at c.watch_daemon-in-WatchWaiting.ensures.watches, refl)
+
 pub returns-in-Watch-clause-carried : goal.returns-in-Watch-clause-carried
 returns-in-Watch-clause-carried g c = rw c.in-Watch.is (rw c.bytes-in-Watch.ensures at c.watch_daemon.ensures.watches, refl)
 
@@ -190,3 +202,39 @@ returns-in-Watch-clause-written g c = c.watch_daemon.ensures.written
 
 pub returns-in-Watch-clause-link : goal.returns-in-Watch-clause-link
 returns-in-Watch-clause-link g c = rw c.in-Watch.is (λ e. let none : ⊥ = cc in absurd none)
+
+pub returns-in-ListLabelled-clause-read : goal.returns-in-ListLabelled-clause-read
+returns-in-ListLabelled-clause-read g c = λ four. absurd (c.list_labelled.ensures.not_read four)
+
+pub returns-in-ListLabelled-clause-written : goal.returns-in-ListLabelled-clause-written
+returns-in-ListLabelled-clause-written g c = c.list_labelled.ensures.written
+
+pub returns-in-ListLabelled-clause-link : goal.returns-in-ListLabelled-clause-link
+returns-in-ListLabelled-clause-link g c = rw c.in-ListLabelled.is (λ e. let none : ⊥ = cc in absurd none)
+
+pub returns-in-ListRuleDevices-clause-read : goal.returns-in-ListRuleDevices-clause-read
+returns-in-ListRuleDevices-clause-read g c = λ four. absurd (c.list_rule_devices.ensures.not_read four)
+
+pub returns-in-ListRuleDevices-clause-written : goal.returns-in-ListRuleDevices-clause-written
+returns-in-ListRuleDevices-clause-written g c = c.list_rule_devices.ensures.written
+
+pub returns-in-ListRuleDevices-clause-link : goal.returns-in-ListRuleDevices-clause-link
+returns-in-ListRuleDevices-clause-link g c = rw c.in-ListRuleDevices.is (λ e. let none : ⊥ = cc in absurd none)
+
+pub returns-in-ChangeParameter-clause-read : goal.returns-in-ChangeParameter-clause-read
+returns-in-ChangeParameter-clause-read g c = λ four. absurd (c.change_parameter.ensures.not_read four)
+
+pub returns-in-ChangeParameter-clause-written : goal.returns-in-ChangeParameter-clause-written
+returns-in-ChangeParameter-clause-written g c = c.change_parameter.ensures.written
+
+pub returns-in-ChangeParameter-clause-link : goal.returns-in-ChangeParameter-clause-link
+returns-in-ChangeParameter-clause-link g c = rw c.in-ChangeParameter.is (λ e. let none : ⊥ = cc in absurd none)
+
+pub returns-in-WatchWaiting-clause-read : goal.returns-in-WatchWaiting-clause-read
+returns-in-WatchWaiting-clause-read g c = λ four. absurd (c.watch_daemon-in-WatchWaiting.ensures.not_read four)
+
+pub returns-in-WatchWaiting-clause-written : goal.returns-in-WatchWaiting-clause-written
+returns-in-WatchWaiting-clause-written g c = c.watch_daemon-in-WatchWaiting.ensures.written
+
+pub returns-in-WatchWaiting-clause-link : goal.returns-in-WatchWaiting-clause-link
+returns-in-WatchWaiting-clause-link g c = rw c.in-WatchWaiting.is (λ e. let none : ⊥ = cc in absurd none)
