@@ -102,16 +102,18 @@ _usbguard_options() {
         ;;
     lint-rules) [[ $1 != -* ]] || _usbguard_words "$1" --prune ;;
     replay) [[ $1 != -* ]] || _usbguard_words "$1" --summary ;;
-    watch) [[ $1 != -* ]] || _usbguard_words "$1" --most --socket -n ;;
+    watch) [[ $1 != -* ]] || _usbguard_words "$1" --most --once --socket --wait -n -o -w ;;
     get-parameter | set-parameter)
-        if [[ $1 == -* ]]; then
+        if [[ $1 == -* && $3 == set-parameter ]]; then
+            _usbguard_words "$1" --socket --verbose -v
+        elif [[ $1 == -* ]]; then
             _usbguard_words "$1" --socket
         else
             _usbguard_parameter "$1" "$2" "$3"
         fi
         ;;
     list-devices) [[ $1 != -* ]] || _usbguard_words "$1" --allowed --blocked --socket -a -b ;;
-    list-rules) [[ $1 != -* ]] || _usbguard_words "$1" --socket ;;
+    list-rules) [[ $1 != -* ]] || _usbguard_words "$1" --label --show-devices --socket -d -l ;;
     esac
 }
 

@@ -74,9 +74,11 @@ _usbguard_options() {
         append-rule) compadd -- --after --socket --temporary -a -t ;;
         lint-rules) compadd -- --prune ;;
         replay) compadd -- --summary ;;
-        watch) compadd -- --most --socket -n ;;
+        watch) compadd -- --most --once --socket --wait -n -o -w ;;
+        list-rules) compadd -- --label --show-devices --socket -d -l ;;
+        set-parameter) compadd -- --socket --verbose -v ;;
         list-devices) compadd -- --allowed --blocked --socket -a -b ;;
-        get-parameter|list-rules|remove-rule|set-parameter) compadd -- --socket ;;
+        get-parameter|remove-rule) compadd -- --socket ;;
     esac
 }
 

@@ -97,6 +97,11 @@ pub fn input_path(rt: &HostRuntime) -> Option<String> {
     if !fs::metadata(rt, ITS_LINK).ok()?.is_file() {
         return None;
     }
+    input_link(rt)
+}
+
+/// What the link says that tells what standard input is.
+pub fn input_link(rt: &HostRuntime) -> Option<String> {
     let path = fs::read_link(rt, ITS_LINK).ok()?;
     String::from_str(rt.alloc(), path.to_str()?).ok()
 }

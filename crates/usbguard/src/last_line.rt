@@ -11,6 +11,8 @@ pub struct LastLine<W> {
     writer: W,
     line: Vec<u8>,
     ended: bool,
+    /// How many lines have ended.
+    count: u64,
 }
 
 impl<W: Write> LastLine<W> {
@@ -19,7 +21,17 @@ impl<W: Write> LastLine<W> {
             writer,
             line: Vec::new(alloc),
             ended: false,
+            count: 0,
         }
+    }
+
+    /// How many lines have ended since they were counted anew.
+    pub fn count(&self) -> u64 {
+        self.count
+    }
+
+    pub fn count_anew(&mut self) {
+        self.count = 0;
     }
 
     /// What stands before its newline.
@@ -35,6 +47,7 @@ impl<W: Write> LastLine<W> {
             }
             if *byte == b'\n' {
                 self.ended = true;
+                self.count = self.count.saturating_add(1);
             } else if self.line.len() < MOST {
                 let _kept = self.line.push(*byte).is_ok();
             }

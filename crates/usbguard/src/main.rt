@@ -3,6 +3,7 @@
 
 mod about;
 mod bad_words;
+mod earlier;
 mod folder;
 mod hub_parameter;
 mod hubs_watch;
@@ -22,10 +23,12 @@ mod texts;
 mod told;
 mod unkept;
 mod usage;
+mod waited;
 mod waiting;
 mod words;
 
 use crate::about::tell_about;
+use crate::earlier::tell_earlier_rules;
 use crate::input::{KeptInput, LAST_LINES, WHOLE};
 use crate::last_line::LastLine;
 use crate::link_words::tell_link;
@@ -35,8 +38,9 @@ use crate::socket_choice::{choose_socket, words_with};
 use crate::texts::{TextsFault, read_texts, words_of};
 use crate::unkept::tell_unkept;
 use crate::usage::{tell, tell_unreadable};
+use crate::waited::{Waited, waited_for};
 use crate::waiting::tell_waiting;
-use std::io::{self, Read};
+use std::io::{self, Read, Write};
 use std::process::ExitCode;
 use ug_host::fill_standard_files;
 use ug_sockets::SocketLink;
@@ -69,6 +73,9 @@ fn ask<R: Read + Drop, K: Sink>(rt: HostRuntime, words: &[&str], input: R, out: 
     let status = run_tool(rt.alloc(), words, &mut input, out, &mut link);
     if status == 8 {
         tell_link(&rt, &link);
+    }
+    if status == 0 {
+        tell_earlier_rules(rt, words);
     }
     drop(link);
     drop(input);
@@ -118,6 +125,43 @@ fn run_over<R: Read + Drop, K: Sink>(rt: HostRuntime, words: &[&str], input: R, 
     }
 }
 
+// Runs a watch over and over, each time that a daemon listens.
+fn run_waiting<R: Read + Drop, W: Write>(
+    rt: HostRuntime,
+    words: &[&str],
+    waited: &Waited,
+    input: &mut KeptInput<R>,
+    lines: &mut LastLine<W>,
+) -> u8 {
+    let mut status = 0;
+    for _ in 0..u64::MAX {
+        waited.wait(rt, words);
+        lines.count_anew();
+        status = run_over(rt, words, &mut *input, &mut WriterSink::new(&mut *lines));
+        if waited.is_over(status, lines.count()) {
+            break;
+        }
+    }
+    status
+}
+
+// Runs a command, once or as often as its words wait for.
+fn run_lines<R: Read + Drop, W: Write>(
+    rt: HostRuntime,
+    words: &[&str],
+    input: &mut KeptInput<R>,
+    lines: &mut LastLine<W>,
+) -> u8 {
+    match waited_for(&rt, words) {
+        Some(waited) => {
+            let status = run_waiting(rt, words, &waited, input, lines);
+            drop(waited);
+            status
+        }
+        None => run_over(rt, words, input, &mut WriterSink::new(lines)),
+    }
+}
+
 // How much of its input is kept to show a line of it.
 fn kept_of(words: &[&str]) -> usize {
     match words {
@@ -131,7 +175,7 @@ fn run_and_tell(rt: HostRuntime, words: &[&str]) -> u8 {
     tell_waiting(&rt, words);
     let mut lines = LastLine::new(rt.alloc(), io::writer(&rt));
     let mut input = KeptInput::new(rt.alloc(), rt.reader(), kept_of(words));
-    let status = run_over(rt, words, &mut input, &mut WriterSink::new(&mut lines));
+    let status = run_lines(rt, words, &mut input, &mut lines);
     tell_last_line(&rt, words, lines.text(), &input);
     drop(input);
     drop(lines);

@@ -156,6 +156,21 @@ fn own_socket(rt: &HostRuntime) -> Option<String> {
     path
 }
 
+// Whether the command asks the daemon.
+fn asks_daemon(command: &Command) -> bool {
+    matches!(
+        command,
+        Command::Ask { .. }
+            | Command::ListChosen { .. }
+            | Command::ListLabelled { .. }
+            | Command::ListRuleDevices { .. }
+            | Command::ChangeParameter { .. }
+            | Command::Order { .. }
+            | Command::Watch { .. }
+            | Command::WatchWaiting { .. }
+    )
+}
+
 // Whether these words ask the daemon, and name no socket.
 fn lack_socket(rt: &HostRuntime, words: &[&str]) -> bool {
     for word in words {
@@ -165,7 +180,7 @@ fn lack_socket(rt: &HostRuntime, words: &[&str]) -> bool {
     }
     match read_command(rt.alloc(), words) {
         Ok(command) => {
-            let asks = matches!(command, Command::Ask { .. } | Command::Watch { .. });
+            let asks = asks_daemon(&command);
             command.discard();
             asks
         }

@@ -23,8 +23,8 @@ const AN_INPUT: &str =
 const A_SCRIPT: &str =
     "It reads standard input, and takes no other word: write < before the name of a file, or usbguard-script | before usbguard.";
 
-const A_SOCKET: &str =
-    "PATH is the socket at which the daemon listens. Without it USBGUARD_SOCKET names that, or it is yours or a group's of yours, or else /run/usbguard/root.socket.";
+const A_RULE_LIST: &str =
+    "With -l the rules are listed that have this label, and with -d, behind each, the devices that it applies to. PATH is the socket at which the daemon listens. Without it USBGUARD_SOCKET names that, or it is yours or a group's of yours, or else /run/usbguard/root.socket.";
 
 const USAGES: [Usage; 18] = [
     Usage {
@@ -79,8 +79,8 @@ const USAGES: [Usage; 18] = [
     },
     Usage {
         word: "list-rules",
-        line: "usbguard list-rules [--socket PATH]",
-        hint: A_SOCKET,
+        line: "usbguard list-rules [-l LABEL] [-d] [--socket PATH]",
+        hint: A_RULE_LIST,
     },
     Usage {
         word: "make-script",
@@ -109,13 +109,13 @@ const USAGES: [Usage; 18] = [
     },
     Usage {
         word: "set-parameter",
-        line: "usbguard set-parameter NAME VALUE [--socket PATH]",
-        hint: "NAME is a setting's: ImplicitPolicyTarget or InsertedDevicePolicy. VALUE is one word, as block.",
+        line: "usbguard set-parameter NAME VALUE [-v] [--socket PATH]",
+        hint: "NAME is a setting's: ImplicitPolicyTarget or InsertedDevicePolicy. VALUE is one word, as block. With -v the value that was and the one that is are printed.",
     },
     Usage {
         word: "watch",
-        line: "usbguard watch [-n MOST] [--socket PATH]",
-        hint: "MOST is from 1 to 1000000: so many notices are printed at most.",
+        line: "usbguard watch [-n MOST] [-w] [-o] [--socket PATH]",
+        hint: "MOST is from 1 to 1000000: so many notices are printed at most. With -w it waits until a daemon listens, each time that none does; with -o too it ends when the connection does.",
     },
 ];
 
@@ -218,8 +218,27 @@ fn tell_wrong(rt: &HostRuntime, words: &[&str], usage: &Usage) {
     tell_usage(usage);
 }
 
+// Whether these words would have each notice start a program.
+fn start_program(words: &[&str]) -> bool {
+    let ["watch", behind @ ..] = words else {
+        return false;
+    };
+    for word in behind {
+        if word.starts_with("-e") || word.starts_with("--exec") {
+            return true;
+        }
+    }
+    false
+}
+
 // What is wrong with words that are no command.
 fn tell_words(rt: &HostRuntime, words: &[&str]) {
+    if start_program(words) {
+        eprintln!(ERROR;
+            "usbguard: watch starts no program: a loop of the shell does, as: usbguard watch -w | while read -r line; do PROGRAM \"$line\"; done"
+        );
+        return;
+    }
     match words.first().copied().and_then(usage_of) {
         Some(usage) => tell_wrong(rt, words, usage),
         None => tell_unknown(words),

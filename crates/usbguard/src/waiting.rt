@@ -1,4 +1,5 @@
 // What the program tells a person who is to type its input.
+use crate::input::input_link;
 use std::io::IsTerminal;
 use ug_arguments::{Command, read_command};
 use ug_files::{Priority, Teller};
@@ -32,8 +33,12 @@ fn input_of(command: &Command) -> Option<(&'static str, &'static str)> {
         Command::MakeScript { .. }
         | Command::Ask { .. }
         | Command::ListChosen { .. }
+        | Command::ListLabelled { .. }
+        | Command::ListRuleDevices { .. }
+        | Command::ChangeParameter { .. }
         | Command::Order { .. }
-        | Command::Watch { .. } => None,
+        | Command::Watch { .. }
+        | Command::WatchWaiting { .. } => None,
     }
 }
 
@@ -49,10 +54,33 @@ fn input_for(rt: &HostRuntime, words: &[&str]) -> Option<(&'static str, &'static
     }
 }
 
-/// Tells on standard error what a command waits for, where its standard input is a terminal.
+// Tells that a policy is made of nothing, where nothing is what its input has.
+fn tell_nothing(rt: &HostRuntime, words: &[&str]) {
+    if !matches!(words, ["generate-policy"]) || !is_nothing(rt) {
+        return;
+    }
+    eprintln!(NOTICE;
+        "usbguard: standard input is /dev/null, which has no script. The usual way is: usbguard-script | usbguard generate-policy"
+    );
+}
+
+// Whether standard input is /dev/null.
+fn is_nothing(rt: &HostRuntime) -> bool {
+    match input_link(rt) {
+        Some(path) => {
+            let is_nothing = path.as_str() == "/dev/null";
+            drop(path);
+            is_nothing
+        }
+        None => false,
+    }
+}
+
+/// Tells on standard error what a command waits for, where its standard input is a terminal, and what it lacks where that is
+/// /dev/null.
 pub fn tell_waiting(rt: &HostRuntime, words: &[&str]) {
     if !rt.stdin().is_terminal() {
-        return;
+        return tell_nothing(rt, words);
     }
     if let Some((input, usual)) = input_for(rt, words) {
         eprintln!(NOTICE;
