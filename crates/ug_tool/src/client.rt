@@ -79,7 +79,7 @@ pub fn list_labelled<L: Link, K: Sink>(
     alloc: Global,
     link: &mut L,
     path: &[u8],
-    label: &[u8],
+    label: &Text,
     out: &mut K,
 ) -> u8
     ensures lists { LabelsAndEnds path.now label.now (L.told link.old) (L.told link.new)
@@ -89,7 +89,7 @@ pub fn list_labelled<L: Link, K: Sink>(
     ensures not_read { result ≢ 4 }
     ensures written { result ≡ 5 → Rose (K.faults out.old) (K.faults out.new) }
 {
-    let asked = ask_labelled(alloc, link, path, label, out);
+    let asked = ask_labelled(alloc, link, path, label.bytes(), out);
     end(out, asked)
 }
 

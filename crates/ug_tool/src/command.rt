@@ -95,7 +95,7 @@ pub fn carry_out<S: Source, K: Sink, L: Link>(
             list_chosen(alloc, link, socket.bytes(), choice, out)
         }
         Command::ListLabelled { socket, label } => {
-            list_labelled(alloc, link, socket.bytes(), label.bytes(), out)
+            list_labelled(alloc, link, socket.bytes(), label, out)
         }
         Command::ListRuleDevices { socket, label } => {
             list_rule_devices(alloc, link, socket.bytes(), label, out)

@@ -81,7 +81,7 @@ pub returns-in-Order-clause-carried : goal.returns-in-Order-clause-carried
 returns-in-Order-clause-carried g c = rw c.in-Order.is (rw c.bytes-in-Order.ensures at c.order_devices.ensures.orders, refl)
 
 pub returns-in-ListLabelled-clause-carried : goal.returns-in-ListLabelled-clause-carried
-returns-in-ListLabelled-clause-carried g c = rw c.in-ListLabelled.is (rw c.bytes-in-ListLabelled.ensures at (rw c.bytes-label-in-ListLabelled.ensures at c.list_labelled.ensures.lists), refl)
+returns-in-ListLabelled-clause-carried g c = rw c.in-ListLabelled.is (rw c.bytes-in-ListLabelled.ensures at c.list_labelled.ensures.lists, refl)
 
 pub returns-in-ListRuleDevices-clause-carried : goal.returns-in-ListRuleDevices-clause-carried
 returns-in-ListRuleDevices-clause-carried g c = rw c.in-ListRuleDevices.is (rw c.bytes-in-ListRuleDevices.ensures at c.list_rule_devices.ensures.lists, refl)
