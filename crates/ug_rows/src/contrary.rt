@@ -36,7 +36,7 @@ fn bearing_of(
     ensures contrary { IfOk result (λ bearing. bearing.is_contrary
         ≡ contrary.is_contrary target device.now (Some rule.now)) }
     ensures last { IfOk result (λ bearing. bearing.is_last
-        ≡ contrary.is_last_to_decide device.now (Some rule.now)) }
+        ≡ rows.is_last_to_decide device.now (Some rule.now)) }
 {
     let matched = matches_row(alloc, &rule.query, device)?;
     let is_same = is_same_target(rule.target, target);
@@ -56,7 +56,7 @@ fn read_bearing(
     ensures contrary { IfOk result (λ bearing. bearing.is_contrary
         ≡ contrary.is_contrary target device.now (rows.rule_in_row row.now)) }
     ensures last { IfOk result (λ bearing. bearing.is_last
-        ≡ contrary.is_last_to_decide device.now (rows.rule_in_row row.now)) }
+        ≡ rows.is_last_to_decide device.now (rows.rule_in_row row.now)) }
 {
     match rule_of(alloc, row)? {
         Some(rule) => {

@@ -19,7 +19,7 @@ pub enum Wrong<'a> {
 // its value.
 fn sample_of(word: &str) -> Option<&'static str> {
     match word {
-        "NUMBER" | "ID" | "EVENTS" | "START" => Some("1"),
+        "NUMBER|QUERY" | "ID" | "EVENTS" | "START" => Some("1"),
         "NAME" | "VALUE" => Some("a"),
         "RULE" => Some("allow"),
         _ => None,
