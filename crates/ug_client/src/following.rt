@@ -1,5 +1,5 @@
 // Requests that follow others.
-ghost use Rattle.std.specs.Prelude.{◌≡◌, ◌≤◌, ◌++◌, IfOk, List, ℕ};
+ghost use Rattle.std.specs.Prelude.{◌≡◌, ◌≤◌, IfOk, List, ℕ};
 ghost use Rattle.ug_proto.specs.Replies.{ended_lines};
 ghost use Rattle.ug_proto.specs.declared.request.Request.TheVariants as request;
 ghost use Rattle.ug_rows.specs.Contrary.{contrary_lines};
