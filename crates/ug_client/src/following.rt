@@ -74,7 +74,7 @@ fn print_both(
     first: &[Text],
     second: &[Text],
 ) -> Result<Vec<u8>, NoMemory>
-    ensures { IfOk result (λ text. text.items ≡ following.both_text told first.now second.now) }
+    ensures { IfOk result (λ text. text.items ≡ following.both_text told.entry first.now second.now) }
 {
     match told {
         Told::Devices(label) => print_with_devices(alloc, label, first, second),
@@ -90,7 +90,7 @@ fn print_told(
     reply: &Reply,
 ) -> Result<Vec<u8>, NoMemory>
     ensures { IfOk result (λ text. text.items
-        ≡ following.by_lines (following.both_text told) first.now reply.now) }
+        ≡ following.by_lines (following.both_text told.entry) first.now reply.now) }
 {
     match reply {
         Reply::Lines(second) => print_both(alloc, told, first, second.as_slice()),
@@ -106,7 +106,7 @@ fn write_told<K: Sink>(
     reply: &Reply,
 ) -> Asked
     ensures written { WritesText (K.held out.old) (K.held out.new) reply.now
-        (following.by_lines (following.both_text told) first.now reply.now) result }
+        (following.by_lines (following.both_text told.entry) first.now reply.now) result }
     ensures counted { K.faults out.old ≤ K.faults out.new }
     ensures cause { result ≡ Asked.WriteFault → Rose (K.faults out.old) (K.faults out.new) }
 {
@@ -125,7 +125,7 @@ fn ask_second<L: Link, K: Sink>(
     first: &[Text],
     out: &mut K,
 ) -> Asked
-    ensures asks { AsksShowing (following.by_lines (following.both_text told) first.now) path.now
+    ensures asks { AsksShowing (following.by_lines (following.both_text told.entry) first.now) path.now
         (request_line request.now) (L.told link.old) (L.told link.new)
         (L.sent link.old) (L.sent link.new)
         (L.left link.old) (L.left link.new) (K.held out.old) (K.held out.new) result }
@@ -152,7 +152,7 @@ fn ask_behind<L: Link, K: Sink>(
     reply: &Reply,
     out: &mut K,
 ) -> Asked
-    ensures asks { AsksBehind (following.by_lines (following.both_text told)) path.now
+    ensures asks { AsksBehind (following.by_lines (following.both_text told.entry)) path.now
         (request_line request.now) (fetched.Replied reply.now)
         (record {
           calls = L.told link.old;
@@ -189,7 +189,7 @@ pub fn ask_twice<L: Link, K: Sink>(
     told: Told<'_>,
     out: &mut K,
 ) -> Asked
-    ensures asks { AsksTwice (following.by_lines (following.both_text told)) path.now
+    ensures asks { AsksTwice (following.by_lines (following.both_text told.entry)) path.now
         (request_line first.now) (request_line second.now)
         (record {
           calls = L.told link.old;
