@@ -74,7 +74,8 @@ fn print_both(
     first: &[Text],
     second: &[Text],
 ) -> Result<Vec<u8>, NoMemory>
-    ensures { IfOk result (λ text. text.items ≡ following.both_text told.entry first.now second.now) }
+    ensures { IfOk result (λ text. text.items
+        ≡ following.both_text told.entry first.now second.now) }
 {
     match told {
         Told::Devices(label) => print_with_devices(alloc, label, first, second),
@@ -125,8 +126,8 @@ fn ask_second<L: Link, K: Sink>(
     first: &[Text],
     out: &mut K,
 ) -> Asked
-    ensures asks { AsksShowing (following.by_lines (following.both_text told.entry) first.now) path.now
-        (request_line request.now) (L.told link.old) (L.told link.new)
+    ensures asks { AsksShowing (following.by_lines (following.both_text told.entry) first.now)
+        path.now (request_line request.now) (L.told link.old) (L.told link.new)
         (L.sent link.old) (L.sent link.new)
         (L.left link.old) (L.left link.new) (K.held out.old) (K.held out.new) result }
     ensures link { result ≡ Asked.LinkFailed → Rose (L.faults link.old) (L.faults link.new) }
