@@ -42,7 +42,8 @@ use Rattle.ug_steps.specs.declared.step.Plan.{Plan}
 use Rattle.ug_steps.specs.declared.step.Plan.TheVariants as plan
 use Rattle.ug_steps.specs.declared.step.Step.{Step}
 use Rattle.ug_steps.specs.declared.step.Step.TheVariants as step
-use Rattle.ug_script.specs.Births.{AreMovesOf, Becomes, BecomesBy, Born, Change, Facts, Idle, StaysBorn, Unplugged, Wrote, birth_in, effect_in, facts_given, facts_of, move_in, scheduled_action}
+use Rattle.ug_script.specs.Births.{AreMovesOf, Becomes, BecomesBy, Born, Change, Facts, Idle, StaysBorn, Unplugged, Wrote, birth_in, effect_in, facts_given, facts_of, move_in}
+use Rattle.ug_sysfs.specs.AtCalls.{scheduled_action}
 use Rattle.ug_steps.specs.Grammar.{step_of_line}
 use Rattle.ug_sysfs.specs.Serving.{bus_in, iface_answer_from, iface_answer_of, iface_answer_unless, iface_effect, with_bus}
 use Rattle.ug_sysfs.specs.World.{failure_counted}
@@ -56,7 +57,7 @@ use Rattle.ug_iface.specs.Tree.{IfaceProg, Return as Gives, Make, Room as IfaceR
 use Rattle.ug_script.specs.Passes.{aims_in, device_pass, pass_behind, pass_over, play_ifaces, walk_from}
 use Rattle.ug_script.proofs.PassBehind.{effect_kernel}
 use Rattle.ug_script.specs.Replay.{Played, order_played_by, answered_from, begun_disk, came_of, event_from, finished, halted, header, in_script, line_added, planned, quiet, restarted, script_step, stop_in, stopped_of, taken, taken_if, tried_by}
-use Rattle.ug_script.specs.Schedules.{IsSchedule}
+use Rattle.ug_sysfs.specs.Queue.{IsSchedule}
 use Rattle.ug_script.specs.Script.{Script, can_start, daemon_in, disk_in, fresh, takes_setup}
 use Rattle.ug_script.specs.Setup.{SetupState, one_line_more, rules_from, steps_of}
 use Rattle.ug_script.proofs.Halts.{halted_kernel, halted_moves}

@@ -312,6 +312,10 @@ stays_lawful first run sound lines n text s w e =
       numbers = λ f. fits_numbers n (daemon_in s) w (disk_in s) h.few (stand_few first n s w h f) (h.fits f);
     }
 
+-- the kernel doesn't run out
+pub stays_told : (w : World) → w.ran_out ≡ false → IsKernel w.kernel → (lines : List (List ℕ)) (n : ℕ) (text : List ℕ) (s : Script) (v : World) → plays script_step (Going 0 [] (None, w)) lines ≡ Going n text (Some s, v) → v.ran_out ≡ false
+stays_told first run sound lines n text s w e = (kept_all first run sound lines n text s w e).holds.told
+
 -- the rules of the setup are those of the `rule` lines; and before a daemon was started there is no run
 pub rules_given : (w : World) → w.ran_out ≡ false → IsKernel w.kernel → (lines : List (List ℕ)) (n : ℕ) (text : List ℕ) (s : Script) (v : World) → plays script_step (Going 0 [] (None, w)) lines ≡ Going n text (Some s, v) → s.setup.rules ≡ flat_map setup_rule (steps_of lines)
 rules_given first run sound lines n text s w e = (kept_all first run sound lines n text s w e).given.rules

@@ -34,6 +34,7 @@ mod Summed
 pub mod Turns
 pub mod Schedules
 pub mod MoveLines
+pub mod EventCalls
 pub mod Births
 pub mod Against
 pub mod Roomless

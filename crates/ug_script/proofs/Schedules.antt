@@ -19,7 +19,8 @@ use Rattle.ug_steps.specs.declared.step.Step.TheVariants.{Event, Move, Restart, 
 use Rattle.ug_steps.specs.Grammar.{step_of_line}
 use Rattle.ug_script.specs.Passes.{pass_behind}
 use Rattle.ug_script.specs.Replay.{Played, begun_again, begun_disk, came_of, event_from, finished, header, in_script, left_played, line_added, planned, quiet, restarted, script_step, stop_in, stopped_of, taken, taken_if, with_plan, with_played}
-use Rattle.ug_script.specs.Schedules.{IsSchedule, StaysScheduled, behind_event, disk_asked, fail_asked, move_asked, since_event}
+use Rattle.ug_sysfs.specs.Queue.{IsSchedule}
+use Rattle.ug_script.specs.Schedules.{StaysScheduled, behind_event, disk_asked, fail_asked, move_asked, since_event}
 use Rattle.ug_script.specs.Script.{Phase, Script, SettingUp, Started, Unstarted, can_start, closed_phase, daemon_in, disk_in, fresh, has_started, takes_setup, with_setup_closed}
 use Rattle.ug_script.specs.Setup.{SetupState, one_line_more, rules_from, steps_of}
 use Rattle.ug_script.proofs.Setups.{flat_more, flat_none}

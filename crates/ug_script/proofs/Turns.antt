@@ -6,9 +6,8 @@ use Rattle.std.proofs.lemmas.List.{take-append-drop, take_all}
 use Rattle.std.proofs.lemmas.List.Elements.{filter-append}
 use Rattle.std.proofs.Math.Seq.{drop-length, take-length}
 use Rattle.ug_sysfs.specs.declared.script.Scheduled.{Scheduled}
-use Rattle.ug_sysfs.specs.Queue.{comes_later, goes_last, isnt_later, or_end, queue_place, turn_of, with_move}
+use Rattle.ug_sysfs.specs.Queue.{AreInTurn, IsSchedule, comes_later, goes_last, isnt_later, of_turn, or_end, queue_place, turn_of, with_move}
 use Rattle.ug_sysfs.proofs.Points.{later, not_later}
-use Rattle.ug_script.specs.Schedules.{AreInTurn, IsSchedule, of_turn}
 
 abbrev AreLow : Scheduled → List Scheduled → Type 0
 AreLow m ms = AllByRecursion (λ x. turn_of x ≤ turn_of m) ms

@@ -10,20 +10,18 @@ use Rattle.ug_sysfs.specs.declared.script.NewDevice.{NewDevice}
 use Rattle.ug_sysfs.specs.declared.script.Scheduled.{Scheduled}
 use Rattle.ug_sysfs.specs.Below.{IsFelled}
 use Rattle.ug_sysfs.specs.Birth.{CanBeBorn, IsBorn}
+use Rattle.ug_sysfs.specs.AtCalls.{scheduled_action}
+use Rattle.ug_sysfs.specs.Queue.{IsSchedule}
 use Rattle.ug_sysfs.specs.World.{World}
 use Rattle.ug_command_io.specs.Fold.{Going, plays}
 use Rattle.ug_steps.specs.declared.step.Plan.TheVariants as plan
 use Rattle.ug_steps.specs.declared.step.Step.{Step}
 use Rattle.ug_steps.specs.declared.step.Step.TheVariants as step
 use Rattle.ug_script.specs.Replay.{script_step}
-use Rattle.ug_script.specs.Schedules.{IsSchedule}
 use Rattle.ug_script.specs.Script.{Script}
 use Rattle.ug_script.specs.Setup.{steps_of}
 
 -- ---- the moves of lines
-
-abbrev pub scheduled_action : Scheduled → Move
-scheduled_action m = m.action
 
 -- The moves of lines in the order in which they come, where these were written for the next event.
 -- That of a line of its own comes at once; those that were written since the event

@@ -20,3 +20,4 @@ pub mod Roomless
 pub mod PassLines
 pub mod Passes
 pub mod Play
+pub mod EventCalls

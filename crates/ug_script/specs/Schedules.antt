@@ -1,21 +1,13 @@
 -- What lines schedule for the next event, and what is in store for it.
-use Rattle.std.specs.Prelude.{◌≡◌, ℕ, ◌≤◌, true, false, nat_eq, List, [], ◌∷◌, ◌++◌, flat_map, set, Option, Some, None}
-use Rattle.std.specs.List.{AllByRecursion, filter, fold}
-use Rattle.ug_kernel.specs.declared.device.Device.{Device}
-use Rattle.ug_kernel.specs.Kernel.{Live}
+use Rattle.std.specs.Prelude.{◌≡◌, ℕ, false, List, [], ◌∷◌, ◌++◌, flat_map, Option, Some, None}
+use Rattle.std.specs.List.{fold}
 use Rattle.ug_store.specs.declared.mishap.Planned.{Planned}
 use Rattle.ug_sysfs.specs.declared.script.Failing.{Failing}
-use Rattle.ug_iface.specs.declared.interface.Interface.{Interface}
-use Rattle.ug_iface.specs.Bus.{Bus, IsCalled, LiveIface}
-use Rattle.ug_sysfs.specs.declared.script.IfaceMove.TheVariants.{Add, Remove}
 use Rattle.ug_sysfs.specs.declared.script.Move.{Move}
 use Rattle.ug_sysfs.specs.declared.script.Move.TheVariants as move
 use Rattle.ug_sysfs.specs.declared.script.Scheduled.{Scheduled}
-use Rattle.ug_sysfs.specs.Below.{IsFelled}
-use Rattle.ug_sysfs.specs.Birth.{CanBeBorn, IsBorn}
-use Rattle.ug_sysfs.specs.IfaceBirth.{CanBeAdded, IsntThere}
-use Rattle.ug_sysfs.specs.Interfaces.{iface_of}
-use Rattle.ug_sysfs.specs.Queue.{turn_of}
+use Rattle.ug_sysfs.specs.Doing.{Does}
+use Rattle.ug_sysfs.specs.Queue.{IsSchedule}
 use Rattle.ug_sysfs.specs.World.{World, carried}
 use Rattle.ug_command_io.specs.Fold.{Going, Writes, plays}
 use Rattle.ug_steps.specs.declared.step.Plan.TheVariants as plan
@@ -47,45 +39,7 @@ behind_event so_far other = so_far ++ other ∷ []
 abbrev pub since_event : List (Option Step) → List (Option Step)
 since_event steps = fold behind_event [] steps
 
--- ---- moves
-
--- none stands before one that has its turn earlier
-abbrev pub AreInTurn : List Scheduled → Type 0
-AreInTurn [] = Unit {0}
-AreInTurn (m ∷ ms) = AllByRecursion (λ later. turn_of m ≤ turn_of later) ms × AreInTurn ms
-
-abbrev pub of_turn : ℕ → List Scheduled → List Scheduled
-of_turn n ms = filter (λ m. nat_eq (turn_of m) n) ms
-
--- the moves that lines wrote, in their turn, and those of one turn in the order of the lines
-pub record IsSchedule (written ms : List Scheduled) : Type 0 where
-  pub in_turn : AreInTurn ms
-  pub each : (n : ℕ) → of_turn n ms ≡ of_turn n written
-
 -- ---- moves that come at once
-
--- A device is born as the newest, with the facts of the line, wherever it can be. A live device of
--- the name goes with those below it. Else nothing changes. A move of an interface changes none.
-abbrev pub Does : Move → List Device → List Device → Type 0
-Does (move.Plug device) ds es =
-    (CanBeBorn device ds → IsBorn device ds es) × (¬ CanBeBorn device ds → es ≡ ds)
-Does (move.Unplug name) ds es =
-    ((i : ℕ) (d : Device) → Live ds i d → d.name ≡ name → IsFelled i ds es)
-    × (((i : ℕ) (d : Device) → Live ds i d → d.name ≡ name → ⊥) → es ≡ ds)
-Does (move.Iface change) ds es = es ≡ ds
-
--- An interface is added to the live device of its name wherever it can be. A live interface of the
--- name goes. Else nothing changes. A move of a device leaves the interfaces as they are.
-abbrev pub DoesIfaces : Move → Bus → List Interface → Type 0
-DoesIfaces (move.Plug device) b xs = xs ≡ b.interfaces
-DoesIfaces (move.Unplug name) b xs = xs ≡ b.interfaces
-DoesIfaces (move.Iface (Add new)) b xs =
-    ((i : ℕ) → CanBeAdded new b i → xs ≡ b.interfaces ++ iface_of i new ∷ [])
-    × (((i : ℕ) → ¬ CanBeAdded new b i) → xs ≡ b.interfaces)
-DoesIfaces (move.Iface (Remove name)) b xs =
-    ((j : ℕ) (x : Interface) (l : LiveIface b j x) → IsCalled name l.d x
-    → xs ≡ set b.interfaces j (record x { gone = true }))
-    × (IsntThere name b → xs ≡ b.interfaces)
 
 -- nothing changes but the devices, or but the interfaces
 abbrev pub LeavesElse : Move → World → World → Type 0

@@ -15,6 +15,7 @@ ghost use Rattle.ug_audit.specs.declared.entry.Entry.TheVariants as entry;
 ghost use Rattle.ug_audit.specs.declared.entry.Fault.TheVariants as fault;
 ghost use Rattle.ug_script.specs.Against.{AreRefused};
 ghost use Rattle.ug_script.specs.CarriedOn.{StaysCarried};
+ghost use Rattle.ug_script.specs.EventCalls.{StaysAtCalls};
 ghost use Rattle.ug_script.specs.Example.{first_played, event_at, event_with, plugged_in, replaced, failing, first_with_none, born_later, tenth_fails};
 ghost use Rattle.ug_sysfs.specs.declared.script.Move.{Move};
 ghost use Rattle.ug_steps.specs.declared.step.Step.TheVariants as step;
@@ -23,7 +24,8 @@ ghost use Rattle.ug_steps.specs.LineExamples.{fails};
 ghost use Rattle.ug_script.specs.Births.{StaysBorn};
 ghost use Rattle.ug_script.specs.Journal.{StaysRecorded};
 ghost use Rattle.ug_script.specs.Laws.{StaysLawful};
-ghost use Rattle.ug_script.specs.Schedules.{DoesAtOnce, DoesIfaces, StaysScheduled};
+ghost use Rattle.ug_sysfs.specs.Doing.{DoesIfaces};
+ghost use Rattle.ug_script.specs.Schedules.{DoesAtOnce, StaysScheduled};
 ghost use Rattle.ug_script.specs.Script.{Script};
 ghost use Rattle.ug_audit.specs.declared.entry.Entry.{Entry};
 ghost use Rattle.ug_table.specs.State.{State};
@@ -44,6 +46,12 @@ pub fn moves_law()
 /// order. As long as no daemon was started nothing was written, so that `input too long` stands alone.
 pub fn schedule_law()
     ensures { (w : World) → w.moves ≡ [] → w.fails ≡ [] → StaysScheduled w }
+{}
+
+/// Wherever lines have led, the moves that they wrote for an event that comes next happen at just the calls that they name.
+pub fn calls_law()
+    ensures { (w : World) → w.ran_out ≡ false → w.moves ≡ [] → w.fails ≡ []
+        → IsSoundBus (bus_in w) → StaysAtCalls w }
 {}
 
 /// Wherever lines have led, the kernel's devices are those that the moves of the lines bore, in the order in which these had their turn,

@@ -27,8 +27,8 @@ mod totals;
 pub use generator::generate_policy;
 pub use interpreter::Interpreter;
 pub use laws::{
-    birth_law, births_law, default_law, moves_law, play_law, quiet_law, refusal_law, schedule_law,
-    script_law, sweep_law, worked_law,
+    birth_law, births_law, calls_law, default_law, moves_law, play_law, quiet_law, refusal_law,
+    schedule_law, script_law, sweep_law, worked_law,
 };
 pub use runner::Runner;
 pub use summarizer::summarize;

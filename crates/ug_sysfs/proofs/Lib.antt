@@ -12,3 +12,4 @@ pub mod Lists
 pub mod Gets
 pub mod Giving
 pub mod IfaceGiving
+pub mod AtCalls

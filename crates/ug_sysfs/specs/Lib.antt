@@ -26,3 +26,5 @@ pub mod Living
 pub mod Counted
 pub mod LastWords
 pub mod Noted
+pub mod Doing
+pub mod AtCalls

@@ -1,6 +1,6 @@
 -- The order in which scheduled moves are to come.
-use Rattle.std.specs.Prelude.{ℕ, ◌+◌, ◌-◌, ◌*◌, Bool, true, not, cond, ◌&&◌, ◌||◌, nat_eq, nat_lt, if◌then◌else◌, List, length, insert, Option, Some, None}
-use Rattle.std.specs.List.{position, slice_get}
+use Rattle.std.specs.Prelude.{◌≡◌, ℕ, ◌+◌, ◌-◌, ◌*◌, ◌≤◌, Bool, true, not, cond, ◌&&◌, ◌||◌, nat_eq, nat_lt, if◌then◌else◌, List, [], ◌∷◌, length, insert, Option, Some, None}
+use Rattle.std.specs.List.{AllByRecursion, filter, position, slice_get}
 use Rattle.std.specs.List.Sorted.{IsNonDecreasingBy}
 use Rattle.ug_sysfs.specs.declared.script.Scheduled.{Scheduled}
 
@@ -40,3 +40,18 @@ queue_place m ms = if goes_last m ms then length ms else first_later m ms
 -- behind each that comes no later, in a list that is in order
 abbrev pub with_move : Scheduled → List Scheduled → List Scheduled
 with_move m ms = insert ms (queue_place m ms) m
+
+-- ---- the moves that lines write
+
+-- the same, by recursion
+abbrev pub AreInTurn : List Scheduled → Type 0
+AreInTurn [] = Unit {0}
+AreInTurn (m ∷ ms) = AllByRecursion (λ later. turn_of m ≤ turn_of later) ms × AreInTurn ms
+
+abbrev pub of_turn : ℕ → List Scheduled → List Scheduled
+of_turn n ms = filter (λ m. nat_eq (turn_of m) n) ms
+
+-- the moves that lines wrote, in their turn, and those of one turn in the order of the lines
+pub record IsSchedule (written ms : List Scheduled) : Type 0 where
+  pub in_turn : AreInTurn ms
+  pub each : (n : ℕ) → of_turn n ms ≡ of_turn n written

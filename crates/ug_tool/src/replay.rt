@@ -11,6 +11,7 @@ ghost use Rattle.ug_script.specs.Against.{RefusesScript};
 ghost use Rattle.ug_script.specs.Births.{StaysBorn};
 ghost use Rattle.ug_script.specs.Roomless.{TellsRoom};
 ghost use Rattle.ug_script.specs.CarriedOn.{CarriesThrough};
+ghost use Rattle.ug_script.specs.EventCalls.{StaysAtCalls};
 ghost use Rattle.ug_script.specs.Script.{Script};
 ghost use Rattle.ug_script.specs.Replay.{script_step, script_end};
 ghost use Rattle.ug_script.specs.Summing.{Summary, TellsSummary, no_totals, summary_end, summary_step};
@@ -176,6 +177,7 @@ pub fn run_replay<S: Source, K: Sink>(
     ensures laws { StaysLawful new_world }
     ensures recorded { StaysRecorded new_world }
     ensures births { StaysBorn new_world }
+    ensures calls { StaysAtCalls new_world }
     ensures why { (summary : Bool)
         → command_in (map (λ word. word.now) words.now) ≡ Some (replay_of summary)
         → (all : List ℕ) → S.left input.old ≡ Some all → result ≡ 2

@@ -2,6 +2,7 @@
 ghost use Rattle.std.specs.Prelude.{◌≡◌, ◌⊎◌, Some, None, map, false};
 ghost use Rattle.ug_types.specs.Ends.{Rose};
 ghost use Rattle.ug_script.specs.Births.{StaysBorn};
+ghost use Rattle.ug_script.specs.EventCalls.{StaysAtCalls};
 ghost use Rattle.ug_script.specs.Journal.{StaysRecorded};
 ghost use Rattle.ug_script.specs.Laws.{StaysLawful};
 ghost use Rattle.ug_arguments.specs.Commands.{command_in};
@@ -60,6 +61,7 @@ pub fn run_tool<S: Source, K: Sink, L: Link>(
     ensures laws { StaysLawful new_world }
     ensures recorded { StaysRecorded new_world }
     ensures births { StaysBorn new_world }
+    ensures calls { StaysAtCalls new_world }
     ensures read { result ≡ 4 → Rose (S.faults input.old) (S.faults input.new) }
     ensures written { result ≡ 5 → Rose (K.faults out.old) (K.faults out.new) }
     ensures link { (c : Command) → command_in (map (λ word. word.now) words.now) ≡ Some c

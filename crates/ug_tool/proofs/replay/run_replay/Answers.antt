@@ -3,8 +3,10 @@ use Rattle.ug_arguments.specs.declared.command.Command.TheVariants as command
 use Rattle.ug_command_io.specs.Fold.{of_first}
 use Rattle.ug_script.specs.Replay.{script_step, script_end}
 use Rattle.ug_script.specs.Summing.{no_totals, summary_end, summary_step}
+use Rattle.ug_sysfs.specs.IfaceMoves.{bus_new_sound}
 use Rattle.ug_sysfs.specs.Sound.{new_sound}
 use Rattle.ug_script.proofs.Births.{stays_born}
+use Rattle.ug_script.proofs.EventCalls.{stays_at_calls}
 use Rattle.ug_script.proofs.Journals.{stays_lawful, stays_recorded}
 use Rattle.ug_tool.specs.Replay.{new_world}
 use Rattle.ug_tool.specs.Tool.{replay_of}
@@ -28,6 +30,12 @@ returns-in-Ok-clause-births g c = stays_born new_world refl new_sound.devices
 
 pub returns-in-Err-clause-births : goal.returns-in-Err-clause-births
 returns-in-Err-clause-births g c = stays_born new_world refl new_sound.devices
+
+pub returns-in-Ok-clause-calls : goal.returns-in-Ok-clause-calls
+returns-in-Ok-clause-calls g c = stays_at_calls new_world refl refl refl bus_new_sound
+
+pub returns-in-Err-clause-calls : goal.returns-in-Err-clause-calls
+returns-in-Err-clause-calls g c = stays_at_calls new_world refl refl refl bus_new_sound
 
 pub returns-in-Err-clause-replayed : goal.returns-in-Err-clause-replayed
 returns-in-Err-clause-replayed g c = λ e all base a b.
