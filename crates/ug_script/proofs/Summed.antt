@@ -2,13 +2,18 @@
 use Rattle.std.proofs.Common.{◌≡◌, ℕ, ◌+◌, Bool, true, false, if◌then◌else◌, List, [], ◌∷◌, ◌++◌, Option, Some, None, refl, sym, ap, subst, ◌∙◌}
 use Rattle.ug_lines.specs.Lines.{lines_of, whole_lines}
 use Rattle.ug_lines.proofs.FirstLine.{nothing}
+use Rattle.ug_kernel.specs.Kernel.{IsKernel}
 use Rattle.ug_sysfs.specs.World.{World}
 use Rattle.ug_command_io.specs.Fold.{BadLine, LineRefusal, LineOutcome, Writes, Refused, Stage, Going, Halted, advance, fault_line, fault_of, is_within, no_memory, plays, read_fault, stage_after, whole_text}
+use Rattle.ug_command_io.specs.Refusals.{HoldsAt, HoldsOfEach}
 use Rattle.ug_command_io.specs.Statuses.{AnswersLines}
 use Rattle.ug_script.specs.Script.{Script}
 use Rattle.ug_script.specs.Replay.{script_step}
 use Rattle.ug_script.specs.declared.totals.Totals.{Totals}
 use Rattle.ug_script.specs.Summing.{Summary, counted, no_totals, TellsSummary, summary_end, summary_line, summary_step, totals_of, with_lines}
+use Rattle.ug_script.specs.CarriedOn.{CarriesThrough}
+use Rattle.ug_script.specs.LinesRead.{LineReads}
+use Rattle.ug_script.proofs.Carrying.{stays_carried}
 use Rattle.ug_script.proofs.Counted.{totals_behind}
 use Rattle.ug_script.proofs.WholeLines.{IsWhole, WritesWhole, both_whole, none_whole, step_whole}
 
@@ -103,3 +108,24 @@ summary_told first all base left held p status a =
           let k = a.memory e in
           k.3 ∙ ap (λ (bytes : List ℕ). Some (base ++ (bytes ++ no_memory))) (silent_text first k.2.lines k.2.count k.0 k.1 k.2.played);
     }
+
+-- ---- how the runs carry on one another
+
+abbrev SumReads : Summary × World → List ℕ → Type 0
+SumReads p line = LineReads (p.0.0, p.1) line
+
+reads_unsummed : (stage : Stage (Option Script × World)) (lines : List (List ℕ)) → AtWhole stage → HoldsOfEach summary_step SumReads (summed stage) lines → HoldsOfEach script_step LineReads stage lines
+reads_unsummed stage [] whole h = tt
+reads_unsummed stage (line ∷ lines) whole h =
+    let one = one_sums stage line whole in
+    (at stage h.0, reads_unsummed (advance script_step stage line) lines one.1 (subst (λ (next : Stage (Summary × World)). HoldsOfEach summary_step SumReads next lines) one.0 h.1))
+  where
+    at : (x : Stage (Option Script × World)) → HoldsAt SumReads (summed x) line → HoldsAt LineReads x line
+    at (Going n text p) k = k
+    at (Halted fault n text p) k = tt
+
+pub summary_carries : (first : World) → first.ran_out ≡ false → IsKernel first.kernel → (lines : List (List ℕ)) → fault_of summary_end (plays summary_step (Going 0 [] ((None, no_totals), first)) lines) ≡ None → HoldsOfEach summary_step SumReads (Going 0 [] ((None, no_totals), first)) lines → CarriesThrough first lines
+summary_carries first run sound lines done each =
+    let d = done_at (plays script_step (Going 0 [] (None, first)) lines) (subst (λ (x : Stage (Summary × World)). fault_of summary_end x ≡ None) (sums_up first lines) done) in
+    let reads = reads_unsummed (Going 0 [] (None, first)) lines none_whole (subst (λ (t : Totals). HoldsOfEach summary_step SumReads (Going 0 [] ((None, t), first)) lines) (sym no_lines) each) in
+    stays_carried first run sound lines d.0 d.1 d.2 d.3 d.4 reads

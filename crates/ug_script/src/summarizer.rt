@@ -3,11 +3,13 @@ ghost use Rattle.std.specs.Prelude.{◌≡◌, ◌≤◌, ◌++◌, ◌⊎◌, �
 ghost use Rattle.ug_types.specs.Ends.{Rose};
 ghost use Rattle.ug_command_io.specs.Statuses.{AnswersLines, status_of};
 ghost use Rattle.ug_command_io.specs.declared.results.Ended.{Ended};
+ghost use Rattle.ug_kernel.specs.Kernel.{IsKernel};
 ghost use Rattle.ug_iface.specs.Bus.{IsSoundBus};
 ghost use Rattle.ug_sysfs.specs.Serving.{bus_in};
 ghost use Rattle.ug_lines.specs.Lines.{lines_of};
 ghost use Rattle.ug_script.specs.Laws.{coming_in};
 ghost use Rattle.ug_script.specs.Against.{LacksNumbers, RefusesScript, SpeaksAgainst};
+ghost use Rattle.ug_script.specs.CarriedOn.{CarriesThrough};
 ghost use Rattle.ug_script.specs.LinesRead.{LineReads};
 ghost use Rattle.ug_script.specs.Replay.{outcome_text};
 ghost use Rattle.ug_script.specs.Summing.{Summary, TellsSummary, no_totals, summary_end, summary_of, summary_step, with_lines};
@@ -129,6 +131,9 @@ pub fn summarize<S: Source, K: Sink>(
         → kernel.old.ran_out ≡ false → IsSoundBus (bus_in kernel.old) → kernel.old.faults ≡ 0
         → coming_in kernel.old ≤ 1048576
         → result ≡ 2 → RefusesScript kernel.old (lines_of all) }
+    ensures carries { (all base : List ℕ) → S.left input.old ≡ Some all → K.held out.old ≡ Some base
+        → kernel.old.ran_out ≡ false → IsKernel kernel.old.kernel
+        → result ≡ 0 → CarriesThrough kernel.old (lines_of all) }
     ensures ended { (ended : Ended) × (result ≡ status_of ended) }
     ensures read { result ≡ 4 → Rose (S.faults input.old) (S.faults input.new) }
     ensures written { result ≡ 5 → Rose (K.faults out.old) (K.faults out.new) }

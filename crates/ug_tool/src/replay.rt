@@ -89,7 +89,7 @@ fn replay_or_summarize<S: Source, K: Sink>(
     ensures too_long { summary ≡ false → (all base : List ℕ)
         → S.left input.old ≡ Some all → K.held out.old ≡ Some base
         → TellsRoom new_world (lines_of all) base (K.held out.new) result }
-    ensures carries { summary ≡ false → (all base : List ℕ) → S.left input.old ≡ Some all
+    ensures carries { (all base : List ℕ) → S.left input.old ≡ Some all
         → K.held out.old ≡ Some base → result ≡ 0 → CarriesThrough new_world (lines_of all) }
     ensures ended { (ended : Ended) × (result ≡ status_of ended) }
     ensures read { result ≡ 4 → Rose (S.faults input.old) (S.faults input.new) }
@@ -186,7 +186,8 @@ pub fn run_replay<S: Source, K: Sink>(
         → (all base : List ℕ) → S.left input.old ≡ Some all
         → K.held out.old ≡ Some base
         → TellsRoom new_world (lines_of all) base (K.held out.new) result }
-    ensures carries { command_in (map (λ word. word.now) words.now) ≡ Some command.Replay
+    ensures carries { (summary : Bool)
+        → command_in (map (λ word. word.now) words.now) ≡ Some (replay_of summary)
         → (all base : List ℕ) → S.left input.old ≡ Some all → K.held out.old ≡ Some base
         → result ≡ 0 → CarriesThrough new_world (lines_of all) }
     ensures ended { (summary : Bool)

@@ -71,12 +71,11 @@ pub returns-in-Ok-clause-too_long : goal.returns-in-Ok-clause-too_long
 returns-in-Ok-clause-too_long g c = λ e all base a b. c.replay_or_summarize.ensures.too_long (asks_whole c.in-Ok.summary (same_command _ _ _ c.in-Ok.ensures.ok e)) all base a b
 
 pub returns-in-Err-clause-carries : goal.returns-in-Err-clause-carries
-returns-in-Err-clause-carries g c = λ e all base a b done.
-    absurd (memory_undone _ _ c.refuse.result (c.refuse.ensures.memory (only_memory c.in-Err.fault (λ bad. c.in-Err.ensures.bad bad false) e)) done)
+returns-in-Err-clause-carries g c = λ summary e all base a b done.
+    absurd (memory_undone _ _ c.refuse.result (c.refuse.ensures.memory (only_memory c.in-Err.fault (λ bad. c.in-Err.ensures.bad bad summary) e)) done)
 
 pub returns-in-Ok-clause-carries : goal.returns-in-Ok-clause-carries
-returns-in-Ok-clause-carries g c = λ e all base a b done.
-    c.replay_or_summarize.ensures.carries (asks_whole c.in-Ok.summary (same_command _ _ _ c.in-Ok.ensures.ok e)) all base a b done
+returns-in-Ok-clause-carries g c = λ summary e all base a b done. c.replay_or_summarize.ensures.carries all base a b done
 
 pub returns-in-Ok-clause-refused : goal.returns-in-Ok-clause-refused
 returns-in-Ok-clause-refused g c = λ other. absurd (other c.in-Ok.summary c.in-Ok.ensures.ok)
