@@ -52,7 +52,7 @@ use Rattle.ug_script.proofs.Schedules.{stays_scheduled}
 
 calls_then : (written : List Scheduled) (n : ℕ) (xs ys : List AnyCall) (b c d : Bus) → AreCallsAt written n xs b c → AreCallsAt written (n + length xs) ys c d → AreCallsAt written n (xs ++ ys) b d
 calls_then written n [] ys b c d g h =
-    let none : n + length {A = AnyCall} [] ≡ n = omega arith in
+    let none : n + 0 ≡ n = omega arith in
     subst (λ (x : Bus). AreCallsAt written n ys x d) g (subst (λ (m : ℕ). AreCallsAt written m ys c d) none h)
 calls_then written n (x ∷ xs) ys b c d g h =
     let more : n + length (x ∷ xs) ≡ n + 1 + length xs = omega arith in
@@ -65,7 +65,7 @@ record Goes (written : List Scheduled) (n : ℕ) (calls : List AnyCall) (w v : W
 still : (written : List Scheduled) (n : ℕ) (w : World) → IsBehindCalls written n w → Goes written n [] w w
 still written n w h = record {
   at = refl;
-  behind = let none : n ≡ n + length {A = AnyCall} [] = omega arith in subst (λ (m : ℕ). IsBehindCalls written m w) none h;
+  behind = let none : n ≡ n + 0 = omega arith in subst (λ (m : ℕ). IsBehindCalls written m w) none h;
 }
 
 goes_then : (written : List Scheduled) (n : ℕ) (xs ys : List AnyCall) (w v u : World) → Goes written n xs w v → Goes written (n + length xs) ys v u → Goes written n (xs ++ ys) w u

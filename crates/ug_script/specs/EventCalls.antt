@@ -1,5 +1,5 @@
 -- The calls of an event, in order; and that the moves of lines happen at just those that they name.
-use Rattle.std.specs.Prelude.{◌≡◌, ℕ, Bool, true, cond, List, [], ◌∷◌, ◌++◌, flat_map, length, Some, None}
+use Rattle.std.specs.Prelude.{◌≡◌, ℕ, true, cond, List, [], ◌∷◌, ◌++◌, flat_map, length, Some, None}
 use Rattle.ug_types.specs.Principals.{Named}
 use Rattle.ug_types.specs.declared.event.Event.{Event}
 use Rattle.ug_types.specs.declared.event.Event.TheVariants.{Sweep, Order, Hint}
@@ -25,9 +25,8 @@ use Rattle.ug_core.specs.Storing.{storing}
 use Rattle.ug_core.specs.declared.choosing.Choice.{Choice}
 use Rattle.ug_store.specs.PlayDisk.{play_disk}
 use Rattle.ug_store.specs.Scripted.{DiskWorld}
-use Rattle.ug_steps.specs.declared.step.Step.{Step}
 use Rattle.ug_script.specs.Journal.{left_by}
-use Rattle.ug_script.specs.Laws.{behind_event, done_with, order_ready, tried_of}
+use Rattle.ug_script.specs.Laws.{behind_event, done_with, order_ready}
 use Rattle.ug_script.specs.Passes.{aims_in, device_pass, play_ifaces}
 use Rattle.ug_script.specs.Play.{play}
 use Rattle.ug_script.specs.Replay.{answered_of, disk_of, event_of, event_taken, halted, script_step, tried_by}

@@ -12,7 +12,7 @@ use Rattle.ug_sysfs.specs.declared.script.IfaceMove.TheVariants.{Add, Remove}
 use Rattle.ug_sysfs.specs.declared.script.Move.{Move}
 use Rattle.ug_sysfs.specs.declared.script.Move.TheVariants as move
 use Rattle.ug_sysfs.specs.declared.script.Scheduled.{Scheduled}
-use Rattle.ug_sysfs.specs.AtCalls.{IsCallAt, IsRestDone, Of_devices, Of_ifaces, after_call, before_call, of_later_calls, scheduled_action}
+use Rattle.ug_sysfs.specs.AtCalls.{AnyCall, IsCallAt, IsRestDone, Of_devices, Of_ifaces, after_call, before_call, of_later_calls, scheduled_action}
 use Rattle.ug_sysfs.specs.Below.{unplugged_felled, unplugged_nobody}
 use Rattle.ug_sysfs.specs.Birth.{plugged_born, plugged_not}
 use Rattle.ug_sysfs.specs.Doing.{Does, DoesIfaces, DoesMove, DoMoves}
@@ -140,7 +140,6 @@ rest_each k after n (m ∷ ms) lt = by (due k after m) refl (rest_each k after n
         rw none so
     by false e so = refl
 
--- a property of each move that is there
 abbrev AreLow : List Scheduled → Type 0
 AreLow ms = AllByRecursion (λ m. m.call ≤ 1048576) ms
 
@@ -210,7 +209,7 @@ numbered k j after written ms e h = by (nat_lt k (2 ^ 64)) refl
     by true t = let lt : suc k ≤ 2 ^ 64 = grind (arith, nat_tests) in inl (omega (arith, e, lt))
     by false t = let le : 2 ^ 64 ≤ k = grind (arith, nat_tests) in inr (none_left (turn_at k after) ms h.late h.low (omega (arith, le)))
 
-pub record Steps (k : ℕ) (after : Bool) (written : List Scheduled) (w v : World) : Type 0 where
+record Steps (k : ℕ) (after : Bool) (written : List Scheduled) (w v : World) : Type 0 where
   does : DoMoves (map scheduled_action (of_turn (turn_at k after) written)) (bus_in w) (bus_in v)
   left : IsLeft (suc (turn_at k after)) written v.moves
 
@@ -269,7 +268,7 @@ next_turn n written ms h = subst (λ (t : ℕ). IsLeft t written ms) (omega arit
 next_effect : (n : ℕ) (written ms : List Scheduled) → IsLeft (suc (turn_at (n + 1) false)) written ms → IsLeft (turn_at (n + 1) true) written ms
 next_effect n written ms h = subst (λ (t : ℕ). IsLeft t written ms) (omega arith) h
 
-pub record CallsOn (written : List Scheduled) (n : ℕ) (call : Rattle.ug_sysfs.specs.AtCalls.AnyCall) (w v : World) : Type 0 where
+pub record CallsOn (written : List Scheduled) (n : ℕ) (call : AnyCall) (w v : World) : Type 0 where
   pub is : IsCallAt written (n + 1) call (bus_in w) (bus_in v)
   pub behind : IsBehindCalls written (n + 1) v
 
