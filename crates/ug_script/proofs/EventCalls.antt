@@ -89,7 +89,7 @@ on_call written n w false (Open name control) e h = single written n _ w _ (devi
 on_call written n w false (Read name attr) e h = single written n _ w _ (device_call written n w (Read name attr) h)
 on_call written n w false (Ask_alive held) e h = single written n _ w _ (device_call written n w (Ask_alive held) h)
 on_call written n w false (Put held write) e h = single written n _ w _ (device_call written n w (Put held write) h)
-on_call written n w true call e h = absurd (both_ways true refl e)
+on_call written n w true call e h = absurd (both_ways true e refl)
 
 play_goes : {R : Type 0} (written : List Scheduled) (n : ℕ) (p : Prog R) (w : World) → IsBehindCalls written n w → Goes written n (calls_played p w) w (play p w).1
 play_goes written n (Return value) w h = still written n w h
@@ -107,7 +107,7 @@ on_iface_call written n w false (iface.Read name) e h = single written n _ w _ (
 on_iface_call written n w false (Ask_device held) e h = single written n _ w _ (iface_call written n w (Ask_device held) h)
 on_iface_call written n w false (iface.Ask held) e h = single written n _ w _ (iface_call written n w (iface.Ask held) h)
 on_iface_call written n w false (Put_off held) e h = single written n _ w _ (iface_call written n w (Put_off held) h)
-on_iface_call written n w true call e h = absurd (both_ways true refl e)
+on_iface_call written n w true call e h = absurd (both_ways true e refl)
 
 ifaces_go : {R : Type 0} (written : List Scheduled) (n : ℕ) (p : IfaceProg R) (w : World) → IsBehindCalls written n w → Goes written n (iface_calls_played p w) w (play_ifaces p w).1
 ifaces_go written n (tree.Return value) w h = still written n w h
