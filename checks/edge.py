@@ -115,7 +115,7 @@ def time_of_verdict(machine, name, number, patience=30):
     return patience
 
 
-def judges(machine, what, number=[10]):
+def judges(machine, what, number=[40]):
     number[0] += 1
     name = "1-%d" % number[0]
     took = time_of_verdict(machine, name, number[0])
