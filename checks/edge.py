@@ -340,6 +340,9 @@ class SlowReader(threading.Thread):
             time.sleep(0.01)
         return False
 
+    def has_written(self, name):
+        return any(line.startswith("wrote ") and name in line.split() for line in self.lines())
+
 
 def ask(peer, request):
     """Asks, and tells the first line of the reply and the time that it took."""
@@ -403,7 +406,10 @@ def trial_lost(o, machine, folder):
         time.sleep(0.1)
     time.sleep(0.5)
     journal = SlowReader(read, 1000000)
-    time.sleep(2)
+    # a pipe's room of lines goes out in each turn
+    until = time.monotonic() + 20
+    while time.monotonic() < until and not journal.has_written(names[-1]):
+        time.sleep(0.1)
     lines = journal.lines()
     for word in ("judged", "wrote"):
         there = {line.split()[2] for line in lines if line.startswith(word + " ")}
@@ -596,11 +602,11 @@ def trial_refusals(o, machine, folder):
     guard.end()
     rules, settings = folder / "rules.conf", folder / "settings.conf"
     rules.write_text("allow id 1050:0011\nallow frob\n")
-    refused(guard, "a bad rule", 3, "%s, line 2, column 7" % rules, "no attribute", "    allow frob\n          ^")
+    refused(guard, "a bad rule", 3, "%s, line 2, column 7" % rules, "no such attribute", "    allow frob\n          ^")
     rules.write_text("allow\n")
     text = settings.read_text()
     settings.write_text(text + "  Frob=1\n")
-    refused(guard, "a bad setting", 3, "%s, line 4" % settings, "no such key", "    Frob=1\n    ^")
+    refused(guard, "a bad setting", 3, "%s, line 4" % settings, "no such key", "      Frob=1\n      ^")
     settings.write_text(text)
     settings.chmod(0o666)
     refused(guard, "settings that all may write", 4, str(settings), "mode 666")
@@ -616,7 +622,7 @@ def trial_refusals(o, machine, folder):
     refused(guard, "an odd access file", 3, "%s/joe~" % (folder / "access"), "none of a user or a group")
     (folder / "access/joe~").unlink()
     (folder / "access/joe").write_text("Devices=list\nPolicy=frob\n")
-    refused(guard, "a bad access file", 3, "%s, line 2, column 8" % (folder / "access/joe"), "no such privilege", "Policy=frob")
+    refused(guard, "a bad access file", 3, "%s, line 2, column 8" % (folder / "access/joe"), "a privilege was expected", "Policy=frob")
     (folder / "access/joe").write_text("Devices=list\n")
     guard.start()
     guard.await_line("end ")
