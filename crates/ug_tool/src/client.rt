@@ -1,5 +1,5 @@
 // The commands that ask the daemon.
-ghost use Rattle.std.specs.Prelude.{◌≡◌, ◌≢◌, ◌≤◌, Some};
+ghost use Rattle.std.specs.Prelude.{◌≡◌, ◌≢◌, ◌≤◌, IfOk, Some};
 ghost use Rattle.ug_types.specs.Ends.{Rose};
 ghost use Rattle.ug_proto.specs.declared.request.Request.TheVariants as request;
 ghost use Rattle.ug_client.specs.Asking.{request_line};
