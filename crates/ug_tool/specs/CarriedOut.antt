@@ -1,6 +1,5 @@
 -- What each command of usbguard(1) does.
-use Rattle.std.specs.Prelude.{◌≡◌, ◌⊎◌, ◌++◌, [], ℕ, Bool, List, Option, Some, None}
-use Rattle.ug_types.specs.Principals.{Named}
+use Rattle.std.specs.Prelude.{◌≡◌, ◌⊎◌, ◌++◌, [], ℕ, List, Option, Some, None}
 use Rattle.ug_command_io.specs.Fold.{of_first}
 use Rattle.ug_command_io.specs.Statuses.{AnswersLines, status_of}
 use Rattle.ug_command_io.specs.declared.results.Ended.{Ended}
@@ -19,7 +18,6 @@ use Rattle.ug_commands.specs.Listing.{AnswersListing}
 use Rattle.ug_commands.specs.Checking.{AnswersCheck, check_status}
 use Rattle.ug_commands.specs.Linting.{AnswersLint}
 use Rattle.ug_acl.specs.Adding.{AnswersAdding}
-use Rattle.ug_acl.specs.declared.asked.Asked.{Asked}
 use Rattle.ug_proto.specs.declared.request.Request.{Request}
 use Rattle.ug_proto.specs.declared.request.Request.TheVariants as request
 use Rattle.ug_client.specs.Asking.{request_line}

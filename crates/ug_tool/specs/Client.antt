@@ -11,7 +11,7 @@ use Rattle.ug_client.specs.Asking.{AsksDaemon, request_line}
 use Rattle.ug_client.specs.Choosing.{chosen_text}
 use Rattle.ug_client.specs.Fetching.{AsksShowing}
 use Rattle.ug_client.specs.Following.{AsksTwice, by_lines, labelled_text}
-use Rattle.ug_client.specs.Ordering.{Around, OrdersMatching}
+use Rattle.ug_client.specs.Ordering.{OrdersMatching}
 use Rattle.ug_client.specs.declared.orders.Wanted.{Wanted}
 use Rattle.ug_client.specs.Watching.{Watches}
 use Rattle.ug_client.specs.declared.asked.Asked.{Asked}
