@@ -131,11 +131,11 @@ def trial_missing_controls(o, machine, folder):
         edge.check("without %s it is judged at most once" % missing, len(judged) <= 1, len(judged))
         machine.unplug(name)
         time.sleep(1.5)
-        before = count_of(guard, "unsettled ")
+        before = len(guard.lines())
         time.sleep(1.5)
-        hubs = count_of(guard, "unsettled %s " % HUB) - hub_before(guard, before)
+        late = [line for line in guard.lines()[before:] if line.startswith("unsettled ")]
         edge.check("once it is unplugged nothing is unsettled but the hub",
-                   count_of(guard, "unsettled ") - before == hubs, guard.lines()[-3:])
+                   all(line.split()[1] == HUB for line in late), late)
         guard.end()
         guard.start()
         guard.await_line("end ")
@@ -147,12 +147,6 @@ def trial_missing_controls(o, machine, folder):
                and count_of(guard, "gone ") == 0)
     edge.judges(machine, "missing files")
     guard.end()
-
-
-def hub_before(guard, count):
-    """How many of the first lines of unsettled names are the hub's."""
-    lines = [line for line in guard.lines() if line.startswith("unsettled ")][:count]
-    return sum(line.startswith("unsettled %s " % HUB) for line in lines)
 
 
 def trial_odd_names(o, machine, folder):
