@@ -21,23 +21,30 @@ struct Lasting {
     target: Target,
 }
 
-// The order that these words give, if it is such a one.
-fn lasting_order(rt: &HostRuntime, words: &[&str]) -> Option<Lasting> {
-    match read_command(rt.alloc(), words) {
-        Ok(
-            Command::Ask {
-                socket,
-                request: Request::Device {
-                    number,
-                    target,
-                    permanent: true,
-                },
-            },
-        ) => Some(Lasting {
+// The order that this request gives, if it is such a one.
+fn lasting_of(socket: Text, request: Request) -> Option<Lasting> {
+    match request {
+        Request::Device {
+            number,
+            target,
+            permanent: true,
+        } => Some(Lasting {
             socket,
             number,
             target,
         }),
+        request => {
+            request.discard();
+            drop(socket);
+            None
+        }
+    }
+}
+
+// The order that these words give, if it is such a one.
+fn lasting_order(rt: &HostRuntime, words: &[&str]) -> Option<Lasting> {
+    match read_command(rt.alloc(), words) {
+        Ok(Command::Ask { socket, request }) => lasting_of(socket, request),
         Ok(command) => {
             command.discard();
             None
@@ -74,16 +81,15 @@ fn tell_remedy(alloc: Global, row: &str) {
 
 // The rows of rules, and the device's row behind them.
 fn tell_rows(alloc: Global, number: u64, text: &str) {
-    let mut last = "";
-    for row in text.lines() {
-        if !last.is_empty() {
-            eprintln!(WARNING;
-                "usbguard: this rule decides for device {number} before the order's rule does: {last}"
-            );
-        }
-        last = row;
+    let Some((rules, device)) = text.trim_end_matches('\n').rsplit_once('\n') else {
+        return;
+    };
+    for rule in rules.lines() {
+        eprintln!(WARNING;
+            "usbguard: this rule decides for device {number} before the order's rule does: {rule}"
+        );
     }
-    tell_remedy(alloc, last);
+    tell_remedy(alloc, device);
 }
 
 impl Lasting {
