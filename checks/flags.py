@@ -55,7 +55,7 @@ VALUES = {
     "JOURNAL": "journal", "PIDFILE": "pid", "RULES": "rules",
 }
 SENTENCE = re.compile("^usbguard[a-z-]*: .", re.M)
-WAY = re.compile("usage: |usbguard --help|usbguard-[a-z]+ |systemctl start|chown root|docs/|a caret")
+WAY = re.compile("usage: |a loop of the shell|usbguard --help|usbguard-[a-z]+ |systemctl start|chown root|docs/|a caret")
 CAPITALS = re.compile(r"\b(%s)\b" % "|".join(VALUES))
 failures = []
 
