@@ -29,4 +29,7 @@ for command in $(awk '/^\.Sh/ { inside = /SYNOPSIS/ } inside && /^\.Cm/' man/usb
     usbguard-policy usbguard-rule-parser usbguard-status usbguard-daemon; do
     want "\`$command\`" 'Which crates answer a command'
 done
+# docs/headline.md: what a reader has to believe stays short.
+python3 checks/reach.py --most 1000,150 crates/ug_headline/specs/Headline.antt IsToldAndWarranted >/dev/null ||
+    { echo "the headline rests on more than 1,000 lines or 150 definitions"; lost=1; }
 exit "$lost"
